@@ -2,3 +2,4 @@
 -- a store that is only looked at meanwhile.
 pub mod Keys
 pub mod Steps
+pub mod Looks

@@ -1,12 +1,17 @@
 -- What the row of a record has to say, by the bytes of the record and the tariffs.
-use Rattle.std.specs.Prelude.{ℕ, ℤ, Bool, not, int_lt, find, reverse, List, Option}
+use Rattle.std.specs.Prelude.{◌≡◌, ◌≤◌, ℕ, ℤ, Bool, not, int_lt, find, length, reverse, List}
+use Rattle.std.specs.Prelude.{Option, Some}
 use Rattle.std.specs.Option.{option_map}
-use Rattle.smf_frames.specs.Framed.{record_with}
+use Rattle.sha2.specs.Sha256.{sha256}
+use Rattle.smf_frames.specs.Framed.{most_data, record_with}
+use Rattle.smf_type30.specs.Class.{IsUsage}
 use Rattle.smf_type30.specs.Usage.{day_of}
 use Rattle.tariff_rules.specs.Price.{price_by}
 use Rattle.tariff_rules.specs.Terms.{Terms}
 use Rattle.tariff_rules.specs.declared.priced.Priced.{Priced}
 use Rattle.tree_tables.specs.declared.stored_record.StoredRecord.{StoredRecord}
+use Rattle.book_audit.specs.Rules.{identity_under}
+use Rattle.book_audit.specs.declared.rulings.Rulings.{Rulings}
 
 -- the record, with the descriptor that the length of its data gives
 abbrev pub stored_bytes : StoredRecord → List ℕ
@@ -24,3 +29,11 @@ in_force day tariffs = find (has_begun day) (reverse tariffs)
 abbrev pub price_of : List Terms → List ℕ → Option Priced
 price_of tariffs bytes =
     option_map (λ terms. price_by terms bytes) (in_force (day_of bytes) tariffs)
+
+-- The data of a record are those of usage, and its name, identity and price are as they say.
+pub record SaysData (rulings : Rulings) (stored : StoredRecord) : Type 0 where
+  pub short : length stored.data_bytes.items ≤ most_data
+  pub name : stored.name ≡ sha256 stored.data_bytes.items
+  pub usage : IsUsage (stored_bytes stored)
+  pub identity : stored.identity.items ≡ identity_under rulings.rule (stored_bytes stored)
+  pub price : price_of rulings.tariffs.items (stored_bytes stored) ≡ Some stored.priced

@@ -1,13 +1,22 @@
 -- The trees that find the rows of a table, entry by entry.
-use Rattle.std.specs.Prelude.{◌≡◌, ℕ, List, length}
+use Rattle.std.specs.Prelude.{◌≡◌, ℕ, List, length, pos}
 use Rattle.std.specs.List.{AllByRecursion}
 use Rattle.sqlite_value.specs.Order.{Row, column}
-use Rattle.tree_tables.specs.Fits.{HasBytes, HasCount}
+use Rattle.sqlite_value.specs.declared.value.Value.{Value}
+use Rattle.sqlite_value.specs.declared.value.Value.TheVariants.{Blob, Int}
 use Rattle.book_audit.specs.declared.finding.Tree.{Tree}
 use Rattle.book_audit.specs.declared.finding.Tree.TheVariants.{Book, Tariffs, Closes, Records}
 use Rattle.book_audit.specs.declared.finding.Tree.TheVariants.{Days, Lines, Identities, Marks}
 use Rattle.book_audit.specs.declared.finding.Tree.TheVariants.{Choices, ChoiceNames, Details}
 use Rattle.book_audit.specs.Walks.{AreRising, AreWide}
+
+-- a column has bytes,
+abbrev pub HasBytes : Value → Type 0
+HasBytes value = (bytes : List ℕ) × (value ≡ Blob bytes)
+
+-- or a number that is not below 0
+abbrev pub HasCount : Value → Type 0
+HasCount value = (n : ℕ) × (value ≡ Int (pos n))
 
 -- an entry has bytes, and a number before or after them, where it has one
 abbrev pub IsEntry : Tree → Row → Type 0

@@ -1,7 +1,7 @@
 -- The trees and what is looked up in them; the rule of identity; what the data of a record say;
 -- which record of an identity was chosen last; how a record is charged and posted; trees that are
--- sound; how much a book has; trees that hold a book, and that hold one which calls made; what is
--- printed of a finding, and of an audit; what an audit says, and books that were copied.
+-- sound; how much a book has; trees that hold a book; how a call looks at trees; what is printed of
+-- a finding, and of an audit; what an audit says, and books that were copied.
 pub mod Trees
 pub mod Walks
 pub mod Rulings
@@ -18,10 +18,7 @@ pub mod ChoiceRows
 pub mod SoundTrees
 pub mod Counts
 pub mod OfBook
-pub mod Own
 pub mod Looks
-pub mod OwnChoices
-pub mod OwnRecords
 pub mod Findings
 pub mod Texts
 pub mod Copies

@@ -1,10 +1,9 @@
 -- What an audit says of trees that it looks at, by the trees before a call and after it.
-use Rattle.std.specs.Prelude.{Option, Result, Ok, Err, IfOk, IfSome, ⊤}
+use Rattle.std.specs.Prelude.{Option, Result, Ok, Err, IfOk, IfSome}
 use Rattle.sqlite_trees.specs.Tree.{Trees}
 use Rattle.sqlite_trees.specs.View.{IsClean}
 use Rattle.sqlite_trees.specs.declared.store.Store.{Ghosts}
 use Rattle.tree_rows.specs.Calls.{CommitsNothing, OnlyLooks}
-use Rattle.book_audit.specs.Own.{IsOwnStop}
 use Rattle.book_audit.specs.declared.stop.Stop.{Stop}
 use Rattle.book_audit.specs.declared.trees.Trees.{Trees as Opened}
 
@@ -27,25 +26,12 @@ pub record IsLook {S : Type 0} (ghosts : Ghosts S) (old new : S) : Type 0 where
   pub same : OnlyLooks ghosts old new
   pub quiet : CommitsNothing ghosts old new
 
--- One that stops the audit commits nothing either. It is fair to trees of books that calls made, where
--- this is so of them: what stops it is no finding, unless the disk failed or refused meanwhile.
-pub record IsStop {S : Type 0} (ghosts : Ghosts S) (old new : S) (When : Type 0) (stop : Stop) : Type 0
-  where
-    pub quiet : CommitsNothing ghosts old new
-    pub own : (IsClean (ghosts.view old) → When) → IsOwnStop ghosts old new stop
+-- How a call ends: one that answers only looked, and one that stops the audit committed nothing.
+abbrev pub Ends : {S A : Type 0} → Ghosts S → S → S → Result A Stop → Type 0
+Ends ghosts old new (Ok answer) = IsLook ghosts old new
+Ends ghosts old new (Err stop) = CommitsNothing ghosts old new
 
--- how a call ends
-abbrev pub Ends : {S A : Type 0} → Ghosts S → S → S → Type 0 → Result A Stop → Type 0
-Ends ghosts old new When (Ok answer) = IsLook ghosts old new
-Ends ghosts old new When (Err stop) = IsStop ghosts old new When stop
-
--- The call only looks, and is fair where this is so of the trees;
-abbrev pub LooksIf : {S A : Type 0} {ghosts : Ghosts S} → Result A Stop → Opened S ghosts
-    → Opened S ghosts → (Trees → Type 0) → Type 0
-LooksIf {ghosts = ghosts} result old new When =
-    Ends ghosts old.store new.store (When (ghosts.view old.store).trees) result
-
--- or whatever they are.
+-- So do the calls of an audit.
 abbrev pub Looks : {S A : Type 0} {ghosts : Ghosts S} → Result A Stop → Opened S ghosts
     → Opened S ghosts → Type 0
-Looks {ghosts = ghosts} result old new = Ends ghosts old.store new.store ⊤ result
+Looks {ghosts = ghosts} result old new = Ends ghosts old.store new.store result

@@ -31,11 +31,6 @@ pub record IsCloseRow (days : List ℤ) (row : Row) (day : ℤ) : Type 0 where
   pub next : IsNextClose days close
   pub through : day ≡ close.through
 
--- the close of a row is the next one
-abbrev pub IsNextRow : List ℤ → Row → Type 0
-IsNextRow days row =
-    (close : Close) → row ≡ closed_columns (close_entry close) → IsNextClose days close
-
 -- the rows are those of closes through these days: from period 1 on, each later than the one before
 pub record AreClosed (rows : List Row) (days : List ℤ) : Type 0 where
   pub are : rows ≡ map closed_columns (close_entries 1 days)

@@ -66,11 +66,6 @@ pub record HasWalked (tree : Tree) (key : Row) (rows done : List Row) : Type 0 w
   pub wide : AreWide tree done
   pub rising : AreRising tree done
 
--- it has read some rows of its tree
-abbrev pub IsWalkOf : Walk → Trees → Type 0
-IsWalkOf walk trees =
-    (done : List Row) × HasWalked walk.tree walk.key (trees (tree_number walk.tree)) done
-
 -- it has read one more row; or it had read all
 abbrev pub WalksOn : Tree → Row → Row → List Row → List Row → Bool → Type 0
 WalksOn tree key row rows done true = HasWalked tree key rows (done ++ row ∷ [])

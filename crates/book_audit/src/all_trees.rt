@@ -1,13 +1,12 @@
 //! All trees of books.
 
-ghost use Rattle.std.specs.Prelude.{◌≡◌, IfErr, IfOk, OnOk};
+ghost use Rattle.std.specs.Prelude.{◌≡◌, IfOk, OnOk};
 ghost use Rattle.sqlite_trees.specs.View.{IsClean};
 ghost use Rattle.tree_rows.specs.Calls.{CommitsNothing, OnlyLooks};
 ghost use Rattle.tree_rows.specs.Rows.{IsUnchanged};
 ghost use Rattle.tree_tables.specs.Holds.{HasShapes};
 ghost use Rattle.book_audit.specs.Looks.{Tells};
 ghost use Rattle.book_audit.specs.OfBook.{AreOfBook, sha_names};
-ghost use Rattle.book_audit.specs.Own.{EndsForOwn, IsFairToOwn, IsOwnStop};
 ghost use Rattle.book_audit.specs.SoundTrees.{AreSound};
 
 use crate::audited::{Audited, Counts};
@@ -34,7 +33,6 @@ fn read_trees<S: Store, W: Watch>(
 ) -> Result<Counts, Stop>
     ensures sound { Tells result trees.old trees.new AreSound }
     ensures book { Tells result trees.old trees.new (AreOfBook sha_names) }
-    ensures own { IfErr result (IsOwnStop S.Store trees.old.store trees.new.store) }
     ensures same { OnOk result (OnlyLooks S.Store trees.old.store trees.new.store) }
     ensures quiet { CommitsNothing S.Store trees.old.store trees.new.store }
 {
@@ -65,10 +63,6 @@ pub fn audit_trees<S: Store, W: Watch>(
     ensures book { IfOk result.0 (λ audited. (counts : Counts) → audited ≡ Audited.Sound counts
         → IsClean (S.Store.view result.1)
         → AreOfBook sha_names (S.Store.view store).trees counts) }
-    // Books that calls made are not called unsound, unless the disk failed or refused meanwhile, nor
-    // does an audit of them give up, but for that or for want of memory.
-    ensures own { IsFairToOwn S.Store result.0 store result.1 }
-    ensures ends { EndsForOwn S.Store result.0 store result.1 }
     ensures same { IfOk result.0 (λ audited. (counts : Counts) → audited ≡ Audited.Sound counts
         → IsClean (S.Store.view result.1)
         → IsUnchanged (S.Store.view store) (S.Store.view result.1)) }

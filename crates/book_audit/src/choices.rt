@@ -1,13 +1,10 @@
 //! The choices: which record was chosen last of each identity.
 
-ghost use Rattle.std.specs.Prelude.{◌≡◌, ◌≤◌, ◌+◌, ◌||◌, IfErr, IfOk, None, length};
+ghost use Rattle.std.specs.Prelude.{◌≡◌, ◌≤◌, ◌+◌, ◌||◌, IfOk, None, length};
 ghost use Rattle.tree_tables.specs.Columns.{choice_columns};
-ghost use Rattle.tree_tables.specs.Fits.{ChoiceFits};
 ghost use Rattle.book_audit.specs.ChoiceRows.{AreChoices, Chooses, IsChosenAmong, entry_of, row_of};
 ghost use Rattle.book_audit.specs.Entries.{AreCounted};
-ghost use Rattle.book_audit.specs.Looks.{LooksIf, Tells};
-ghost use Rattle.book_audit.specs.Own.{AreOwn};
-ghost use Rattle.book_audit.specs.OwnChoices.{AreItsRulings, IsChoiceIn, IsNextIn};
+ghost use Rattle.book_audit.specs.Looks.{Looks, Tells};
 
 use crate::entry_counts::check_entries;
 use crate::finding::{Place, Tree, Wrong};
@@ -40,7 +37,6 @@ pub(crate) struct Choice {
 fn choice_in(row: &Row) -> Result<Choice, StoreError>
     requires { length row.now ≡ 3 }
     ensures read { IfOk result (λ choice. row.now ≡ choice_columns (entry_of choice)) }
-    ensures taken { IfErr result (λ error. ¬ ChoiceFits row.now) }
 {
     Ok(Choice {
         number: number_at(row, 0)?,
@@ -61,7 +57,7 @@ pub(crate) struct Chosen {
 }
 
 impl Chosen {
-    ghost use Rattle.std.specs.Prelude.{◌≡◌, ℕ, IfSome, List, None, OnOk, Some, if◌then◌else◌};
+    ghost use Rattle.std.specs.Prelude.{◌≡◌, ℕ, List, None, OnOk, Some, if◌then◌else◌};
     ghost use Rattle.book_model.specs.Words.{same_bytes};
     ghost use Rattle.book_audit.specs.Choices.{is_last, last_chosen};
 
@@ -83,8 +79,6 @@ impl Chosen {
         ensures number { result ≡ None → choice.now.number ≡ self.now.count + 1 }
         ensures since { result ≡ None → self.now.since ≤ choice.now.period }
         ensures open { result ≡ None → choice.now.period ≤ open_period }
-        ensures wrong { IfSome result (λ wrong. choice.now.number ≡ self.now.count + 1
-            → self.now.since ≤ choice.now.period → choice.now.period ≤ open_period → ⊥) }
     {
         if choice.number == 0 || choice.number - 1 != self.count {
             return Some(Wrong::ChoiceNumber);
@@ -138,8 +132,7 @@ fn chosen_identity<S: Store>(
 ) -> Result<Vec<u8>, Stop>
     ensures among { Tells result trees.old trees.new (λ all identity.
         IsChosenAmong all rule (row_of choice.now) identity.items) }
-    ensures looks { LooksIf result trees.old trees.new (λ all.
-        (own : AreOwn all) → IsChoiceIn own.book rule choice.now) }
+    ensures looks { Looks result trees.old trees.new }
 {
     let place = Place::Choice(choice.number);
     let Some(identity) = trees.identity_of(alloc, &choice.name)? else {
@@ -163,8 +156,7 @@ fn check_choice<S: Store>(
 ) -> Result<(), Stop>
     ensures chooses { Tells result trees.old trees.new (λ all _.
         Chooses all rule open_period chosen.old chosen.new choice.now) }
-    ensures looks { LooksIf result trees.old trees.new (λ all.
-        (own : AreOwn all) → IsNextIn own.book rule open_period chosen.old choice.now) }
+    ensures looks { Looks result trees.old trees.new }
 {
     let place = Place::Choice(choice.number);
     if let Some(wrong) = chosen.wrong_with(choice, open_period) {
@@ -192,8 +184,7 @@ pub(crate) fn read_choices<S: Store, W: Watch>(
     ensures choices { Tells result trees.old trees.new (λ all chosen.
         AreChoices all rule open_period chosen
         × AreCounted Tree.ChoiceNames (all 9) chosen.count) }
-    ensures looks { LooksIf result trees.old trees.new (λ all.
-        (own : AreOwn all) → AreItsRulings rule open_period own.book) }
+    ensures looks { Looks result trees.old trees.new }
 {
     let tree = Tree::Choices;
     walk.begin(tree);

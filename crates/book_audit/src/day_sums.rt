@@ -1,13 +1,11 @@
 //! The sums of records by their places, against the charge rows.
 
 ghost use Rattle.std.specs.BTreeMap.{values};
-ghost use Rattle.std.specs.Prelude.{◌≡◌, ◌≢◌, IfErr, IfOk, OnOk, false, length, true};
-ghost use Rattle.sqlite_value.specs.Order.{column};
+ghost use Rattle.std.specs.Prelude.{◌≡◌, IfOk, OnOk, length, true};
 ghost use Rattle.tree_tables.specs.Columns.{day_columns};
-ghost use Rattle.tree_tables.specs.Fits.{ChargeFits, HasPeriod};
 ghost use Rattle.consistent_tables.specs.DueRows.{due_entry};
 ghost use Rattle.book_audit.specs.Days.{AreDueRows, entry_of};
-ghost use Rattle.book_audit.specs.Looks.{LooksIf, Tells};
+ghost use Rattle.book_audit.specs.Looks.{Looks, Tells};
 ghost use Rattle.book_audit.specs.Walks.{AreRising};
 
 use crate::finding::{Place, Tree, Wrong};
@@ -40,10 +38,9 @@ pub(crate) struct Places {
 }
 
 impl Places {
-    ghost use Rattle.std.specs.Prelude.{◌≡◌, ◌++◌, ◌∷◌, [], IfOk, List, false, true};
+    ghost use Rattle.std.specs.Prelude.{◌≡◌, ◌++◌, ◌∷◌, [], IfOk, List, true};
     ghost use Rattle.tariff_rules.specs.declared.priced.Priced.{Priced as Price};
     ghost use Rattle.book_core.specs.KeyedRows.{keyed_rows};
-    ghost use Rattle.book_audit.specs.OwnRecords.{CanBeCounted};
 
     /// For no records.
     pub(crate) fn new(alloc: Global) -> Places
@@ -56,12 +53,9 @@ impl Places {
 
     /// A record is counted at its place, or answers that the sums there do not fit 64 bits.
     pub(crate) fn count(&mut self, priced: &Priced) -> Result<bool, AllocError>
-        ensures counts { IfOk result (λ fits. fits ≡ true → (prices : List Price)
+        ensures { IfOk result (λ fits. fits ≡ true → (prices : List Price)
             → self.old.rows.entries ≡ keyed_rows prices
             → self.new.rows.entries ≡ keyed_rows (prices ++ priced.now ∷ [])) }
-        ensures large { IfOk result (λ fits. fits ≡ false → (prices : List Price)
-            → self.old.rows.entries ≡ keyed_rows prices
-            → ¬ CanBeCounted (prices ++ priced.now ∷ [])) }
     {
         let place = key_of(priced);
         let row = self.rows.entry(place)?.or_insert(empty_row(place));
@@ -84,7 +78,6 @@ impl Places {
 fn row_in(row: &Row) -> Result<DayRow, StoreError>
     requires { length row.now ≡ 8 }
     ensures read { IfOk result (λ it. row.now ≡ day_columns (entry_of it)) }
-    ensures taken { IfErr result (λ error. HasPeriod (column row.now 0) → ¬ ChargeFits row.now) }
 {
     Ok(DayRow {
         period: period_at(row, 0)?,
@@ -139,9 +132,7 @@ fn wrong_with(rulings: &Rulings, row: &DayRow, due: Option<&ChargeRow>) -> Stop 
 
 /// Whether the charge row is this one, in the period of its day.
 fn is_due(rulings: &Rulings, row: &DayRow, due: &ChargeRow) -> bool
-    ensures same { result ≡ true → entry_of row.now ≡ due_entry rulings.now.closes.items due.now }
-    ensures other { result ≡ false
-        → entry_of row.now ≢ due_entry rulings.now.closes.items due.now }
+    ensures { result ≡ true → entry_of row.now ≡ due_entry rulings.now.closes.items due.now }
 {
     row.period == rulings.period_of(due.day) && row.sums == *due
 }
@@ -149,10 +140,7 @@ fn is_due(rulings: &Rulings, row: &DayRow, due: &ChargeRow) -> bool
 /// A charge row is the one that is due.
 fn check_row(rulings: &Rulings, row: &Row, due: &ChargeRow) -> Result<(), Stop>
     requires { length row.now ≡ 8 }
-    ensures due { OnOk result (row.now
-        ≡ day_columns (due_entry rulings.now.closes.items due.now)) }
-    ensures other { IfErr result (λ stop. HasPeriod (column row.now 0) → ChargeFits row.now
-        → row.now ≢ day_columns (due_entry rulings.now.closes.items due.now)) }
+    ensures { OnOk result (row.now ≡ day_columns (due_entry rulings.now.closes.items due.now)) }
 {
     let one = match row_in(row) {
         Ok(one) => one,
@@ -185,8 +173,7 @@ fn read_rows<S: Store, W: Watch>(
 ) -> Result<(), Stop>
     ensures rows { Tells result trees.old trees.new (λ all _.
         AreDueRows rulings.now.closes.items due.now (all 4) × AreRising Tree.Days (all 4)) }
-    ensures looks { LooksIf result trees.old trees.new (λ all.
-        AreDueRows rulings.now.closes.items due.now (all 4)) }
+    ensures looks { Looks result trees.old trees.new }
 {
     let tree = Tree::Days;
     walk.begin(tree);
@@ -221,8 +208,7 @@ pub(crate) fn check_rows<S: Store, W: Watch>(
         AreDueRows rulings.now.closes.items (values places.rows) (all 4)
         × AreRising Tree.Days (all 4)) }
     ensures count { IfOk result (λ count. count ≡ length (values places.rows)) }
-    ensures looks { LooksIf result trees.old trees.new (λ all.
-        AreDueRows rulings.now.closes.items (values places.rows) (all 4)) }
+    ensures looks { Looks result trees.old trees.new }
 {
     let due = places.into_rows(alloc)?;
     read_rows(trees, walk, rulings, &due, watch)?;

@@ -1,20 +1,15 @@
 //! The details: a row for each record that some period counts.
 
-ghost use Rattle.std.specs.Prelude.{◌≡◌, ◌≢◌, IfErr, IfOk, IsTrue, None, OnOk, false, length, true};
+ghost use Rattle.std.specs.Prelude.{◌≡◌, IfOk, IsTrue, None, OnOk, length, true};
 ghost use Rattle.smf_frames.specs.Framed.{record_with};
 ghost use Rattle.book_model.specs.Words as model;
 ghost use Rattle.book_model.specs.Words.{IsUsage};
 ghost use Rattle.table_model.specs.DetailsRead.{detail_shown};
 ghost use Rattle.tree_tables.specs.Columns.{detail_columns};
-ghost use Rattle.tree_tables.specs.Fits.{DetailFits};
 ghost use Rattle.tree_tables.specs.Stored.{stored_entry};
-ghost use Rattle.tree_tables.specs.UsageData.{IsUsageData};
 ghost use Rattle.book_audit.specs.Details.{AreDetails, HasCost, IsCounted, ShowsCounted};
-ghost use Rattle.book_audit.specs.Looks.{Looks, LooksIf, Tells, TellsIfSome};
-ghost use Rattle.book_audit.specs.Own.{AreOwn};
-ghost use Rattle.book_audit.specs.OwnRecords.{AreOwnOf, IsCountedIn, IsShownIn};
+ghost use Rattle.book_audit.specs.Looks.{Looks, Tells};
 ghost use Rattle.book_audit.specs.Records.{detail_key, spot_of};
-ghost use Rattle.book_audit.specs.SoundTrees.{AreRuled};
 ghost use Rattle.book_audit.specs.Trees.{HasKey};
 
 use crate::finding::{DetailKey, Place, Tree, Wrong};
@@ -25,7 +20,7 @@ use crate::trees::Trees;
 use crate::walk::{MOST_ROWS, Walk, endless};
 use crate::watch::Watch;
 use book_core::{detail_with, key_of};
-use book_model::{Detail, LedgerFault};
+use book_model::Detail;
 use smf_type30::Type30;
 use sqlite_trees::error::StoreError;
 use sqlite_trees::store::Store;
@@ -52,8 +47,6 @@ fn place_of(shown: &Detail) -> DetailKey
 fn put_usage(bytes: &mut Vec<u8>, data_bytes: &[u8]) -> Result<(), Stop>
     ensures bytes { OnOk result (bytes.new.items ≡ record_with data_bytes.now) }
     ensures usage { OnOk result (IsUsage bytes.new.items) }
-    ensures own { IfErr result (λ stop. IsUsageData data_bytes.now
-        → stop ≡ Stop.Fault LedgerFault.Memory) }
 {
     if let Err(error) = put_data(bytes, data_bytes) {
         return Err(met(Tree::Records, error));
@@ -72,8 +65,7 @@ pub(crate) fn check_has_detail<S: Store>(
 ) -> Result<(), Stop>
     ensures shown { Tells result trees.old trees.new (λ all _.
         HasKey (detail_key (spot_of (detail_shown (stored_entry stored.now)))) (all 10)) }
-    ensures looks { LooksIf result trees.old trees.new (λ all.
-        IsCountedIn all (stored_entry stored.now)) }
+    ensures looks { Looks result trees.old trees.new }
 {
     put_usage(bytes, &stored.data_bytes)?;
     let usage = Type30::of_usage(bytes);
@@ -87,10 +79,8 @@ pub(crate) fn check_has_detail<S: Store>(
 
 /// Whether a row shows what a record says of its step and job.
 fn shows_usage(shown: &Detail, usage: &Type30<'_>) -> bool
-    ensures same { IsTrue result
+    ensures { IsTrue result
         → shown.now ≡ model.detail_with shown.now.name usage.now shown.now.priced }
-    ensures other { result ≡ false
-        → shown.now ≢ model.detail_with shown.now.name usage.now shown.now.priced }
 {
     let own = detail_with(&shown.name, usage, shown.priced);
     shown.time == own.time
@@ -102,10 +92,8 @@ fn shows_usage(shown: &Detail, usage: &Type30<'_>) -> bool
 
 /// Whether a row shows a record, which has its name.
 fn shows(shown: &Detail, stored: &StoredRecord, usage: &Type30<'_>) -> bool
-    ensures same { IsTrue result
+    ensures { IsTrue result
         → shown.now ≡ model.detail_with shown.now.name usage.now stored.now.priced }
-    ensures other { result ≡ false
-        → shown.now ≢ model.detail_with shown.now.name usage.now stored.now.priced }
 {
     shown.priced == stored.priced && shows_usage(shown, usage)
 }
@@ -118,9 +106,6 @@ fn is_counted<S: Store>(
 ) -> Result<bool, Stop>
     ensures counted { Tells result trees.old trees.new (λ all counted.
         counted ≡ true → IsCounted (all 5) rulings.now.closes.items (stored_entry stored.now)) }
-    ensures other { Tells result trees.old trees.new (λ all counted.
-        counted ≡ false → AreOwnOf all rulings.now (stored_entry stored.now)
-        → ¬ IsCountedIn all (stored_entry stored.now)) }
     ensures looks { Looks result trees.old trees.new }
 {
     match past_in(trees, rulings, stored)? {
@@ -139,8 +124,6 @@ fn wrong_with<S: Store>(
 ) -> Result<Option<Wrong>, Stop>
     ensures counted { Tells result trees.old trees.new (λ all wrong.
         wrong ≡ None → ShowsCounted all rulings.now.closes.items shown.now) }
-    ensures other { TellsIfSome result trees.old trees.new (λ all wrong.
-        AreOwn all → AreRuled all rulings.now → ¬ IsShownIn all shown.now) }
     ensures looks { Looks result trees.old trees.new }
 {
     let Some(record) = trees.record_of(alloc, &shown.name)? else {
@@ -167,8 +150,7 @@ fn check_shown<S: Store>(
 ) -> Result<(), Stop>
     ensures counted { Tells result trees.old trees.new (λ all _.
         ShowsCounted all rulings.now.closes.items shown.now) }
-    ensures looks { LooksIf result trees.old trees.new (λ all.
-        AreRuled all rulings.now × IsShownIn all shown.now) }
+    ensures looks { Looks result trees.old trees.new }
 {
     match wrong_with(alloc, trees, rulings, bytes, shown)? {
         Some(wrong) => Err(unsound(Place::Detail(place_of(shown)), wrong)),
@@ -178,8 +160,7 @@ fn check_shown<S: Store>(
 
 /// What a row of details says that its record costs.
 fn cost_in(row: &Row) -> Result<Priced, StoreError>
-    ensures read { IfOk result (HasCost row.now) }
-    ensures taken { IfErr result (λ error. ¬ DetailFits row.now) }
+    ensures { IfOk result (HasCost row.now) }
 {
     Ok(Priced {
         day: day_at(row, 0)?,
@@ -195,7 +176,6 @@ fn cost_in(row: &Row) -> Result<Priced, StoreError>
 fn detail_in(row: &Row) -> Result<Detail, StoreError>
     requires { length row.now ≡ 12 }
     ensures read { IfOk result (λ shown. row.now ≡ detail_columns (shown, tt)) }
-    ensures taken { IfErr result (λ error. ¬ DetailFits row.now) }
 {
     Ok(Detail {
         priced: cost_in(row)?,
@@ -220,7 +200,7 @@ pub(crate) fn check_details<S: Store, W: Watch>(
 ) -> Result<(), Stop>
     ensures details { Tells result trees.old trees.new (λ all _.
         AreDetails all rulings.now.closes.items) }
-    ensures looks { LooksIf result trees.old trees.new (λ all. AreRuled all rulings.now) }
+    ensures looks { Looks result trees.old trees.new }
 {
     walk.begin(Tree::Details);
     'rows: for count in 0..MOST_ROWS {

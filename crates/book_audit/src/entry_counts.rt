@@ -1,11 +1,9 @@
 //! How many entries a tree has.
 
-ghost use Rattle.std.specs.Prelude.{◌≡◌, false, length, true};
+ghost use Rattle.std.specs.Prelude.{◌≡◌, length, true};
 ghost use Rattle.sqlite_value.specs.Order.{column};
-ghost use Rattle.tree_tables.specs.Fits.{HasBytes, HasCount};
-ghost use Rattle.book_audit.specs.Entries.{AreCounted, IsEntry};
-ghost use Rattle.book_audit.specs.Looks.{Looks, LooksIf, Tells};
-ghost use Rattle.book_audit.specs.Own.{AreOwn, is_index};
+ghost use Rattle.book_audit.specs.Entries.{AreCounted, HasBytes, HasCount, IsEntry};
+ghost use Rattle.book_audit.specs.Looks.{Looks, Tells};
 ghost use Rattle.book_audit.specs.Trees.{tree_number};
 ghost use Rattle.book_audit.specs.Walks.{width};
 
@@ -21,8 +19,7 @@ use tree_tables::count_at;
 
 /// Whether a column has bytes.
 fn has_bytes(row: &Row, at: usize) -> bool
-    ensures has { result ≡ true → HasBytes (column row.now at) }
-    ensures other { result ≡ false → ¬ HasBytes (column row.now at) }
+    ensures { result ≡ true → HasBytes (column row.now at) }
 {
     match row.get(at) {
         ValueRef::Blob(_) => true,
@@ -32,8 +29,7 @@ fn has_bytes(row: &Row, at: usize) -> bool
 
 /// Whether a column has a number that is not below 0.
 fn has_count(row: &Row, at: usize) -> bool
-    ensures has { result ≡ true → HasCount (column row.now at) }
-    ensures other { result ≡ false → ¬ HasCount (column row.now at) }
+    ensures { result ≡ true → HasCount (column row.now at) }
 {
     count_at(row, at).is_ok()
 }
@@ -42,8 +38,7 @@ fn has_count(row: &Row, at: usize) -> bool
 /// after them, where it has one.
 fn is_entry(tree: Tree, row: &Row) -> bool
     requires { length row.now ≡ width tree }
-    ensures is { result ≡ true → IsEntry tree row.now }
-    ensures other { result ≡ false → ¬ IsEntry tree row.now }
+    ensures { result ≡ true → IsEntry tree row.now }
 {
     match tree {
         Tree::Identities => has_bytes(row, 0) && has_bytes(row, 1),
@@ -60,7 +55,6 @@ fn count_rows<S: Store, W: Watch>(
     tree: Tree,
     watch: &mut W,
 ) -> Result<u64, Stop>
-    requires { is_index tree ≡ true }
     ensures counted { Tells result trees.old trees.new (λ all count.
         AreCounted tree (all (tree_number tree)) count) }
     ensures looks { Looks result trees.old trees.new }
@@ -86,11 +80,9 @@ pub(crate) fn check_entries<S: Store, W: Watch>(
     rows: u64,
     watch: &mut W,
 ) -> Result<(), Stop>
-    requires { is_index tree ≡ true }
     ensures counted { Tells result trees.old trees.new (λ all _.
         AreCounted tree (all (tree_number tree)) rows) }
-    ensures looks { LooksIf result trees.old trees.new (λ all.
-        AreOwn all → rows ≡ length (all (tree_number tree))) }
+    ensures looks { Looks result trees.old trees.new }
 {
     let entries = count_rows(trees, walk, tree, watch)?;
     if entries == rows {

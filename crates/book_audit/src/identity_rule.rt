@@ -27,7 +27,7 @@ pub(crate) enum IdentityRule {
 }
 
 impl IdentityRule {
-    ghost use Rattle.std.specs.Prelude.{◌≡◌, ◌≢◌, false, true};
+    ghost use Rattle.std.specs.Prelude.{◌≡◌, true};
 
     /// The rule for a number and a period of adoption, if books may have both.
     pub(crate) fn of(number: u64, adopted: u64) -> Option<IdentityRule>
@@ -65,8 +65,7 @@ impl IdentityRule {
 
     /// Whether that is the identity of usage.
     pub(crate) fn is_identity(self, identity: &[u8], usage: &Type30<'_>) -> bool
-        ensures same { result ≡ true → identity.now ≡ spec.identity_under self usage.now }
-        ensures other { result ≡ false → identity.now ≢ spec.identity_under self usage.now }
+        ensures { result ≡ true → identity.now ≡ spec.identity_under self usage.now }
     {
         match self {
             IdentityRule::First => usage.identity().as_slice() == identity,

@@ -1,13 +1,9 @@
 //! The adjustment lines.
 
-ghost use Rattle.std.specs.Prelude.{◌≡◌, IfErr, IfOk, length};
-ghost use Rattle.sqlite_value.specs.Order.{column};
+ghost use Rattle.std.specs.Prelude.{◌≡◌, IfOk, length};
 ghost use Rattle.tree_tables.specs.Columns.{line_columns};
-ghost use Rattle.tree_tables.specs.Fits.{HasPeriod, LineFits};
 ghost use Rattle.book_audit.specs.Lines.{AreLines, IsLateLine, line_entry};
-ghost use Rattle.book_audit.specs.Looks.{LooksIf, Tells};
-ghost use Rattle.book_audit.specs.OwnRecords.{IsLineIn};
-ghost use Rattle.book_audit.specs.SoundTrees.{AreRuled};
+ghost use Rattle.book_audit.specs.Looks.{Looks, Tells};
 
 use crate::finding::{Place, Tree, Wrong};
 use crate::rulings::Rulings;
@@ -35,7 +31,6 @@ pub(crate) struct Line {
 fn line_in(row: &Row) -> Result<Line, StoreError>
     requires { length row.now ≡ 3 }
     ensures read { IfOk result (λ line. row.now ≡ line_columns (line_entry line)) }
-    ensures taken { IfErr result (λ error. HasPeriod (column row.now 0) → ¬ LineFits row.now) }
 {
     Ok(Line {
         period: period_at(row, 0)?,
@@ -54,8 +49,7 @@ fn check_line<S: Store>(
 ) -> Result<(), Stop>
     ensures late { Tells result trees.old trees.new (λ all _.
         IsLateLine (all 3) rulings.now.closes.items (line_entry line.now)) }
-    ensures looks { LooksIf result trees.old trees.new (λ all.
-        AreRuled all rulings.now × IsLineIn all (line_entry line.now)) }
+    ensures looks { Looks result trees.old trees.new }
 {
     let place = Place::Line(line.period, line.name);
     let Some(record) = trees.record_of(alloc, &line.name)? else {
@@ -78,7 +72,7 @@ pub(crate) fn check_lines<S: Store, W: Watch>(
 ) -> Result<u64, Stop>
     ensures lines { Tells result trees.old trees.new (λ all count.
         AreLines all rulings.now.closes.items count) }
-    ensures looks { LooksIf result trees.old trees.new (λ all. AreRuled all rulings.now) }
+    ensures looks { Looks result trees.old trees.new }
 {
     walk.begin(Tree::Lines);
     'lines: for count in 0..MOST_ROWS {

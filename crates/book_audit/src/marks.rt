@@ -1,17 +1,11 @@
 //! The marks of a record, and the trees that find it.
 
-ghost use Rattle.std.specs.Prelude.{◌≡◌, ◌≤◌, ◌-◌, None, false, true};
-ghost use Rattle.book_model.specs.Words.{open_by};
-ghost use Rattle.consistent_tables.specs.Consistent.{AreInTurn, ruled};
-ghost use Rattle.table_model.specs.Tables.{Tables};
-ghost use Rattle.tree_tables.specs.Holds.{Holds};
+ghost use Rattle.std.specs.Prelude.{◌≡◌, ◌≤◌, ◌-◌, None, true};
 ghost use Rattle.tree_tables.specs.Stored.{stored_entry};
-ghost use Rattle.book_audit.specs.Looks.{Looks, LooksIf, Tells, TellsIfSome};
+ghost use Rattle.book_audit.specs.Looks.{Looks, Tells, TellsIfSome};
 ghost use Rattle.book_audit.specs.Marks as spec;
-ghost use Rattle.book_audit.specs.OwnRecords.{AreOwnOf};
 ghost use Rattle.book_audit.specs.Records.{GoesBack, HasPast, IsChargedRight, IsFound, IsMarked};
 ghost use Rattle.book_audit.specs.Records.{IsPostedRight};
-ghost use Rattle.book_audit.specs.declared.rulings.Rulings.{Rulings as Ruled};
 
 use crate::choices::Chosen;
 use crate::finding::{Place, Wrong};
@@ -54,8 +48,6 @@ fn wrong_by_trees<S: Store>(
         wrong ≡ None → IsFound all (stored_entry stored.now)) }
     ensures charged { Tells result trees.old trees.new (λ all wrong.
         wrong ≡ None → IsChargedRight (all 6) chosen.now (stored_entry stored.now)) }
-    ensures other { TellsIfSome result trees.old trees.new (λ all wrong. (rulings : Ruled)
-        → rulings.chosen ≡ chosen.now → ¬ AreOwnOf all rulings (stored_entry stored.now)) }
     ensures looks { Looks result trees.old trees.new }
 {
     if !trees.has_identity(stored)? {
@@ -80,8 +72,6 @@ fn is_posted_right<S: Store>(
 ) -> Result<bool, Stop>
     ensures posted { Tells result trees.old trees.new (λ all right.
         right ≡ true → IsPostedRight (all 5) rulings.now.closes.items (stored_entry stored.now)) }
-    ensures other { Tells result trees.old trees.new (λ all right.
-        right ≡ false → ¬ AreOwnOf all rulings.now (stored_entry stored.now)) }
     ensures looks { Looks result trees.old trees.new }
 {
     let line = trees.line_of(rulings.open_period(), &stored.name)?;
@@ -102,9 +92,6 @@ fn past_of<S: Store>(
     requires { own ≤ last }
     ensures past { TellsIfSome result trees.old trees.new (λ all before.
         GoesBack (all 5) name.now last (last - own) charged before) }
-    ensures other { Tells result trees.old trees.new (λ all past.
-        past ≡ None → (tables : Tables) → Holds all tables → last ≡ open_by (ruled tables)
-        → ¬ AreInTurn tables name.now (last - own) charged) }
     ensures looks { Looks result trees.old trees.new }
 {
     let mut now = charged;
@@ -129,8 +116,6 @@ pub(crate) fn past_in<S: Store>(
 ) -> Result<Option<bool>, Stop>
     ensures past { TellsIfSome result trees.old trees.new (λ all counted.
         HasPast (all 5) rulings.now.closes.items (stored_entry stored.now) counted) }
-    ensures other { Tells result trees.old trees.new (λ all past.
-        past ≡ None → ¬ AreOwnOf all rulings.now (stored_entry stored.now)) }
     ensures looks { Looks result trees.old trees.new }
 {
     let open = rulings.open_period();
@@ -150,8 +135,7 @@ pub(crate) fn check_marks<S: Store>(
         IsMarked all rulings.now (stored_entry stored.now)) }
     ensures past { Tells result trees.old trees.new (λ all counted.
         HasPast (all 5) rulings.now.closes.items (stored_entry stored.now) counted) }
-    ensures looks { LooksIf result trees.old trees.new (λ all.
-        AreOwnOf all rulings.now (stored_entry stored.now)) }
+    ensures looks { Looks result trees.old trees.new }
 {
     if let Some(wrong) = wrong_by_trees(trees, &rulings.chosen, stored)? {
         return Err(unsound(Place::Record(stored.name), wrong));

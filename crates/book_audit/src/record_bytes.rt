@@ -1,13 +1,10 @@
 //! The bytes of a record, and what they say.
 
-ghost use Rattle.std.specs.Prelude.{◌≡◌, ◌≢◌, IfErr, IfOk, IfSome, None, OnOk, Some};
+ghost use Rattle.std.specs.Prelude.{◌≡◌, IfOk, None, OnOk, Some};
 ghost use Rattle.sha2.specs.Sha256.{sha256};
 ghost use Rattle.tariff_rules.specs.Price.{IsPriced};
-ghost use Rattle.book_model.specs.declared.fault.LedgerFault.TheVariants.{Memory};
-ghost use Rattle.book_audit.specs.Data.{price_of};
-ghost use Rattle.book_audit.specs.OwnRecords.{SaysData};
+ghost use Rattle.book_audit.specs.Data.{SaysData, price_of};
 ghost use Rattle.book_audit.specs.Rules.{identity_under};
-ghost use Rattle.book_audit.specs.declared.stop.Stop.TheVariants.{Fault};
 
 use crate::finding::{Place, Wrong};
 use crate::rulings::Rulings;
@@ -26,9 +23,6 @@ fn wrong_by_usage(rulings: &Rulings, stored: &StoredRecord, usage: &Type30<'_>) 
     ensures price { result ≡ None
         → price_of rulings.now.tariffs.items usage.now ≡ Some stored.now.priced }
     ensures priced { result ≡ None → IsPriced stored.now.priced }
-    ensures other { IfSome result (λ wrong.
-        stored.now.identity.items ≡ identity_under rulings.now.rule usage.now
-        → price_of rulings.now.tariffs.items usage.now ≢ Some stored.now.priced) }
 {
     if !rulings.rule.is_identity(&stored.identity, usage) {
         return Some(Wrong::Identity);
@@ -52,7 +46,6 @@ fn wrong_by_data(
         → stored.now.name ≡ sha256 stored.now.data_bytes.items) }
     ensures says { IfOk result (λ wrong. wrong ≡ None → SaysData rulings.now stored.now) }
     ensures priced { IfOk result (λ wrong. wrong ≡ None → IsPriced stored.now.priced) }
-    ensures other { IfOk result (λ wrong. IfSome wrong (λ it. ¬ SaysData rulings.now stored.now)) }
 {
     if ShaNames.name(&stored.data_bytes) != stored.name {
         return Ok(Some(Wrong::Name));
@@ -76,7 +69,6 @@ pub(crate) fn check_data(
 ) -> Result<(), Stop>
     ensures says { OnOk result (SaysData rulings.now stored.now) }
     ensures priced { OnOk result (IsPriced stored.now.priced) }
-    ensures own { IfErr result (λ stop. stop ≢ Fault Memory → ¬ SaysData rulings.now stored.now) }
 {
     match wrong_by_data(alloc, rulings, stored)? {
         Some(wrong) => Err(unsound(Place::Record(stored.name), wrong)),

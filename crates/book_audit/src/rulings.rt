@@ -1,18 +1,14 @@
 //! The row of the book, the tariffs, the closes and the choices.
 
 ghost use Rattle.std.specs.List.{last_or};
-ghost use Rattle.std.specs.Prelude.{◌<◌, ◌≡◌, IfErr, IfOk, IfSome, None, Ok, false, length};
+ghost use Rattle.std.specs.Prelude.{◌<◌, ◌≡◌, IfOk, IfSome, None, Ok, length};
 ghost use Rattle.std.specs.Prelude.{string_bytes, true};
-ghost use Rattle.sqlite_value.specs.Order.{column};
-ghost use Rattle.book_model.specs.Words.{IsDay, Terms, terms_in};
-ghost use Rattle.table_model.specs.Tables.{BookRow as Held};
-ghost use Rattle.tree_tables.specs.Columns.{book_columns, closed_columns, tariff_columns};
-ghost use Rattle.tree_tables.specs.Fits.{BookFits, CloseFits, HasCount, TariffFits};
+ghost use Rattle.book_model.specs.Words.{IsDay, terms_in};
+ghost use Rattle.tree_tables.specs.Columns.{closed_columns, tariff_columns};
 ghost use Rattle.tree_tables.specs.Stored.{close_entry, tariff_of};
 ghost use Rattle.book_audit.specs.Looks.{Looks, Tells};
-ghost use Rattle.book_audit.specs.Rules.{rule_of};
 ghost use Rattle.book_audit.specs.Rulings.{AreClosed, AreTariffs, HasOneRow, IsBookRow, IsCloseRow};
-ghost use Rattle.book_audit.specs.Rulings.{IsNextClose, IsNextRow, IsTariffIn};
+ghost use Rattle.book_audit.specs.Rulings.{IsNextClose, IsTariffIn};
 
 use crate::choices::Chosen;
 use crate::finding::{Place, Tree, Wrong};
@@ -63,9 +59,6 @@ pub(crate) struct BookRow {
 fn book_in(row: &Row) -> Result<Option<BookRow>, StoreError>
     requires { length row.now ≡ 5 }
     ensures read { IfOk result (λ book. IfSome book (IsBookRow row.now)) }
-    ensures taken { IfErr result (λ error. HasCount (column row.now 0) → ¬ BookFits row.now) }
-    ensures ruled { IfOk result (λ read. read ≡ None → (book : Held)
-        → row.now ≡ book_columns book → rule_of book.rule book.adopted ≡ None) }
 {
     let number = count_at(row, 0)?;
     let rule = count_at(row, 1)?;
@@ -108,7 +101,6 @@ pub(crate) fn read_book<S: Store>(trees: &mut Trees<S>, walk: &mut Walk) -> Resu
 fn tariff_in(alloc: Global, row: &Row) -> Result<StoredTariff, StoreError>
     requires { length row.now ≡ 2 }
     ensures read { IfOk result (λ stored. row.now ≡ tariff_columns (tariff_of stored)) }
-    ensures taken { IfErr result (λ error. TariffFits row.now → error ≡ StoreError.OutOfMemory) }
 {
     Ok(StoredTariff {
         day: day_at(row, 0)?,
@@ -121,9 +113,6 @@ fn parsed(alloc: Global, stored: &StoredTariff) -> Result<Tariff, Stop>
     ensures says { IfOk result (λ tariff. terms_in (string_bytes stored.now.body) ≡ Ok tariff) }
     ensures day { IfOk result (λ tariff. tariff.effective ≡ stored.now.day) }
     ensures valid { IfOk result (λ tariff. IsDay tariff.effective) }
-    ensures own { IfErr result (λ stop. (terms : Terms)
-        → terms_in (string_bytes stored.now.body) ≡ Ok terms
-        → terms.effective ≡ stored.now.day → stop ≡ Stop.Fault LedgerFault.Memory) }
 {
     let tariff = match Tariff::parse(alloc, &stored.body) {
         Ok(tariff) => tariff,
@@ -139,9 +128,7 @@ fn parsed(alloc: Global, stored: &StoredTariff) -> Result<Tariff, Stop>
 /// The tariff of a row.
 fn read_tariff(alloc: Global, row: &Row) -> Result<Tariff, Stop>
     requires { length row.now ≡ 2 }
-    ensures says { IfOk result (IsTariffIn row.now) }
-    ensures own { IfErr result (λ stop. (terms : Terms) → IsTariffIn row.now terms
-        → stop ≡ Stop.Fault LedgerFault.Memory) }
+    ensures { IfOk result (IsTariffIn row.now) }
 {
     match tariff_in(alloc, row) {
         Ok(stored) => parsed(alloc, &stored),
@@ -175,7 +162,6 @@ pub(crate) fn read_tariffs<S: Store>(
 fn close_in(row: &Row) -> Result<Close, StoreError>
     requires { length row.now ≡ 2 }
     ensures read { IfOk result (λ close. row.now ≡ closed_columns (close_entry close)) }
-    ensures taken { IfErr result (λ error. ¬ CloseFits row.now) }
 {
     Ok(Close {
         period: period_at(row, 0)?,
@@ -194,8 +180,7 @@ fn last_of(days: &[i32]) -> Option<i32>
 /// Whether a close is the next one after those of these days: of the next period, through a later
 /// day.
 fn is_next(days: &[i32], close: &Close) -> bool
-    ensures next { result ≡ true → IsNextClose days.now close.now }
-    ensures other { result ≡ false → ¬ IsNextClose days.now close.now }
+    ensures { result ≡ true → IsNextClose days.now close.now }
 {
     usize::from(close.period) == days.len() + 1
         && is_after(last_of(days), close.through)
@@ -206,9 +191,7 @@ fn is_next(days: &[i32], close: &Close) -> bool
 /// The day of the close of a row, which is the next one after those of these days.
 fn next_close(days: &[i32], row: &Row) -> Result<i32, Stop>
     requires { length row.now ≡ 2 }
-    ensures next { IfOk result (λ day. IsCloseRow days.now row.now day) }
-    ensures own { IfErr result (λ stop. CloseFits row.now
-        → ¬ IsNextRow days.now row.now) }
+    ensures { IfOk result (λ day. IsCloseRow days.now row.now day) }
 {
     let close = match close_in(row) {
         Ok(close) => close,

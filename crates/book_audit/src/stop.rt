@@ -1,7 +1,5 @@
 //! Why an audit stops early.
 
-ghost use Rattle.std.specs.Prelude.{◌≡◌};
-
 use crate::finding::{Finding, Place, Tree, Wrong};
 use book_model::LedgerFault;
 use sqlite_trees::error::StoreError;
@@ -23,10 +21,7 @@ pub(crate) fn unsound(place: Place, wrong: Wrong) -> Stop {
 
 /// What an error of the store at a tree stands for. A damaged page, and a row that is not of its
 /// table, are unsound; what the disk refuses says nothing about the books.
-pub(crate) fn met(tree: Tree, error: StoreError) -> Stop
-    ensures memory { error ≡ StoreError.OutOfMemory → result ≡ Stop.Fault LedgerFault.Memory }
-    ensures broken { error ≡ StoreError.Broken → result ≡ Stop.Fault LedgerFault.Store }
-{
+pub(crate) fn met(tree: Tree, error: StoreError) -> Stop {
     match error {
         StoreError::OutOfMemory => Stop::Fault(LedgerFault::Memory),
         StoreError::Corrupt => unsound(Place::Tree(tree), Wrong::Unreadable),
@@ -35,24 +30,12 @@ pub(crate) fn met(tree: Tree, error: StoreError) -> Stop
 }
 
 impl From<AllocError> for Stop {
-    ghost use Rattle.std.specs.Prelude.{◌≡◌};
-    ghost use Rattle.book_audit.specs.declared.stop.Stop.TheVariants.{Fault};
-    ghost use Rattle.book_model.specs.declared.fault.LedgerFault.TheVariants.{Memory};
-
-    ghost from_gives = { λ _ stop. stop ≡ Fault Memory };
-
     fn from(_: AllocError) -> Stop {
         Stop::Fault(LedgerFault::Memory)
     }
 }
 
 impl<T: Drop> From<AllocFailed<T>> for Stop {
-    ghost use Rattle.std.specs.Prelude.{◌≡◌};
-    ghost use Rattle.book_audit.specs.declared.stop.Stop.TheVariants.{Fault};
-    ghost use Rattle.book_model.specs.declared.fault.LedgerFault.TheVariants.{Memory};
-
-    ghost from_gives = { λ _ stop. stop ≡ Fault Memory };
-
     fn from(_: AllocFailed<T>) -> Stop {
         Stop::Fault(LedgerFault::Memory)
     }

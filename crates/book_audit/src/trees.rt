@@ -29,12 +29,11 @@ pub(crate) struct Trees<S: Store> {
 }
 
 impl<S: Store> Trees<S> {
-    ghost use Rattle.std.specs.Prelude.{◌≡◌, ◌∷◌, [], IfErr, IfOk, IfSome, None, OnOk};
-    ghost use Rattle.std.specs.Prelude.{false, is_some, pos, true};
+    ghost use Rattle.std.specs.Prelude.{◌≡◌, ◌∷◌, [], IfOk, IfSome, OnOk, is_some, pos, true};
     ghost use Rattle.sqlite_trees.specs.View.{IsClean};
     ghost use Rattle.sqlite_value.specs.Order.{column};
     ghost use Rattle.sqlite_value.specs.declared.value.Value.TheVariants.{Blob, Int};
-    ghost use Rattle.tree_rows.specs.Calls.{CommitsNothing, IsCausedByStore, OnlyLooks};
+    ghost use Rattle.tree_rows.specs.Calls.{CommitsNothing, OnlyLooks};
     ghost use Rattle.tree_rows.specs.Rows.{Finds, IsFirst};
     ghost use Rattle.tree_tables.specs.Columns.{flag, record_columns};
     ghost use Rattle.tree_tables.specs.Holds.{HasShapes};
@@ -74,7 +73,6 @@ impl<S: Store> Trees<S> {
         ensures found { Tells result self.old self.new (λ all there.
             IsFirst (rows_past key.now (all (tree_number tree))) row.new there) }
         ensures same { OnOk result (OnlyLooks S.Store self.old.store self.new.store) }
-        ensures cause { IfErr result (IsCausedByStore S.Store self.old.store self.new.store) }
         ensures quiet { CommitsNothing S.Store self.old.store self.new.store }
     {
         let number = tree.number();
@@ -204,8 +202,6 @@ impl<S: Store> Trees<S> {
     ) -> Result<Option<StoredRecord>, Stop>
         ensures read { TellsIfSome result self.old self.new (λ all stored.
             Finds (Blob name.now ∷ []) (all 3) (record_columns (stored_entry stored)) true) }
-        ensures missing { Tells result self.old self.new (λ all held.
-            held ≡ None → Finds (Blob name.now ∷ []) (all 3) self.new.found false) }
         ensures looks { Looks result self.old self.new }
     {
         bytes_key(&mut self.key, name)?;

@@ -38,8 +38,8 @@ pub(crate) struct Walk {
 impl Walk {
     ghost use Rattle.std.specs.Prelude.{◌≡◌, [], IfOk, List, length, true};
     ghost use Rattle.sqlite_value.specs.Order.{Row as Columns};
-    ghost use Rattle.book_audit.specs.Looks.{LooksIf, Tells};
-    ghost use Rattle.book_audit.specs.Walks.{GoesOn, HasWalked, IsWalkOf, width};
+    ghost use Rattle.book_audit.specs.Looks.{Looks, Tells};
+    ghost use Rattle.book_audit.specs.Walks.{GoesOn, HasWalked, width};
 
     /// No tree was walked yet.
     pub(crate) fn new(alloc: Global) -> Walk {
@@ -73,7 +73,7 @@ impl Walk {
         ensures wide { IfOk result (λ there. there ≡ true
             → length self.new.row ≡ width self.old.tree) }
         ensures tree { self.new.tree ≡ self.old.tree }
-        ensures looks { LooksIf result trees.old trees.new (IsWalkOf self.old) }
+        ensures looks { Looks result trees.old trees.new }
     {
         let tree = self.tree;
         let there = match trees.row_past(tree, &self.key, &mut self.row) {
@@ -95,8 +95,6 @@ impl Walk {
 }
 
 /// A walk that does not end: only a disk that lies has more rows, and nothing is said of the books.
-pub(crate) fn endless() -> Stop
-    ensures { result ≡ Stop.Fault LedgerFault.Store }
-{
+pub(crate) fn endless() -> Stop {
     Stop::Fault(LedgerFault::Store)
 }

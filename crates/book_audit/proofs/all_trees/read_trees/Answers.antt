@@ -8,21 +8,19 @@ use Rattle.book_model.specs.declared.row.ChargeRow.{ChargeRow}
 use Rattle.book_model.specs.declared.row.RowKey.{RowKey}
 use Rattle.book_core.proofs.KeyedRowLemmas.{keyed_rows-none}
 use Rattle.tree_rows.specs.Calls.{OnlyLooks}
-use Rattle.tree_rows.proofs.Calls.{clean_before, quiet_both}
+use Rattle.tree_rows.proofs.Calls.{quiet_both}
 use Rattle.book_audit.specs.Days.{AreDueRows}
 use Rattle.book_audit.specs.Details.{AreDetails}
 use Rattle.book_audit.specs.Entries.{AreCounted}
 use Rattle.book_audit.specs.Lines.{AreLines}
 use Rattle.book_audit.specs.Looks.{IsLook}
 use Rattle.book_audit.specs.Records.{AreRecords, counted_prices}
-use Rattle.book_audit.specs.SoundTrees.{AreRuled}
 use Rattle.book_audit.specs.Walks.{AreRising}
 use Rattle.book_audit.specs.declared.finding.Tree.TheVariants.{Days, Identities, Marks}
 use Rattle.book_audit.specs.declared.rulings.Rulings.{Rulings}
 use Rattle.book_audit.proofs.Rows.Records.{rows_counted}
-use Rattle.book_audit.proofs.Own.Stops.{looked_on, stop_on, stop_passed}
-use Rattle.book_audit.proofs.Own.Days.{rows_due}
 use Rattle.book_audit.proofs.Sound.Book.{of_book}
+use Rattle.book_audit.proofs.Walks.Looks.{looked_on}
 use Rattle.book_audit.proofs.Walks.Steps.{look_back, looks_on, trees_stay}
 use Rattle.book_audit.proofs.all_trees.read_trees.Goals as goal
 
@@ -91,145 +89,32 @@ returns-clause-sound g c clean =
 pub returns-clause-book : goal.returns-clause-book
 returns-clause-book g c clean = of_book _ _ (returns-clause-sound g c clean)
 
--- ---- books that calls made
-
-module _ {S : Type 0} (ghosts : Ghosts S) (rulings : Rulings) where
-  -- rulings that were read are those of the trees after looks
-  ruled_on : (start mid : S) → OnlyLooks ghosts start mid → AreRuled (ghosts.view start).trees rulings
-      → IsClean (ghosts.view mid) → AreRuled (ghosts.view mid).trees rulings
-  ruled_on start mid same ruled clean =
-      subst (λ (all : Trees). AreRuled all rulings) (sym (trees_stay ghosts start mid same clean)) ruled
-
-pub returns-in_err-rulings-clause-own : goal.returns-in_err-rulings-clause-own
-returns-in_err-rulings-clause-own g c =
-    stop_passed g.S.Store c.args.trees.now.store c.read_rulings.new.trees.store
-    c.in_err-rulings.field-0.0 c.from_residual.result c.from_residual.ensures.1
-    (c.in_err-rulings.ensures.looks.own (λ clean. tt))
-
-pub returns-in_err-held-clause-own : goal.returns-in_err-held-clause-own
-returns-in_err-held-clause-own g c =
-    let zero = c.args.trees.now.store in
-    let one = c.read_rulings.new.trees.store in
-    let two = c.check_records.new.trees.store in
-    let first : IsLook g.S.Store zero one = c.in_ok-rulings.ensures.looks in
-    let stop = c.in_err-held.field-0.0 in
-    stop_passed g.S.Store zero two stop c.from_residual-in_err-held.result
-    c.from_residual-in_err-held.ensures.1
-    (stop_on g.S.Store zero one two stop first.same first.quiet c.in_err-held.ensures.looks.quiet
-    (c.in_err-held.ensures.looks.own (λ at. (
-      ruled_on g.S.Store c.in_ok-rulings.rulings zero one first.same (c.in_ok-rulings.ensures.ruled at)
-          at,
-      c.new-places.ensures,
-    ))))
-
-pub returns-in_err-lines-clause-own : goal.returns-in_err-lines-clause-own
-returns-in_err-lines-clause-own g c =
-    let zero = c.args.trees.now.store in
-    let one = c.read_rulings.new.trees.store in
-    let two = c.check_records.new.trees.store in
-    let three = c.check_lines.new.trees.store in
-    let second : IsLook g.S.Store one two = c.in_ok-held.ensures.looks in
-    let to_two : IsLook g.S.Store zero two =
-    looked_on g.S.Store zero one two c.in_ok-rulings.ensures.looks second in
-    let stop = c.in_err-lines.field-0.0 in
-    stop_passed g.S.Store zero three stop c.from_residual-in_err-lines.result
-    c.from_residual-in_err-lines.ensures.1
-    (stop_on g.S.Store zero two three stop to_two.same to_two.quiet c.in_err-lines.ensures.looks.quiet
-    (c.in_err-lines.ensures.looks.own (λ at.
-    ruled_on g.S.Store c.in_ok-rulings.rulings zero two to_two.same
-    (c.in_ok-rulings.ensures.ruled (look_back g.S.Store one two second.same at)) at)))
-
-pub returns-in_err-check_details-clause-own : goal.returns-in_err-check_details-clause-own
-returns-in_err-check_details-clause-own g c =
-    let zero = c.args.trees.now.store in
-    let one = c.read_rulings.new.trees.store in
-    let two = c.check_records.new.trees.store in
-    let three = c.check_lines.new.trees.store in
-    let four = c.check_rows.new.trees.store in
-    let five = c.check_details.new.trees.store in
-    let second : IsLook g.S.Store one two = c.in_ok-held.ensures.looks in
-    let third : IsLook g.S.Store two three = c.in_ok-lines.ensures.looks in
-    let fourth : IsLook g.S.Store three four = c.in_ok-rows.ensures.looks in
-    let to_four : IsLook g.S.Store zero four = looked_on g.S.Store zero three four
-    (looked_on g.S.Store zero two three
-    (looked_on g.S.Store zero one two c.in_ok-rulings.ensures.looks second) third) fourth in
-    let stop = c.in_err-check_details.field-0.0 in
-    stop_passed g.S.Store zero five stop c.from_residual-in_err-check_details.result
-    c.from_residual-in_err-check_details.ensures.1
-    (stop_on g.S.Store zero four five stop to_four.same to_four.quiet
-    c.in_err-check_details.ensures.looks.quiet (c.in_err-check_details.ensures.looks.own (λ at.
-    ruled_on g.S.Store c.in_ok-rulings.rulings zero four to_four.same
-    (c.in_ok-rulings.ensures.ruled (look_back g.S.Store one two second.same
-    (look_back g.S.Store two three third.same (look_back g.S.Store three four fourth.same at)))) at)))
-
--- and the charge rows are those that are due
-pub returns-in_err-rows-clause-own : goal.returns-in_err-rows-clause-own
-returns-in_err-rows-clause-own g c =
-    let zero = c.args.trees.now.store in
-    let one = c.read_rulings.new.trees.store in
-    let two = c.check_records.new.trees.store in
-    let three = c.check_lines.new.trees.store in
-    let four = c.check_rows.new.trees.store in
-    let first : IsLook g.S.Store zero one = c.in_ok-rulings.ensures.looks in
-    let second : IsLook g.S.Store one two = c.in_ok-held.ensures.looks in
-    let third : IsLook g.S.Store two three = c.in_ok-lines.ensures.looks in
-    let to_three : IsLook g.S.Store zero three = looked_on g.S.Store zero two three
-    (looked_on g.S.Store zero one two first second) third in
-    let rulings : Rulings = c.in_ok-rulings.rulings in
-    let held = c.in_ok-held.held in
-    let rows : List (RowKey × ChargeRow) = c.check_records.new.places.rows.entries in
-    let none : c.new-places.result.rows.entries ≡ [] = c.new-places.ensures ∙ keyed_rows-none in
-    stop_passed g.S.Store zero four c.in_err-rows.field-0.0 c.from_residual-in_err-rows.result
-    c.from_residual-in_err-rows.ensures.1
-    (λ whole other clean own.
-    let at_three : IsClean (g.S.Store.view three) =
-    clean_before g.S.Store c.in_err-rows.ensures.looks.quiet clean in
-    let at_two : IsClean (g.S.Store.view two) = look_back g.S.Store two three third.same at_three in
-    let at_one : IsClean (g.S.Store.view one) = look_back g.S.Store one two second.same at_two in
-    let records : AreRecords (g.S.Store.view zero).trees rulings held.records rulings.amount [] rows =
-    subst (λ (all : Trees). AreRecords all rulings held.records rulings.amount [] rows)
-    (trees_stay g.S.Store zero one first.same at_one)
-    (subst (λ (old : List (RowKey × ChargeRow)). AreRecords (g.S.Store.view one).trees rulings
-    held.records rulings.amount old rows) none (c.in_ok-held.ensures.records at_two).records) in
-    let counted : values c.check_records.new.places.rows ≡ rows_of (counted_prices records.entries) =
-    rows_counted (counted_prices records.entries) rows (records.placed [] (sym keyed_rows-none)) in
-    let due = rows_due (g.S.Store.view zero).trees own rulings (c.in_ok-rulings.ensures.ruled at_one)
-    records.entries records.all records.are.past in
-    stop_on g.S.Store zero three four c.in_err-rows.field-0.0 to_three.same to_three.quiet
-    c.in_err-rows.ensures.looks.quiet (c.in_err-rows.ensures.looks.own (λ at.
-    subst (λ (all : Trees). AreDueRows rulings.closes.items
-    (values c.check_records.new.places.rows) (all 4))
-    (sym (trees_stay g.S.Store zero three to_three.same at))
-    (subst (λ (sums : List ChargeRow). AreDueRows rulings.closes.items sums
-    ((g.S.Store.view zero).trees 4)) (sym counted) due)))
-    whole other clean own)
-
 -- ---- nothing is committed
 
 pub returns-in_err-rulings-clause-quiet : goal.returns-in_err-rulings-clause-quiet
-returns-in_err-rulings-clause-quiet g c = c.in_err-rulings.ensures.looks.quiet
+returns-in_err-rulings-clause-quiet g c = c.in_err-rulings.ensures.looks
 
 pub returns-in_err-held-clause-quiet : goal.returns-in_err-held-clause-quiet
 returns-in_err-held-clause-quiet g c =
-    quiet_both g.S.Store c.in_ok-rulings.ensures.looks.quiet c.in_err-held.ensures.looks.quiet
+    quiet_both g.S.Store c.in_ok-rulings.ensures.looks.quiet c.in_err-held.ensures.looks
 
 pub returns-in_err-lines-clause-quiet : goal.returns-in_err-lines-clause-quiet
 returns-in_err-lines-clause-quiet g c =
     quiet_both g.S.Store (quiet_both g.S.Store c.in_ok-rulings.ensures.looks.quiet
-    c.in_ok-held.ensures.looks.quiet) c.in_err-lines.ensures.looks.quiet
+    c.in_ok-held.ensures.looks.quiet) c.in_err-lines.ensures.looks
 
 pub returns-in_err-rows-clause-quiet : goal.returns-in_err-rows-clause-quiet
 returns-in_err-rows-clause-quiet g c =
     quiet_both g.S.Store (quiet_both g.S.Store (quiet_both g.S.Store
     c.in_ok-rulings.ensures.looks.quiet c.in_ok-held.ensures.looks.quiet)
-    c.in_ok-lines.ensures.looks.quiet) c.in_err-rows.ensures.looks.quiet
+    c.in_ok-lines.ensures.looks.quiet) c.in_err-rows.ensures.looks
 
 pub returns-in_err-check_details-clause-quiet : goal.returns-in_err-check_details-clause-quiet
 returns-in_err-check_details-clause-quiet g c =
     quiet_both g.S.Store (quiet_both g.S.Store (quiet_both g.S.Store (quiet_both g.S.Store
     c.in_ok-rulings.ensures.looks.quiet c.in_ok-held.ensures.looks.quiet)
     c.in_ok-lines.ensures.looks.quiet) c.in_ok-rows.ensures.looks.quiet)
-    c.in_err-check_details.ensures.looks.quiet
+    c.in_err-check_details.ensures.looks
 
 -- ---- a whole audit only looks
 

@@ -1,10 +1,9 @@
 use Rattle.std.proofs.Common.{◌≡◌, List}
 use Rattle.sqlite_trees.specs.View.{IsClean}
-use Rattle.book_audit.specs.ChoiceRows.{AreMade, Made, made_rows, said}
+use Rattle.book_audit.specs.ChoiceRows.{AreMade, Made, made_rows}
 use Rattle.book_audit.specs.Looks.{IsLook}
 use Rattle.book_audit.specs.Walks.{HasWalked}
 use Rattle.book_audit.specs.declared.finding.Tree.TheVariants.{Choices}
-use Rattle.book_audit.proofs.Own.Choices.{since_from}
 use Rattle.book_audit.proofs.choices.read_choices.Given as goal
 
 -- the rows so far are those of choices
@@ -15,6 +14,5 @@ invariant-choices g l = record {
   read : IsClean (g.S.Store.view l.trees.store) → (made : List Made)
       × HasWalked Choices l.walk.key ((g.S.Store.view l.fn.trees.store).trees 8) (made_rows made)
       × AreMade (g.S.Store.view l.fn.trees.store).trees l.rule l.open_period l.chosen made
-      × (l.chosen.since ≡ since_from 1 (said made))
       × (l.chosen.count ≡ l.count);
 }

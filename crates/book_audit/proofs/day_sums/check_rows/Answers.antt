@@ -3,7 +3,7 @@ use Rattle.std.specs.BTreeMap.{values}
 use Rattle.sqlite_trees.specs.Tree.{Trees}
 use Rattle.book_model.specs.declared.row.ChargeRow.{ChargeRow}
 use Rattle.book_audit.specs.Days.{AreDueRows}
-use Rattle.book_audit.proofs.Own.Stops.{no_memory_yet, nothing, passed, stopped_on}
+use Rattle.book_audit.proofs.Walks.Looks.{nothing, passed}
 use Rattle.book_audit.proofs.day_sums.check_rows.Goals as goal
 
 pub returns-clause-rows : goal.returns-clause-rows
@@ -18,20 +18,13 @@ returns-clause-rows g c clean =
 
 pub returns-in_err-due-clause-looks : goal.returns-in_err-due-clause-looks
 returns-in_err-due-clause-looks g c =
-    no_memory_yet g.S.Store _ c.args.trees.now.store c.from_residual.result c.from_residual.ensures.1
+    let start = c.args.trees.now.store in
+    passed g.S.Store start start _ c.from_residual.ensures.0 (nothing g.S.Store start).quiet
 
 pub returns-in_err-read_rows-clause-looks : goal.returns-in_err-read_rows-clause-looks
 returns-in_err-read_rows-clause-looks g c =
-    let start = c.args.trees.now.store in
-    let new = c.read_rows.new.trees.store in
-    let stop = c.in_err-read_rows.field-0.0 in
-    let closes : List ℤ = c.args.rulings.now.closes.items in
-    let is : values c.args.places.rows ≡ c.deref.result.now = search rules in
-    passed g.S.Store start new stop _ c.from_residual-in_err-read_rows.ensures.1
-    (stopped_on g.S.Store start start new stop (nothing g.S.Store start)
-    c.in_err-read_rows.ensures.looks (λ known clean.
-    subst (λ (sums : List ChargeRow). AreDueRows closes sums ((g.S.Store.view start).trees 4)) is
-    (known clean)))
+    passed g.S.Store c.args.trees.now.store c.read_rows.new.trees.store _
+    c.from_residual-in_err-read_rows.ensures.0 c.in_err-read_rows.ensures.looks
 
 pub returns-clause-looks : goal.returns-clause-looks
 returns-clause-looks g c = c.in_ok-read_rows.ensures.looks

@@ -2,5 +2,5 @@ use Rattle.std.proofs.Common.{rules}
 use Rattle.book_audit.proofs.Rows.Columns.{row_is}
 use Rattle.book_audit.proofs.day_sums.row_in.Goals as goal
 
-pub returns-clause-read : goal.returns-clause-read
-returns-clause-read c = row_is c.args.row.now _ c.requires (search rules parts 13)
+pub returns : goal.returns
+returns c = record { read = row_is c.args.row.now _ c.requires (search rules parts 13) }

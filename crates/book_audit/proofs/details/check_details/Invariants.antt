@@ -1,4 +1,4 @@
-use Rattle.std.proofs.Common.{◌≡◌, List, length, map}
+use Rattle.std.proofs.Common.{◌≡◌, List, map}
 use Rattle.std.specs.List.{AllByRecursion}
 use Rattle.sqlite_trees.specs.View.{IsClean}
 use Rattle.book_model.specs.declared.detail.Detail.{Detail}
@@ -17,6 +17,5 @@ invariant-rows g l = record {
   read : IsClean (g.S.Store.view l.trees.store) → (shown : List Detail)
       × HasWalked Details l.walk.key ((g.S.Store.view l.fn.trees.store).trees 10)
       (map (λ one. detail_columns (one, tt)) shown)
-      × AllByRecursion (ShowsCounted (g.S.Store.view l.fn.trees.store).trees l.rulings.closes.items) shown
-      × (l.count ≡ length shown);
+      × AllByRecursion (ShowsCounted (g.S.Store.view l.fn.trees.store).trees l.rulings.closes.items) shown;
 }

@@ -5,9 +5,8 @@ use Rattle.sqlite_value.specs.Order.{Row}
 use Rattle.book_audit.specs.Entries.{AreCounted, IsEntry}
 use Rattle.book_audit.specs.Looks.{IsLook}
 use Rattle.book_audit.specs.Trees.{tree_number}
-use Rattle.book_audit.proofs.Own.Entries.{own_entries}
-use Rattle.book_audit.proofs.Own.Stops.{looked_on, never, nothing, passed, walk_ends, walk_stopped}
-use Rattle.book_audit.proofs.Walks.Steps.{its_row, look_back, read_all, read_on}
+use Rattle.book_audit.proofs.Walks.Looks.{looked_on, nothing, passed, stopped_on}
+use Rattle.book_audit.proofs.Walks.Steps.{look_back, read_all, read_on}
 use Rattle.book_audit.proofs.entry_counts.count_rows.Goals as goal
 
 pub entries-init : goal.entries-init
@@ -65,49 +64,23 @@ returns-then-not-branch-clause-counted g c clean =
     subst (λ (rows : List Row). AreCounted c.args.tree rows c.entries.count) (sym all)
     (record { each = read.2; wide = read.1.wide; rising = read.1.rising; are = read.3 })
 
--- the rows of own books are all read,
 pub returns-in_err-next-clause-looks : goal.returns-in_err-next-clause-looks
 returns-in_err-next-clause-looks g c =
     let start = c.args.trees.now.store in
+    let mid = c.entries.trees.store in
     let next = c.next.new.trees.store in
-    let so_far = c.entries.invariant in
-    let stop = c.in_err-next.field-0.0 in
-    passed g.S.Store start next stop _ c.from_residual.ensures.1
-    (walk_stopped g.S.Store start c.entries.trees.store next c.args.tree c.entries.walk stop so_far.tree
-    so_far.looks c.in_err-next.ensures.looks (λ back. ((so_far.read back).0, (so_far.read back).1)))
+    passed g.S.Store start next _ c.from_residual.ensures.0
+    (stopped_on g.S.Store start mid next c.entries.invariant.looks c.in_err-next.ensures.looks)
 
 pub returns-then-not-branch-clause-looks : goal.returns-then-not-branch-clause-looks
 returns-then-not-branch-clause-looks g c =
     looked_on g.S.Store c.args.trees.now.store c.entries.trees.store c.next.new.trees.store
     c.entries.invariant.looks c.in_ok-next.ensures.looks
 
--- are entries,
 pub returns-then-not-is_entry-clause-looks : goal.returns-then-not-is_entry-clause-looks
 returns-then-not-is_entry-clause-looks g c =
-    let start = c.args.trees.now.store in
-    let mid = c.entries.trees.store in
-    let next = c.next.new.trees.store in
-    let so_far = c.entries.invariant in
-    let call : IsLook g.S.Store mid next = c.in_ok-next.ensures.looks in
-    never g.S.Store start next _
-    (looked_on g.S.Store start mid next so_far.looks call).quiet (λ known clean own.
-    let tree = c.args.tree in
-    let row : Row = c.next.new.self.row in
-    let its : IsEntry tree row =
-    its_row g.S.Store start mid next tree c.entries.walk c.next.new.self c.in_ok-next.field-0
-    so_far.tree so_far.looks.same call.same c.in_ok-next.ensures.next
-    (λ back. ((so_far.read back).0, (so_far.read back).1)) clean c.if-not-branch.false (IsEntry tree)
-    (own_entries (g.S.Store.view start).trees own tree c.requires) in
-    let not_its : ¬ IsEntry tree row = search rules in
-    not_its its)
+    (looked_on g.S.Store c.args.trees.now.store c.entries.trees.store c.next.new.trees.store
+    c.entries.invariant.looks c.in_ok-next.ensures.looks).quiet
 
--- and no tree is so long that it is not walked over
 pub returns-clause-looks : goal.returns-clause-looks
-returns-clause-looks g c = record {
-  quiet = c.entries.invariant.looks.quiet;
-  own = λ known whole other clean own.
-      let read = c.entries.invariant.read clean in
-      absurd (walk_ends (g.S.Store.view c.args.trees.now.store) c.endless.result whole
-      c.endless.ensures (tree_number c.args.tree) read.0 _ read.1.left
-      (omega (arith, read.3, c.entries-test.false)));
-}
+returns-clause-looks g c = c.entries.invariant.looks.quiet

@@ -1,24 +1,17 @@
 use Rattle.std.proofs.Common.{◌≡◌, ◌∙◌, ◌++◌, ◌∷◌, [], ℕ, ℤ, Bool, List, length, map, ap, arith}
 use Rattle.std.proofs.Common.{length-append, refl, subst, sym}
-use Rattle.std.proofs.lemmas.List.{length-map, map-append}
+use Rattle.std.proofs.lemmas.List.{map-append}
 use Rattle.sqlite_trees.specs.Tree.{Trees}
 use Rattle.sqlite_trees.specs.View.{IsClean}
 use Rattle.sqlite_trees.proofs.ListLemmas.{all-append}
-use Rattle.sqlite_value.specs.Order.{Row, column}
-use Rattle.table_model.specs.Tables.{Tables}
+use Rattle.sqlite_value.specs.Order.{Row}
 use Rattle.tree_tables.specs.Columns.{line_columns}
-use Rattle.tree_tables.specs.Fits.{HasPeriod, LineFits}
-use Rattle.tree_tables.specs.Holds.{Holds}
 use Rattle.book_audit.specs.Lines.{IsLateLine, line_entry}
 use Rattle.book_audit.specs.Looks.{IsLook}
 use Rattle.book_audit.specs.Walks.{AreRising, HasWalked}
 use Rattle.book_audit.specs.declared.finding.Tree.TheVariants.{Lines}
-use Rattle.book_audit.specs.SoundTrees.{AreRuled}
-use Rattle.book_audit.proofs.Walks.Steps.{its_row, look_back, read_all, read_on, trees_stay}
-use Rattle.book_audit.proofs.Own.Records.{IsLineOf, line_had, line_row_fits, lines_of}
-use Rattle.book_audit.proofs.Own.Stops.{looked_on, never, nothing, passed, stopped_on, walk_ends}
-use Rattle.book_audit.proofs.Own.Stops.{walk_stopped}
-use Rattle.book_audit.proofs.Own.Tables.{own_tables}
+use Rattle.book_audit.proofs.Walks.Looks.{looked_on, nothing, passed, stopped_on}
+use Rattle.book_audit.proofs.Walks.Steps.{look_back, read_all, read_on, trees_stay}
 use Rattle.book_audit.proofs.lines.check_lines.Goals as goal
 
 pub lines-init : goal.lines-init
@@ -93,79 +86,34 @@ returns-then-not-branch-clause-lines g c clean =
       counted = read.2;
     }
 
--- the rows of own books are all read,
 pub returns-in_err-next-clause-looks : goal.returns-in_err-next-clause-looks
 returns-in_err-next-clause-looks g c =
     let start = c.args.trees.now.store in
+    let mid = c.lines.trees.store in
     let next = c.next.new.trees.store in
-    let so_far = c.lines.invariant in
-    let stop = c.in_err-next.field-0.0 in
-    passed g.S.Store start next stop _ c.from_residual.ensures.1
-    (walk_stopped g.S.Store start c.lines.trees.store next Lines c.lines.walk stop so_far.tree
-    so_far.looks c.in_err-next.ensures.looks
-    (λ back. let read = so_far.read back in (map line_columns read.0, read.1)))
+    passed g.S.Store start next _ c.from_residual.ensures.0
+    (stopped_on g.S.Store start mid next c.lines.invariant.looks c.in_err-next.ensures.looks)
 
 pub returns-then-not-branch-clause-looks : goal.returns-then-not-branch-clause-looks
 returns-then-not-branch-clause-looks g c =
     looked_on g.S.Store c.args.trees.now.store c.lines.trees.store c.next.new.trees.store
     c.lines.invariant.looks c.in_ok-next.ensures.looks
 
--- are those of lines,
 pub returns-in-Err-clause-looks : goal.returns-in-Err-clause-looks
 returns-in-Err-clause-looks g c =
-    let start = c.args.trees.now.store in
-    let mid = c.lines.trees.store in
-    let next = c.next.new.trees.store in
-    let so_far = c.lines.invariant in
-    let row : Row = c.next.new.self.row in
-    let call : IsLook g.S.Store mid next = c.in_ok-next.ensures.looks in
-    never g.S.Store start next _ (looked_on g.S.Store start mid next so_far.looks call).quiet
-    (λ known clean own.
-    let trees : Trees = (g.S.Store.view start).trees in
-    let tables : Tables = own_tables trees own in
-    let is = its_row g.S.Store start mid next Lines c.lines.walk c.next.new.self
-    c.in_ok-next.field-0 so_far.tree so_far.looks.same call.same c.in_ok-next.ensures.next
-    (λ back. let read = so_far.read back in (map line_columns read.0, read.1)) clean
-    c.if-not-branch.false (IsLineOf tables) (lines_of trees tables own.holds) in
-    let fits = line_row_fits trees own row is in
-    let shown = sym c.row.ensures in
-    c.in-Err.ensures.taken (subst (λ (r : Row). HasPeriod (column r 0)) shown fits.0)
-    (subst LineFits shown fits.1))
+    (looked_on g.S.Store c.args.trees.now.store c.lines.trees.store c.next.new.trees.store
+    c.lines.invariant.looks c.in_ok-next.ensures.looks).quiet
 
--- and each of these is right
 pub returns-in_err-check_line-clause-looks : goal.returns-in_err-check_line-clause-looks
 returns-in_err-check_line-clause-looks g c =
     let start = c.args.trees.now.store in
     let mid = c.lines.trees.store in
     let next = c.next.new.trees.store in
     let new = c.check_line.new.trees.store in
-    let so_far = c.lines.invariant in
-    let entry : (ℕ × List ℕ) × Bool = line_entry c.in-Ok.line in
-    let is : c.next.new.self.row ≡ line_columns entry = sym c.row.ensures ∙ c.in-Ok.ensures.read in
-    let call : IsLook g.S.Store mid next = c.in_ok-next.ensures.looks in
-    let both : IsLook g.S.Store start next = looked_on g.S.Store start mid next so_far.looks call in
-    let stop = c.in_err-check_line.field-0.0 in
-    passed g.S.Store start new stop _ c.from_residual-in_err-check_line.ensures.1
-    (stopped_on g.S.Store start next new stop both c.in_err-check_line.ensures.looks (λ known back.
-    let stay = trees_stay g.S.Store start next both.same back in (
-      subst (λ (all : Trees). AreRuled all c.args.rulings.now) (sym stay)
-          (known (look_back g.S.Store start next both.same back)),
-      λ tables holds. line_had tables entry (subst (IsLineOf tables) is
-          (its_row g.S.Store start mid next Lines c.lines.walk c.next.new.self
-          c.in_ok-next.field-0 so_far.tree so_far.looks.same call.same c.in_ok-next.ensures.next
-          (λ back. let read = so_far.read back in (map line_columns read.0, read.1)) back
-          c.if-not-branch.false (IsLineOf tables) (lines_of (g.S.Store.view start).trees tables
-          (subst (λ (all : Trees). Holds all tables) stay holds)))),
-    )))
+    passed g.S.Store start new _ c.from_residual-in_err-check_line.ensures.0
+    (stopped_on g.S.Store start next new
+    (looked_on g.S.Store start mid next c.lines.invariant.looks c.in_ok-next.ensures.looks)
+    c.in_err-check_line.ensures.looks)
 
--- and no tree is so long that it is not walked over
 pub returns-clause-looks : goal.returns-clause-looks
-returns-clause-looks g c = record {
-  quiet = c.lines.invariant.looks.quiet;
-  own = λ known whole other clean own.
-      let read = c.lines.invariant.read clean in
-      let long = length-map read.0 line_columns in
-      absurd (walk_ends (g.S.Store.view c.args.trees.now.store) c.endless.result whole
-      c.endless.ensures 5 (map line_columns read.0) _ read.1.left
-      (omega (arith, long, read.2, c.lines-test.false)));
-}
+returns-clause-looks g c = c.lines.invariant.looks.quiet

@@ -1,22 +1,17 @@
-use Rattle.std.proofs.Common.{◌≡◌, ◌<◌, ◌∙◌, ap, sym, ◌∷◌, ◌-◌, [], ℕ, List, IfSome, is_some, pos}
-use Rattle.std.proofs.Common.{rules, subst, Bool, Option, ◌+◌, suc, true, false, Some, None, not}
+use Rattle.std.proofs.Common.{◌≡◌, sym, ◌∷◌, ◌-◌, [], ℕ, List, IfSome, is_some, pos}
+use Rattle.std.proofs.Common.{subst, Bool, Option, ◌+◌, suc, true, false, Some, None, not}
 use Rattle.std.proofs.Common.{arith, refl}
-use Rattle.std.specs.FinMap.{get}
 use Rattle.std.specs.Bool.{beq}
 use Rattle.sqlite_trees.specs.Tree.{Trees}
 use Rattle.sqlite_trees.specs.View.{IsClean}
 use Rattle.sqlite_value.specs.Order.{Row, column}
 use Rattle.sqlite_value.specs.declared.value.Value.TheVariants.{Blob, Int}
-use Rattle.book_model.specs.Words.{open_by}
-use Rattle.consistent_tables.specs.Consistent.{charged_back, line_at, ruled}
-use Rattle.consistent_tables.proofs.ChargedSets.{in_turn}
 use Rattle.tree_rows.specs.Rows.{Finds}
 use Rattle.tree_tables.specs.Columns.{flag}
 use Rattle.book_audit.specs.Looks.{IsLook}
 use Rattle.book_audit.specs.Records.{GoesBack, IsLine, Turns}
 use Rattle.book_audit.specs.Records.Turns.{Stays, Turned}
-use Rattle.book_audit.proofs.Held.Looks.{line_looked, went_back}
-use Rattle.book_audit.proofs.Own.Stops.{looked_on, nothing, passed, stopped_on}
+use Rattle.book_audit.proofs.Walks.Looks.{looked_on, nothing, passed, stopped_on}
 use Rattle.book_audit.proofs.Walks.Steps.{look_back, trees_stay}
 use Rattle.book_audit.proofs.marks.past_of.Goals.{in-Some+else-plus-now, in_default}
 use Rattle.book_audit.proofs.marks.past_of.Goals as goal
@@ -93,16 +88,13 @@ loop-back-preserved g c =
           (so_far.back (look_back g.S.Store mid new call.same clean)) (is clean) turns;
     }
 
--- a look-up fails for a cause
 pub returns-in_err-line-clause-looks : goal.returns-in_err-line-clause-looks
 returns-in_err-line-clause-looks g c =
     let start = c.args.trees.now.store in
     let mid = c.loop-back.trees.store in
     let new = c.line_of.new.self.store in
-    let stop = c.in_err-line.field-0.0 in
-    passed g.S.Store start new stop _ c.from_residual.ensures.1
-    (stopped_on g.S.Store start mid new stop c.loop-back.invariant.looks c.in_err-line.ensures.looks
-    (λ known clean. tt))
+    passed g.S.Store start new _ c.from_residual.ensures.0
+    (stopped_on g.S.Store start mid new c.loop-back.invariant.looks c.in_err-line.ensures.looks)
 
 pub returns-then-plus-now-clause-looks : goal.returns-then-plus-now-clause-looks
 returns-then-plus-now-clause-looks g c =
@@ -111,42 +103,3 @@ returns-then-plus-now-clause-looks g c =
 
 pub returns-clause-looks : goal.returns-clause-looks
 returns-clause-looks g c = c.loop-back.invariant.looks
-
--- a line that is in turn says what is charged
-pub returns-then-plus-now-clause-other : goal.returns-then-plus-now-clause-other
-returns-then-plus-now-clause-other g c clean none tables holds last turns =
-    let start = c.args.trees.now.store in
-    let mid = c.loop-back.trees.store in
-    let new = c.line_of.new.self.store in
-    let name : List ℕ = c.args.name.now in
-    let line = c.in_ok-line.line in
-    let found : Row = c.line_of.new.self.found in
-    let back = c.loop-back.back in
-    let period : ℕ = c.args.last - back in
-    let so_far = c.loop-back.invariant in
-    let call : IsLook g.S.Store mid new = c.in_ok-line.ensures.looks in
-    let finds : IsClean (g.S.Store.view new) → Finds (Int (pos period) ∷ Blob name ∷ [])
-    ((g.S.Store.view mid).trees 5) found (is_some line) = c.in_ok-line.ensures.found in
-    let read : IfSome line (λ plus. column found 2 ≡ Int (pos (flag plus))) = c.in_ok-line.ensures.read in
-    let before : IsClean (g.S.Store.view mid) = look_back g.S.Store mid new call.same clean in
-    let trees : Trees = (g.S.Store.view start).trees in
-    let is : IsLine (trees 5) period name line = record {
-      row = found;
-      finds = subst (λ (all : Trees). Finds (Int (pos period) ∷ Blob name ∷ []) (all 5) found
-          (is_some line)) (trees_stay g.S.Store start mid so_far.looks.same before) (finds clean);
-      says = read;
-    } in
-    let inside : back < c.args.last - c.args.own = search rules in
-    let its : line ≡ line_at tables name (open_by (ruled tables) - back) =
-    line_looked trees tables holds period name line is
-    ∙ ap (λ n. get tables.lines (n - back, name)) last in
-    let turn : IfSome line (λ plus. plus ≡ charged_back tables name back c.args.charged) =
-    subst (λ (l : Option Bool). IfSome l (λ plus. plus ≡ charged_back tables name back c.args.charged))
-    (sym its) (in_turn tables name c.args.charged (c.args.last - c.args.own) back turns inside) in
-    let same : c.loop-back.now ≡ charged_back tables name back c.args.charged =
-    (went_back trees tables holds name c.args.last back c.args.charged c.loop-back.now last
-    (so_far.back before)).0 in
-    let plus : c.in-Some.plus ≡ c.loop-back.now =
-    subst (λ (l : Option Bool). IfSome l (λ plus. plus ≡ charged_back tables name back c.args.charged))
-    c.in-Some.is turn ∙ sym same in
-    search rules

@@ -1,4 +1,4 @@
-use Rattle.std.proofs.Common.{◌≡◌, ◌∙◌, ◌∷◌, [], ap, false, true, pos, rules, subst}
+use Rattle.std.proofs.Common.{◌∷◌, [], true, pos, rules, subst}
 use Rattle.sqlite_trees.specs.Tree.{Trees}
 use Rattle.sqlite_trees.specs.View.{IsClean}
 use Rattle.sqlite_value.specs.Order.{Row}
@@ -6,15 +6,8 @@ use Rattle.sqlite_value.specs.declared.value.Value.TheVariants.{Blob, Int}
 use Rattle.tree_rows.specs.Calls.{OnlyLooks}
 use Rattle.tree_rows.specs.Rows.{Finds}
 use Rattle.tree_tables.specs.Columns.{flag}
-use Rattle.tree_tables.specs.Stored.{stored_entry}
-use Rattle.book_audit.specs.Choices.{is_last}
-use Rattle.book_audit.specs.Marks.{should_be_charged}
 use Rattle.book_audit.specs.Trees.{FindsTwo}
-use Rattle.book_audit.specs.declared.choices.Chosen.{Chosen}
-use Rattle.book_audit.proofs.Held.Looks.{identity_found, mark_found}
-use Rattle.book_audit.proofs.Own.Records.{own_due}
-use Rattle.book_audit.proofs.Own.Stops.{looked_on, passed, stopped_on}
-use Rattle.book_audit.proofs.Own.Tables.{own_tables}
+use Rattle.book_audit.proofs.Walks.Looks.{looked_on, passed, stopped_on}
 use Rattle.book_audit.proofs.Walks.Steps.{look_back, looks_on, trees_stay}
 use Rattle.book_audit.proofs.marks.wrong_by_trees.Goals as goal
 
@@ -73,11 +66,10 @@ returns-clause-charged g c clean none =
       is = search rules;
     }
 
--- look-ups fail for a cause
 pub returns-in_err-has_identity-clause-looks : goal.returns-in_err-has_identity-clause-looks
 returns-in_err-has_identity-clause-looks g c =
-    passed g.S.Store c.args.trees.now.store c.has_identity.new.self.store
-    c.in_err-has_identity.field-0.0 _ c.from_residual.ensures.1 c.in_err-has_identity.ensures.looks
+    passed g.S.Store c.args.trees.now.store c.has_identity.new.self.store _
+    c.from_residual.ensures.0 c.in_err-has_identity.ensures.looks
 
 pub returns-then-not-branch-clause-looks : goal.returns-then-not-branch-clause-looks
 returns-then-not-branch-clause-looks g c = c.in_ok-has_identity.ensures.looks
@@ -87,10 +79,9 @@ returns-in_err-has_mark-clause-looks g c =
     let zero = c.args.trees.now.store in
     let one = c.has_identity.new.self.store in
     let two = c.has_mark.new.self.store in
-    let stop = c.in_err-has_mark.field-0.0 in
-    passed g.S.Store zero two stop _ c.from_residual-in_err-has_mark.ensures.1
-    (stopped_on g.S.Store zero one two stop c.in_ok-has_identity.ensures.looks
-    c.in_err-has_mark.ensures.looks (λ known clean. tt))
+    passed g.S.Store zero two _ c.from_residual-in_err-has_mark.ensures.0
+    (stopped_on g.S.Store zero one two c.in_ok-has_identity.ensures.looks
+    c.in_err-has_mark.ensures.looks)
 
 pub returns-then-not-branch-2-clause-looks : goal.returns-then-not-branch-2-clause-looks
 returns-then-not-branch-2-clause-looks g c =
@@ -103,11 +94,10 @@ returns-in_err-is_shared-clause-looks g c =
     let one = c.has_identity.new.self.store in
     let two = c.has_mark.new.self.store in
     let three = c.is_shared.new.self.store in
-    let stop = c.in_err-is_shared.field-0.0 in
-    passed g.S.Store zero three stop _ c.from_residual-in_err-is_shared.ensures.1
-    (stopped_on g.S.Store zero two three stop
+    passed g.S.Store zero three _ c.from_residual-in_err-is_shared.ensures.0
+    (stopped_on g.S.Store zero two three
     (looked_on g.S.Store zero one two c.in_ok-has_identity.ensures.looks c.in_ok-has_mark.ensures.looks)
-    c.in_err-is_shared.ensures.looks (λ known clean. tt))
+    c.in_err-is_shared.ensures.looks)
 
 pub returns-then-stored-should_be_charged-clause-looks :
     goal.returns-then-stored-should_be_charged-clause-looks
@@ -127,66 +117,3 @@ returns-clause-looks g c =
     looked_on g.S.Store zero two c.is_shared.new.self.store
     (looked_on g.S.Store zero one two c.in_ok-has_identity.ensures.looks c.in_ok-has_mark.ensures.looks)
     c.in_ok-is_shared.ensures.looks
-
--- a record of own books is found by its identity,
-pub returns-then-not-branch-clause-other : goal.returns-then-not-branch-clause-other
-returns-then-not-branch-clause-other g c clean rulings same are =
-    let zero = c.args.trees.now.store in
-    let one = c.has_identity.new.self.store in
-    let stored = c.args.stored.now in
-    let trees : Trees = (g.S.Store.view zero).trees in
-    let row : Row = c.has_identity.new.self.found in
-    let finds : IsClean (g.S.Store.view one) → Finds (Blob stored.identity.items ∷ Blob stored.name ∷ [])
-    (trees 6) row false = λ at.
-    subst (Finds (Blob stored.identity.items ∷ Blob stored.name ∷ []) (trees 6) row)
-    c.if-not-branch.true (c.in_ok-has_identity.ensures.found at) in
-    identity_found trees (own_tables trees are.own) are.own.holds stored.name (stored_entry stored).1 row
-    (are.held (own_tables trees are.own) are.own.holds) (finds clean)
-
--- and by its mark,
-pub returns-then-not-branch-2-clause-other : goal.returns-then-not-branch-2-clause-other
-returns-then-not-branch-2-clause-other g c clean rulings same are =
-    let zero = c.args.trees.now.store in
-    let one = c.has_identity.new.self.store in
-    let two = c.has_mark.new.self.store in
-    let stored = c.args.stored.now in
-    let trees : Trees = (g.S.Store.view zero).trees in
-    let row : Row = c.has_mark.new.self.found in
-    let key : Row = Int (pos (flag stored.charged)) ∷ Blob stored.identity.items ∷ Blob stored.name ∷ [] in
-    let first : OnlyLooks g.S.Store zero one = c.in_ok-has_identity.ensures.looks.same in
-    let second : OnlyLooks g.S.Store one two = c.in_ok-has_mark.ensures.looks.same in
-    let finds : IsClean (g.S.Store.view two) → Finds key ((g.S.Store.view one).trees 7) row false = λ at.
-    subst (Finds key ((g.S.Store.view one).trees 7) row) c.if-not-branch-2.true
-    (c.in_ok-has_mark.ensures.found at) in
-    mark_found trees (own_tables trees are.own) are.own.holds stored.name (stored_entry stored).1 row
-    (are.held (own_tables trees are.own) are.own.holds)
-    (subst (λ (all : Trees). Finds key (all 7) row false)
-    (trees_stay g.S.Store zero one first (look_back g.S.Store one two second clean)) (finds clean))
-
--- and is charged as it is to be
-pub returns-then-stored-should_be_charged-clause-other :
-    goal.returns-then-stored-should_be_charged-clause-other
-returns-then-stored-should_be_charged-clause-other g c clean rulings same are =
-    let zero = c.args.trees.now.store in
-    let one = c.has_identity.new.self.store in
-    let two = c.has_mark.new.self.store in
-    let three = c.is_shared.new.self.store in
-    let stored = c.args.stored.now in
-    let key : Row = Blob stored.identity.items ∷ [] in
-    let row : Row = c.is_shared.new.self.found in
-    let shared = c.in_ok-is_shared.is_shared in
-    let first : OnlyLooks g.S.Store zero one = c.in_ok-has_identity.ensures.looks.same in
-    let second : OnlyLooks g.S.Store one two = c.in_ok-has_mark.ensures.looks.same in
-    let third : OnlyLooks g.S.Store two three = c.in_ok-is_shared.ensures.looks.same in
-    let looked : IsClean (g.S.Store.view three) → FindsTwo key ((g.S.Store.view two).trees 6) row shared =
-    λ at. subst (λ bytes. FindsTwo (Blob bytes ∷ []) ((g.S.Store.view two).trees 6) row shared)
-    c.deref.ensures.value (c.in_ok-is_shared.ensures.found at) in
-    let due = own_due (g.S.Store.view zero).trees rulings (stored_entry stored) row shared are
-    (subst (λ (all : Trees). FindsTwo key (all 6) row shared)
-    (trees_stay g.S.Store zero two (looks_on g.S.Store zero one two first second)
-    (look_back g.S.Store two three third clean)) (looked clean)) in
-    let its : stored.charged ≡ should_be_charged shared
-    (is_last c.args.chosen.now stored.identity.items stored.name) =
-    due ∙ ap (λ (chosen : Chosen). should_be_charged shared
-    (is_last chosen stored.identity.items stored.name)) same in
-    search rules

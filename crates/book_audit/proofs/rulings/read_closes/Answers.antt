@@ -1,9 +1,8 @@
-use Rattle.std.proofs.Common.{◌≡◌, ◌∙◌, ◌++◌, ◌∷◌, [], ℤ, All, List, None, map, ap, arith}
-use Rattle.std.proofs.Common.{length, length-append, rules, subst, sym, w32, int_cmp}
+use Rattle.std.proofs.Common.{◌≡◌, ◌∙◌, ◌++◌, ◌∷◌, [], ℤ, All, List, None, map, ap}
+use Rattle.std.proofs.Common.{rules, subst, sym, w32, int_cmp}
 use Rattle.std.specs.List.{last_or}
 use Rattle.std.specs.List.Sorted.{IsStrictlySortedBy}
 use Rattle.std.proofs.lemmas.Int.{to_z-of_z}
-use Rattle.std.proofs.lemmas.List.{length-map}
 use Rattle.std.proofs.lemmas.List.Elements.{All-nil, All-push}
 use Rattle.sqlite_value.specs.Order.{Row}
 use Rattle.book_model.specs.Words.{IsDay}
@@ -11,17 +10,13 @@ use Rattle.book_model.proofs.DayLemmas.{day_fits}
 use Rattle.table_model.specs.TablesOf.{close_entries}
 use Rattle.table_model.proofs.CloseOrder.{rise_behind}
 use Rattle.tree_tables.specs.Columns.{closed_columns}
-use Rattle.tree_tables.specs.Fits.{CloseFits}
 use Rattle.book_audit.specs.Looks.{IsLook}
-use Rattle.book_audit.specs.Rulings.{IsCloseRow, IsNextRow}
+use Rattle.book_audit.specs.Rulings.{IsCloseRow}
 use Rattle.book_audit.specs.Walks.{HasWalked}
 use Rattle.book_audit.specs.declared.finding.Tree.TheVariants.{Closes}
-use Rattle.book_audit.proofs.Rows.Columns.{long_numbers}
 use Rattle.book_audit.proofs.Rows.Rulings.{closes_pushed, is_later}
-use Rattle.book_audit.proofs.Own.Rulings.{own_closes_fit, own_next_close}
-use Rattle.book_audit.proofs.Own.Stops.{looked_on, never, no_memory, nothing, passed, walk_ends}
-use Rattle.book_audit.proofs.Own.Stops.{walk_stopped}
-use Rattle.book_audit.proofs.Walks.Steps.{its_place, its_row, read_all, read_on}
+use Rattle.book_audit.proofs.Walks.Looks.{looked_on, nothing, passed, stopped_on}
+use Rattle.book_audit.proofs.Walks.Steps.{read_all, read_on}
 use Rattle.book_audit.proofs.rulings.read_closes.Goals as goal
 
 -- the rows of the closes through these days
@@ -38,7 +33,6 @@ closes-init g c = record {
       let none : c.new-days.result.items ≡ [] = c.new-days.ensures.items in
       subst (λ days. HasWalked Closes c.begin.new.self.key rows
       (map closed_columns (close_entries 1 days))) (sym none) (c.begin.ensures.start rows);
-  counted = sym (ap length c.new-days.ensures.items);
   days = subst (All IsDay) (sym c.new-days.ensures.items) (All-nil IsDay);
   in_order = subst (IsStrictlySortedBy int_cmp) (sym c.new-days.ensures.items) tt;
 }
@@ -59,8 +53,6 @@ closes-preserved g c =
     let pushed : c.push.new.self.items ≡ days ++ day ∷ [] =
     c.in_ok-push.ensures.items ∙ ap (λ (one : ℤ). days ++ one ∷ [])
     (to_z-of_z w32 got (day_fits got (subst IsDay (sym its.through) next.day)) ∙ its.through) in
-    let long = ap length pushed ∙ length-append days (day ∷ []) in
-    let so_many = so_far.counted in
     record {
       tree = c.next.ensures.tree ∙ so_far.tree;
       looks = looked_on g.S.Store start mid new so_far.looks call;
@@ -71,7 +63,6 @@ closes-preserved g c =
           (read_on g.S.Store start mid new Closes c.closes.walk c.next.new.self c.in_ok-next.field-0
           so_far.tree so_far.looks.same call.same c.in_ok-next.ensures.next
           (λ back. (closed_rows days, so_far.walked back)) clean c.if-not-branch.false);
-      counted = omega (arith, long, so_many);
       days = subst (All IsDay) (sym pushed) (All-push IsDay days day so_far.days next.day);
       in_order = subst (IsStrictlySortedBy int_cmp) (sym pushed) (rise_behind days day
           so_far.in_order (is_later (last_or None days) day next.later));
@@ -93,63 +84,31 @@ returns-then-not-branch-clause-closed g c clean =
 pub returns-in_err-next-clause-looks : goal.returns-in_err-next-clause-looks
 returns-in_err-next-clause-looks g c =
     let start = c.args.trees.now.store in
+    let mid = c.closes.trees.store in
     let next = c.next.new.trees.store in
-    let so_far = c.closes.invariant in
-    let stop = c.in_err-next.field-0.0 in
-    passed g.S.Store start next stop _ c.from_residual.ensures.1
-    (walk_stopped g.S.Store start c.closes.trees.store next Closes c.closes.walk stop so_far.tree
-    so_far.looks c.in_err-next.ensures.looks
-    (λ back. (closed_rows c.closes.days.items, so_far.walked back)))
+    passed g.S.Store start next _ c.from_residual.ensures.0
+    (stopped_on g.S.Store start mid next c.closes.invariant.looks c.in_err-next.ensures.looks)
 
 pub returns-then-not-branch-clause-looks : goal.returns-then-not-branch-clause-looks
 returns-then-not-branch-clause-looks g c =
     looked_on g.S.Store c.args.trees.now.store c.closes.trees.store c.next.new.trees.store
     c.closes.invariant.looks c.in_ok-next.ensures.looks
 
+pub returns-in_err-next_close-clause-looks : goal.returns-in_err-next_close-clause-looks
+returns-in_err-next_close-clause-looks g c =
+    let start = c.args.trees.now.store in
+    let next = c.next.new.trees.store in
+    passed g.S.Store start next _ c.from_residual-in_err-next_close.ensures.0
+    (looked_on g.S.Store start c.closes.trees.store next c.closes.invariant.looks
+    c.in_ok-next.ensures.looks).quiet
+
 pub returns-in_err-push-clause-looks : goal.returns-in_err-push-clause-looks
 returns-in_err-push-clause-looks g c =
     let start = c.args.trees.now.store in
     let next = c.next.new.trees.store in
-    no_memory g.S.Store _ start next _ c.from_residual-in_err-push.ensures.1
+    passed g.S.Store start next _ c.from_residual-in_err-push.ensures.0
     (looked_on g.S.Store start c.closes.trees.store next c.closes.invariant.looks
     c.in_ok-next.ensures.looks).quiet
 
-pub returns-in_err-next_close-clause-looks : goal.returns-in_err-next_close-clause-looks
-returns-in_err-next_close-clause-looks g c =
-    let start = c.args.trees.now.store in
-    let mid = c.closes.trees.store in
-    let next = c.next.new.trees.store in
-    let so_far = c.closes.invariant in
-    let stop = c.in_err-next_close.field-0.0 in
-    let call : IsLook g.S.Store mid next = c.in_ok-next.ensures.looks in
-    passed g.S.Store start next stop _ c.from_residual-in_err-next_close.ensures.1
-    (never g.S.Store start next stop (looked_on g.S.Store start mid next so_far.looks call).quiet
-    (λ known clean own.
-    let days : List ℤ = c.closes.days.items in
-    let row : Row = c.next.new.self.row in
-    let fits : CloseFits row =
-    its_row g.S.Store start mid next Closes c.closes.walk c.next.new.self c.in_ok-next.field-0
-    so_far.tree so_far.looks.same call.same c.in_ok-next.ensures.next
-    (λ back. (closed_rows days, so_far.walked back)) clean
-    c.if-not-branch.false CloseFits (own_closes_fit (g.S.Store.view start).trees own) in
-    let place = its_place g.S.Store start mid next Closes c.closes.walk c.next.new.self
-    c.in_ok-next.field-0 so_far.tree so_far.looks.same call.same c.in_ok-next.ensures.next
-    (λ back. (closed_rows days, so_far.walked back)) clean c.if-not-branch.false in
-    let follows : IsNextRow days row = λ close is.
-    own_next_close (g.S.Store.view start).trees own days close place.0
-    (place.1 ∙ ap (λ (r : Row). closed_rows days ++ r ∷ place.0) is) in
-    let refused : CloseFits row → IsNextRow days row → ⊥ = search rules in
-    refused fits follows))
-
--- and no tree is so long that it is not walked over
 pub returns-clause-looks : goal.returns-clause-looks
-returns-clause-looks g c = record {
-  quiet = c.closes.invariant.looks.quiet;
-  own = λ known whole other clean own.
-      let days : List ℤ = c.closes.days.items in
-      let long : length (closed_rows days) ≡ length days =
-      length-map (close_entries 1 days) closed_columns ∙ long_numbers 1 days in
-      absurd (walk_ends (g.S.Store.view c.args.trees.now.store) c.endless.result whole
-      c.endless.ensures 2 (closed_rows days) _ (c.closes.invariant.walked clean).left
-      (omega (arith, long, c.closes.invariant.counted, c.closes-test.false)));
-}
+returns-clause-looks g c = c.closes.invariant.looks.quiet

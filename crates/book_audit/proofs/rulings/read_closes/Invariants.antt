@@ -1,4 +1,4 @@
-use Rattle.std.proofs.Common.{◌≡◌, All, length, map, int_cmp}
+use Rattle.std.proofs.Common.{◌≡◌, All, map, int_cmp}
 use Rattle.std.specs.List.Sorted.{IsStrictlySortedBy}
 use Rattle.sqlite_trees.specs.View.{IsClean}
 use Rattle.book_model.specs.Words.{IsDay}
@@ -17,7 +17,6 @@ invariant-closes g l = record {
   walked : IsClean (g.S.Store.view l.trees.store)
       → HasWalked Closes l.walk.key ((g.S.Store.view l.fn.trees.store).trees 2)
       (map closed_columns (close_entries 1 l.days.items));
-  counted : l._count ≡ length l.days.items;
   days : All IsDay l.days.items;
   in_order : IsStrictlySortedBy int_cmp l.days.items;
 }

@@ -1,6 +1,4 @@
-use Rattle.std.proofs.Common.{◌≡◌, ◌∙◌, ◌++◌, ◌∷◌, [], ℕ, ℤ, List, Option, map, arith, length}
-use Rattle.std.proofs.Common.{length-append, refl, subst, sym}
-use Rattle.std.proofs.lemmas.List.{length-map}
+use Rattle.std.proofs.Common.{◌∙◌, ◌++◌, ◌∷◌, [], ℕ, List, map, refl, subst, sym}
 use Rattle.sqlite_trees.specs.View.{IsClean}
 use Rattle.sqlite_trees.proofs.ListLemmas.{all-append}
 use Rattle.sqlite_value.specs.Order.{Row}
@@ -13,10 +11,8 @@ use Rattle.book_audit.specs.Rulings.{IsTariffIn}
 use Rattle.book_audit.specs.Walks.{AreRising, HasWalked}
 use Rattle.book_audit.specs.declared.finding.Tree.TheVariants.{Tariffs}
 use Rattle.book_audit.proofs.Rows.Rulings.{is_texted, tariff_pushed, terms_pushed, texted}
-use Rattle.book_audit.proofs.Own.Rulings.{IsTariffRow, own_tariffs, tariff_terms}
-use Rattle.book_audit.proofs.Own.Stops.{looked_on, no_memory, nothing, passed, walk_ends}
-use Rattle.book_audit.proofs.Own.Stops.{walk_stopped}
-use Rattle.book_audit.proofs.Walks.Steps.{its_row, look_back, read_all, read_on}
+use Rattle.book_audit.proofs.Walks.Looks.{looked_on, nothing, passed, stopped_on}
+use Rattle.book_audit.proofs.Walks.Steps.{look_back, read_all, read_on}
 use Rattle.book_audit.proofs.rulings.read_tariffs.Goals as goal
 
 -- the rows of tariffs
@@ -32,7 +28,6 @@ tariffs-init g c = record {
     c.begin.ensures.start ((g.S.Store.view c.args.trees.now.store).trees 1),
     sym c.new-tariffs.ensures.items,
     tt,
-    refl,
   );
 }
 
@@ -45,16 +40,14 @@ tariffs-preserved g c =
     let row : Row = c.next.new.self.row in
     let terms : Terms = c.in_ok-read_tariff.field-0 in
     let its : IsTariffIn row terms =
-    subst (λ (r : Row). IsTariffIn r terms) c.row.ensures c.in_ok-read_tariff.ensures.says in
+    subst (λ (r : Row). IsTariffIn r terms) c.row.ensures c.in_ok-read_tariff.ensures in
     let text : List ℕ = its.text in
     let call : IsLook g.S.Store mid next = c.in_ok-next.ensures.looks in
     record {
       tree = c.next.ensures.tree ∙ so_far.tree;
       looks = looked_on g.S.Store start mid next so_far.looks call;
       read = λ clean.
-          let read = so_far.read (look_back g.S.Store mid next call.same clean) in
-          let so_many : c.tariffs._count ≡ length read.0 = read.4 in
-          let long = length-append read.0 (texted text terms ∷ []) in (
+          let read = so_far.read (look_back g.S.Store mid next call.same clean) in (
             read.0 ++ texted text terms ∷ [],
             subst (HasWalked Tariffs c.next.new.self.key ((g.S.Store.view start).trees 1))
                 (tariff_pushed read.0 text terms.effective terms row its.is refl)
@@ -66,7 +59,6 @@ tariffs-preserved g c =
                 ∙ sym c.in_ok-push.ensures.items,
             all-append IsTexted read.0 (texted text terms ∷ []) read.3
                 (is_texted text terms its.characters its.said its.day, tt),
-            omega (arith, so_many, long),
           );
     }
 
@@ -94,63 +86,31 @@ returns-then-not-branch-clause-tariffs g c clean =
 pub returns-in_err-next-clause-looks : goal.returns-in_err-next-clause-looks
 returns-in_err-next-clause-looks g c =
     let start = c.args.trees.now.store in
+    let mid = c.tariffs.trees.store in
     let next = c.next.new.trees.store in
-    let so_far = c.tariffs.invariant in
-    let stop = c.in_err-next.field-0.0 in
-    passed g.S.Store start next stop _ c.from_residual.ensures.1
-    (walk_stopped g.S.Store start c.tariffs.trees.store next Tariffs c.tariffs.walk stop so_far.tree
-    so_far.looks c.in_err-next.ensures.looks
-    (λ back. (tariff_rows (so_far.read back).0, (so_far.read back).1)))
+    passed g.S.Store start next _ c.from_residual.ensures.0
+    (stopped_on g.S.Store start mid next c.tariffs.invariant.looks c.in_err-next.ensures.looks)
 
 pub returns-then-not-branch-clause-looks : goal.returns-then-not-branch-clause-looks
 returns-then-not-branch-clause-looks g c =
     looked_on g.S.Store c.args.trees.now.store c.tariffs.trees.store c.next.new.trees.store
     c.tariffs.invariant.looks c.in_ok-next.ensures.looks
 
+pub returns-in_err-read_tariff-clause-looks : goal.returns-in_err-read_tariff-clause-looks
+returns-in_err-read_tariff-clause-looks g c =
+    let start = c.args.trees.now.store in
+    let next = c.next.new.trees.store in
+    passed g.S.Store start next _ c.from_residual-in_err-read_tariff.ensures.0
+    (looked_on g.S.Store start c.tariffs.trees.store next c.tariffs.invariant.looks
+    c.in_ok-next.ensures.looks).quiet
+
 pub returns-in_err-push-clause-looks : goal.returns-in_err-push-clause-looks
 returns-in_err-push-clause-looks g c =
     let start = c.args.trees.now.store in
     let next = c.next.new.trees.store in
-    no_memory g.S.Store _ start next _ c.from_residual-in_err-push.ensures.1
+    passed g.S.Store start next _ c.from_residual-in_err-push.ensures.0
     (looked_on g.S.Store start c.tariffs.trees.store next c.tariffs.invariant.looks
     c.in_ok-next.ensures.looks).quiet
 
--- each row of own books is that of a tariff
-pub returns-in_err-read_tariff-clause-looks : goal.returns-in_err-read_tariff-clause-looks
-returns-in_err-read_tariff-clause-looks g c =
-    let start = c.args.trees.now.store in
-    let mid = c.tariffs.trees.store in
-    let next = c.next.new.trees.store in
-    let so_far = c.tariffs.invariant in
-    let stop = c.in_err-read_tariff.field-0.0 in
-    let row : Row = c.next.new.self.row in
-    let call : IsLook g.S.Store mid next = c.in_ok-next.ensures.looks in
-    passed g.S.Store start next stop _ c.from_residual-in_err-read_tariff.ensures.1 (record {
-      quiet = (looked_on g.S.Store start mid next so_far.looks call).quiet;
-      own = λ known whole other clean own.
-          let its : IsTariffRow row =
-          its_row g.S.Store start mid next Tariffs c.tariffs.walk c.next.new.self c.in_ok-next.field-0
-          so_far.tree so_far.looks.same call.same c.in_ok-next.ensures.next
-          (λ back. (tariff_rows (so_far.read back).0, (so_far.read back).1)) clean
-          c.if-not-branch.false IsTariffRow (own_tariffs (g.S.Store.view start).trees own) in
-          let told = tariff_terms row its in
-          let shown : IsTariffIn c.row.result.now told.0 =
-          subst (λ (r : Row). IsTariffIn r told.0) (sym c.row.ensures) told.1 in
-          absurd (other (c.in_err-read_tariff.ensures.own told.0 shown));
-    })
-
--- and no tree is so long that it is not walked over
 pub returns-clause-looks : goal.returns-clause-looks
-returns-clause-looks g c = record {
-  quiet = c.tariffs.invariant.looks.quiet;
-  own = λ known whole other clean own.
-      let read = c.tariffs.invariant.read clean in
-      let accepted : List AcceptedTerms = read.0 in
-      let entries : List (ℤ × Option (List ℕ)) = tariff_entries accepted in
-      let long : length (map tariff_columns entries) ≡ length accepted =
-      length-map entries tariff_columns
-      ∙ length-map accepted (λ (tariff : AcceptedTerms). (tariff.terms.effective, tariff.text)) in
-      absurd (walk_ends (g.S.Store.view c.args.trees.now.store) c.endless.result whole
-      c.endless.ensures 1 (map tariff_columns entries) _ read.1.left
-      (omega (arith, long, read.4, c.tariffs-test.false)));
-}
+returns-clause-looks g c = c.tariffs.invariant.looks.quiet

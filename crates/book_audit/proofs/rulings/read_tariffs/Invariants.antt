@@ -1,4 +1,4 @@
-use Rattle.std.proofs.Common.{◌≡◌, List, length, map}
+use Rattle.std.proofs.Common.{◌≡◌, List, map}
 use Rattle.std.specs.List.{AllByRecursion}
 use Rattle.sqlite_trees.specs.View.{IsClean}
 use Rattle.book_model.specs.Words.{AcceptedTerms}
@@ -19,6 +19,5 @@ invariant-tariffs g l = record {
       × HasWalked Tariffs l.walk.key ((g.S.Store.view l.fn.trees.store).trees 1)
       (map tariff_columns (tariff_entries accepted))
       × (map (λ tariff. tariff.terms) accepted ≡ l.tariffs.items)
-      × AllByRecursion IsTexted accepted
-      × (l._count ≡ length accepted);
+      × AllByRecursion IsTexted accepted;
 }

@@ -1,6 +1,7 @@
-use Rattle.book_audit.proofs.Own.Stops.{no_memory_yet}
+use Rattle.book_audit.proofs.Walks.Looks.{nothing, passed}
 use Rattle.book_audit.proofs.trees.Trees.has_mark.Goals as goal
 
 pub returns-in_err-mark_key-clause-looks : goal.returns-in_err-mark_key-clause-looks
 returns-in_err-mark_key-clause-looks g c =
-    no_memory_yet g.S.Store _ c.args.self.now.store c.from_residual.result c.from_residual.ensures.1
+    let start = c.args.self.now.store in
+    passed g.S.Store start start _ c.from_residual.ensures.0 (nothing g.S.Store start).quiet

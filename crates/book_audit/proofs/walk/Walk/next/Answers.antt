@@ -1,15 +1,13 @@
-use Rattle.std.proofs.Common.{◌≡◌, ◌≢◌, ◌∙◌, ◌++◌, ◌∷◌, [], List, arith, false, length, true}
-use Rattle.std.proofs.Common.{true≢false, rules, subst, sym, is_gt}
+use Rattle.std.proofs.Common.{◌≡◌, ◌≢◌, ◌++◌, ◌∷◌, [], List, length, true}
+use Rattle.std.proofs.Common.{rules, subst, sym, is_gt}
 use Rattle.sqlite_value.specs.Keys.{plain, prefix_cmp}
 use Rattle.sqlite_value.specs.Order.{Row}
 use Rattle.tree_rows.specs.Rows.{IsFirst}
-use Rattle.tree_rows.proofs.Calls.{clean_before}
 use Rattle.tree_tables.specs.Walks.{rows_past}
 use Rattle.book_audit.specs.Trees.{tree_number}
 use Rattle.book_audit.specs.Walks.{HasWalked, key_in, width}
-use Rattle.book_audit.proofs.Own.Stops.{caused, never, no_memory, own_walk}
-use Rattle.book_audit.proofs.Held.Walks.{next_after, next_wide}
 use Rattle.book_audit.proofs.Walks.Keys.{walk_step}
+use Rattle.book_audit.proofs.Walks.Looks.{passed}
 use Rattle.book_audit.proofs.walk.Walk.next.Goals.{else-not-is_empty-via-else-not-is_empty}
 use Rattle.book_audit.proofs.walk.Walk.next.Goals.{else-not-is_empty-via-then-not-is_empty+else-not-is_gt}
 use Rattle.book_audit.proofs.walk.Walk.next.Goals as goal
@@ -40,45 +38,14 @@ returns-then-not-there-clause-looks g c =
 
 pub returns-in_err-take_key-clause-looks : goal.returns-in_err-take_key-clause-looks
 returns-in_err-take_key-clause-looks g c =
-    no_memory g.S.Store _ c.args.trees.now.store c.row_past.new.self.store c.from_residual.result
-    c.from_residual.ensures.1 c.row_past.ensures.quiet
+    passed g.S.Store c.args.trees.now.store c.row_past.new.self.store _ c.from_residual.ensures.0
+    c.row_past.ensures.quiet
 
--- a row that could not be read has a cause
 pub returns-in-Err-clause-looks : goal.returns-in-Err-clause-looks
-returns-in-Err-clause-looks g c =
-    caused g.S.Store c.args.trees.now.store c.row_past.new.self.store c.in-Err.error c.met.result
-    c.met.ensures.memory c.met.ensures.broken (λ own. c.in-Err.ensures.cause) c.row_past.ensures.quiet
+returns-in-Err-clause-looks g c = c.row_past.ensures.quiet
 
 pub returns-then-len-columns-clause-looks : goal.returns-then-len-columns-clause-looks
-returns-then-len-columns-clause-looks g c =
-    let start = c.args.trees.now.store in
-    never g.S.Store start c.row_past.new.self.store _ c.row_past.ensures.quiet
-    (λ walked clean own.
-    let tree = c.args.self.now.tree in
-    let key : Row = c.args.self.now.key in
-    let row : Row = c.row_past.new.row in
-    let trees = (g.S.Store.view start).trees in
-    let rows : List Row = trees (tree_number tree) in
-    let there : IsFirst (rows_past key rows) row true = search rules in
-    let read = walked (clean_before g.S.Store c.row_past.ensures.quiet clean) in
-    let wide : length row ≡ width tree =
-    next_wide tree key row rows read.0 (own_walk trees own tree) read.1 there in
-    absurd (omega (arith, wide)))
+returns-then-len-columns-clause-looks g c = c.row_past.ensures.quiet
 
 pub returns-then-not-is_gt-clause-looks : goal.returns-then-not-is_gt-clause-looks
-returns-then-not-is_gt-clause-looks g c =
-    let start = c.args.trees.now.store in
-    never g.S.Store start c.row_past.new.self.store _ c.row_past.ensures.quiet
-    (λ walked clean own.
-    let tree = c.args.self.now.tree in
-    let key : Row = c.args.self.now.key in
-    let row : Row = c.row_past.new.row in
-    let trees = (g.S.Store.view start).trees in
-    let rows : List Row = trees (tree_number tree) in
-    let there : IsFirst (rows_past key rows) row true = search rules in
-    let some : key ≢ [] = search rules in
-    let read = walked (clean_before g.S.Store c.row_past.ensures.quiet clean) in
-    let after : is_gt (prefix_cmp plain row key) ≡ true =
-    next_after tree key row rows read.0 (own_walk trees own tree) read.1 there some in
-    let not_after : is_gt (prefix_cmp plain row key) ≡ false = search rules in
-    absurd (true≢false (sym after ∙ not_after)))
+returns-then-not-is_gt-clause-looks g c = c.row_past.ensures.quiet
