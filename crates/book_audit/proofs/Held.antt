@@ -1,8 +1,7 @@
--- Trees that hold tables: rows that are those of a map, or of an index of it; walks that read them;
--- and what look-ups, and rulings that were read, are in the tables.
+-- Trees that hold tables: rows that are those of a map, or of an index of it; and what look-ups,
+-- and rulings that were read, are in the tables.
 pub mod Pigeonhole
 pub mod Maps
-pub mod Walks
 pub mod Looks
 pub mod LastPassing
 pub mod Rulings

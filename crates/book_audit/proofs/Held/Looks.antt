@@ -1,9 +1,8 @@
 -- What look-ups in trees that hold tables find of them.
 use Rattle.std.proofs.Common.{◌≡◌, ◌<◌, ◌-◌, ◌∙◌, ◌&&◌, ◌∷◌, [], ℕ, zero, suc, Bool, true, false}
-use Rattle.std.proofs.Common.{not, cond, List, Option, Some, None, length, map, pos, ap, ap₂, arith}
+use Rattle.std.proofs.Common.{not, cond, List, Option, Some, None, length, map, ap, ap₂, arith}
 use Rattle.std.proofs.Common.{refl, subst, sym, ◌==◌, ℤ, IfSome, filter, take_while, is_eq}
-use Rattle.std.proofs.Common.{Ordering}
-use Rattle.std.specs.FinMap.{FinMap, entries, get, get-entries}
+use Rattle.std.specs.FinMap.{entries, get, get-entries}
 use Rattle.std.specs.Option.{option_map_or}
 use Rattle.std.specs.Ordering.{eq_by_cmp}
 use Rattle.std.proofs.lemmas.Map.Views.{tells_apart}
@@ -14,44 +13,32 @@ use Rattle.std.proofs.lemmas.List.Sums.{take_while-cons}
 use Rattle.sqlite_trees.specs.Tree.{Trees, from_key}
 use Rattle.sqlite_value.specs.Keys.{plain, prefix_cmp}
 use Rattle.sqlite_value.specs.Order.{Row}
-use Rattle.sqlite_value.specs.declared.value.Value.TheVariants.{Blob, Int}
+use Rattle.sqlite_value.specs.declared.value.Value.TheVariants.{Blob}
 use Rattle.book_model.specs.Words.{open_by, same_bytes}
 use Rattle.book_model.proofs.SetLemmas.{same_bytes-by_cmp}
 use Rattle.table_model.specs.Tables.{RecordRow, Tables}
 use Rattle.table_model.specs.Views.{rows_with}
 use Rattle.consistent_tables.specs.Consistent.{AreInTurn, charged_back, is_counted_row, line_at}
 use Rattle.consistent_tables.specs.Consistent.{periods_after, ruled}
-use Rattle.tree_rows.specs.Indexes.{IsIndexKey, by_bytes, index_of, indexed_by}
-use Rattle.tree_rows.specs.Layouts.{Answers, Layout, rows_of}
+use Rattle.tree_rows.specs.Indexes.{by_bytes, indexed_by}
+use Rattle.tree_rows.specs.Layouts.{Answers}
 use Rattle.tree_rows.specs.Rows.{Finds, IsFirst, past_key}
 use Rattle.tree_rows.specs.Runs.{has_part, run_of}
-use Rattle.tree_rows.proofs.Indexes.{index_has}
-use Rattle.tree_rows.proofs.Maps.{none_there, not_none}
+use Rattle.tree_rows.proofs.Maps.{none_there}
 use Rattle.tree_rows.proofs.IndexOrders.{by_bytes_exact}
 use Rattle.tree_rows.proofs.PartIndexes.{part_in_order}
 use Rattle.tree_rows.proofs.Runs.{run_named}
 use Rattle.tree_rows.proofs.Keyed.{row_found}
-use Rattle.tree_tables.specs.Columns.{flag, identity_columns, record_columns}
+use Rattle.tree_tables.specs.Columns.{identity_columns, record_columns}
 use Rattle.tree_tables.specs.Holds.{Holds, identity_index, identity_key}
 use Rattle.tree_tables.proofs.FoundNames.{Entry}
-use Rattle.tree_tables.proofs.Layouts.{identity_layout, mark_layout, record_layout}
+use Rattle.tree_tables.proofs.Layouts.{identity_layout, record_layout}
 use Rattle.tree_tables.proofs.LineRows.{line_found, line_missing}
-use Rattle.tree_tables.proofs.RecordIndexes.{identity_named, mark_named}
 use Rattle.book_audit.specs.Records.{GoesBack, HasPast, IsLine, Turns}
 use Rattle.book_audit.specs.Records.Turns.{Stays, Turned}
 use Rattle.book_audit.specs.Trees.{FindsTwo}
 use Rattle.book_audit.proofs.Rows.Counted.{some_kept}
 use Rattle.book_audit.proofs.Rows.Columns.{one_record}
-
--- an entry of an index is found
-pub indexed_found : {K V Q : Type 0} {R : K → K → Ordering} {P : Q → Q → Ordering} {key : K × V → Q}
-    {name : Q → K} (index : IsIndexKey R P key name) (layout : Layout Q (Unit {0}) P)
-    (m : FinMap R V) (k : K) (v : V) {rows : List Row} (row : Row)
-    → rows ≡ rows_of layout (index_of {P = P} key m) → get m k ≡ Some v
-    → Finds (layout.key (key (k, v))) rows row false → ⊥
-indexed_found {P = P} {key = key} index layout m k v row held there finds =
-    not_none tt (sym (index_has index m k v there)
-    ∙ row_found layout (index_of {P = P} key m) (key (k, v)) finds held refl)
 
 -- what a line turns
 turned : {line : Option Bool} {mid before : Bool} → Turns line mid before
@@ -140,23 +127,8 @@ module _ (trees : Trees) (tables : Tables) (holds : Holds trees tables) where
   line_looked period name (Some plus) is =
       line_found period name tables holds.lines refl is.finds plus refl is.says
 
-  -- a record is found by its identity, and by its mark
-  pub identity_found : (name : List ℕ) (row : RecordRow) (found : Row)
-      → get tables.records name ≡ Some row
-      → Finds (Blob row.identity ∷ Blob name ∷ []) (trees 6) found false → ⊥
-  identity_found name row found there finds =
-      indexed_found identity_named identity_layout tables.records name row found
-      holds.identity_index there finds
-
-  pub mark_found : (name : List ℕ) (row : RecordRow) (found : Row)
-      → get tables.records name ≡ Some row
-      → Finds (Int (pos (flag row.charged)) ∷ Blob row.identity ∷ Blob name ∷ []) (trees 7) found
-      false → ⊥
-  mark_found name row found there finds =
-      indexed_found mark_named mark_layout tables.records name row found holds.marks there finds
-
   -- whether two records have an identity that one has
-  pub shared_looked : (identity : List ℕ) (row : Row) (two : Bool)
+  shared_looked : (identity : List ℕ) (row : Row) (two : Bool)
       → FindsTwo (Blob identity ∷ []) (trees 6) row two
       → 0 < length (rows_with identity tables.records)
       → not two ≡ (length (rows_with identity tables.records) == 1)
@@ -190,7 +162,7 @@ module _ (trees : Trees) (tables : Tables) (holds : Holds trees tables) where
       (nat_list_eq_equiv.refl row.identity))
 
   -- what its lines say of a record's past is what they say in the tables
-  pub went_back : (name : List ℕ) (last k : ℕ) (now before : Bool)
+  went_back : (name : List ℕ) (last k : ℕ) (now before : Bool)
       → last ≡ open_by (ruled tables) → GoesBack (trees 5) name last k now before
       → (before ≡ charged_back tables name k now) × AreInTurn tables name k now
   went_back name last zero now before same back = (sym back, tt)

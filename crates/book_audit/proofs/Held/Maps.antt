@@ -47,7 +47,7 @@ module _ {K V : Type 0} {R : K → K → Ordering} (layout : Layout K V R) where
 
   module _ (tree : Tree) (wide : (k : K) → length (layout.key k) ≡ key_width tree) where
     -- the key of an entry's row
-    pub own_key : (e : K × V) → key_in tree (row_of layout e) ≡ layout.key e.0
+    own_key : (e : K × V) → key_in tree (row_of layout e) ≡ layout.key e.0
     own_key e =
         ap (λ n. take n (row_of layout e)) (sym (wide e.0))
         ∙ take_own (layout.key e.0) (layout.rest e.1)
@@ -95,7 +95,7 @@ entries_rise P (e ∷ es) rising =
     (entries_below P e.0 es (first _ _ rising), entries_rise P es (second _ _ rising))
 
 -- an index has as many keys as its map
-pub index_many : {K V Q : Type 0} {R : K → K → Ordering} {P : Q → Q → Ordering} {key : K × V → Q}
+index_many : {K V Q : Type 0} {R : K → K → Ordering} {P : Q → Q → Ordering} {key : K × V → Q}
     {name : Q → K} (index : IsIndexKey R P key name) (m : FinMap R V)
     → length (map (λ (e : Q × Unit {0}). e.0) (entries (index_of {P = P} key m))) ≡ length (entries m)
 index_many {K = K} {V = V} {Q = Q} {P = P} {key = key} index m =

@@ -1,13 +1,12 @@
 -- What the rulings that were read of trees are in the tables that the trees hold.
 use Rattle.std.proofs.Common.{◌≡◌, ◌∙◌, ◌<◌, ◌∷◌, [], ◌⊎◌, inl, inr, ℕ, suc, List, Bool, true}
-use Rattle.std.proofs.Common.{false, ◌&&◌, ◌==◌, All, Option, Some, None, ap, ap₂, map, refl, sym}
-use Rattle.std.proofs.Common.{Ok, eqb-true, ltb-true}
+use Rattle.std.proofs.Common.{false, ◌&&◌, ◌==◌, Option, Some, None, ap, map, refl, sym}
+use Rattle.std.proofs.Common.{eqb-true, ltb-true}
 use Rattle.std.specs.FinMap.{entries, values, get}
 use Rattle.std.specs.List.{AllByRecursion, last_or}
 use Rattle.std.specs.Option.{option_map, option_map_or, option_or}
 use Rattle.std.specs.Prelude.{if◌then◌else◌, filter, find, nat_le, nat_lt, reverse}
 use Rattle.std.proofs.lemmas.Cmp.{nat_list_eq_equiv}
-use Rattle.std.proofs.lemmas.List.Elements.{All-head, All-tail}
 use Rattle.std.proofs.lemmas.Option.{same_Some}
 use Rattle.sqlite_trees.specs.Tree.{Trees}
 use Rattle.sqlite_value.specs.Order.{Row, column}
@@ -17,19 +16,17 @@ use Rattle.tariff_rules.specs.Terms.{Terms}
 use Rattle.tariff_rules.specs.declared.priced.Priced.{Priced}
 use Rattle.book_model.specs.Words.{AcceptedTerms, Rulings as Ruled, are_rising, first_rule}
 use Rattle.book_model.specs.Words.{last_period, price_in, price_under, same_bytes, second_rule}
-use Rattle.book_model.specs.Words.{terms_in}
 use Rattle.book_model.proofs.LatestLemmas.{begun-last}
 use Rattle.book_model.proofs.RecordSets.{first_of, second_of}
 use Rattle.table_model.specs.BookIn.{adopted_read}
-use Rattle.table_model.specs.Readable.{IsTexted}
 use Rattle.table_model.specs.Tables.{BookRow, ChoiceRow, RecordRow, RecordTable, Tables}
 use Rattle.table_model.specs.Tables.{never_adopted}
-use Rattle.table_model.specs.TablesOf.{tariff_entries, under_numbers}
+use Rattle.table_model.specs.TablesOf.{under_numbers}
 use Rattle.table_model.specs.Views.{last_named, name_has_identity}
 use Rattle.consistent_tables.specs.Consistent.{choice_numbers}
-use Rattle.tree_tables.specs.Columns.{choice_columns, tariff_columns, tariff_value}
+use Rattle.tree_tables.specs.Columns.{choice_columns}
 use Rattle.tree_tables.specs.Holds.{Holds}
-use Rattle.tree_tables.proofs.RowsRead.{same_blob, same_text}
+use Rattle.tree_tables.proofs.RowsRead.{same_blob}
 use Rattle.book_audit.specs.ChoiceRows.{AreChoices, IsMade, Made, said}
 use Rattle.book_audit.specs.Choices.{last_chosen}
 use Rattle.book_audit.specs.Data.{has_begun, price_of}
@@ -54,33 +51,6 @@ price_said rulings accepted bytes is rising =
     ∙ ap (λ (found : Option AcceptedTerms). option_map price (option_map terms found))
     (begun-last accepted (day_of bytes) rising)
     ∙ sym (ap (option_map price) (found_made terms (has_begun (day_of bytes)) accepted))
-
--- a text says the terms of one tariff
-one_said : (text : List ℕ) (one other : Terms) → terms_in text ≡ Ok one → terms_in text ≡ Ok other
-    → one ≡ other
-one_said text one other said too = cc
-
--- tariffs with texts whose rows are the same say the same terms
-pub same_terms : (one other : List AcceptedTerms) → AllByRecursion IsTexted one → All IsTexted other
-    → map tariff_columns (tariff_entries one) ≡ map tariff_columns (tariff_entries other)
-    → map (λ (tariff : AcceptedTerms). tariff.terms) one
-    ≡ map (λ (tariff : AcceptedTerms). tariff.terms) other
-same_terms [] [] texted too same = refl
-same_terms [] (b ∷ other) texted too same = absurd (let e = same in cc)
-same_terms (a ∷ one) [] texted too same = absurd (let e = same in cc)
-same_terms (a ∷ one) (b ∷ other) texted too same =
-    let its = texted.0 in
-    let own = All-head IsTexted b other too in
-    let row : tariff_columns (a.terms.effective, a.text) ≡ tariff_columns (b.terms.effective, b.text) =
-    (let e = same in cc) in
-    let rest : map tariff_columns (tariff_entries one) ≡ map tariff_columns (tariff_entries other) =
-    (let e = same in cc) in
-    let texts : its.text ≡ own.text = same_text its.text own.text (sym (ap tariff_value its.is)
-    ∙ ap (λ (r : Row). column r 1) row ∙ ap tariff_value own.is) in
-    let terms : a.terms ≡ b.terms =
-    one_said own.text a.terms b.terms (ap terms_in (sym texts) ∙ its.said) own.said in
-    ap₂ (λ (x : Terms) (xs : List Terms). x ∷ xs) terms
-    (same_terms one other texted.1 (All-tail IsTexted b other too) rest)
 
 -- ---- the rule of identity
 

@@ -1,12 +1,10 @@
--- A row is known by its columns, as many as it has; and records, lines, charge rows, choices and
--- other values under numbers are known by their rows.
-use Rattle.std.proofs.Common.{◌≡◌, ℕ, suc, [], ◌∷◌, length, refl, ap₂, arith, Bool, List, ap, map}
+-- A row is known by its columns, as many as it has; and records, and choices under their numbers,
+-- are known by their rows.
+use Rattle.std.proofs.Common.{◌≡◌, ℕ, suc, [], ◌∷◌, length, refl, ap₂, arith, List, ap, map}
 use Rattle.sqlite_value.specs.Order.{Row, column}
-use Rattle.book_model.specs.declared.row.ChargeRow.{ChargeRow}
-use Rattle.book_model.specs.declared.row.RowKey.{RowKey}
 use Rattle.table_model.specs.Tables.{ChoiceRow, RecordRow}
-use Rattle.table_model.specs.TablesOf.{row_key, under_numbers}
-use Rattle.tree_tables.specs.Columns.{choice_columns, day_columns, line_columns, record_columns}
+use Rattle.table_model.specs.TablesOf.{under_numbers}
+use Rattle.tree_tables.specs.Columns.{choice_columns, record_columns}
 use Rattle.tree_tables.proofs.LineRows.{same_flag}
 use Rattle.tree_tables.proofs.RowsRead.{same_blob, same_count, same_int, same_text}
 
@@ -29,7 +27,7 @@ row_is (first ∷ row) (value ∷ values) long has =
     ap₂ (λ one more. one ∷ more) has.0
     (row_is row values (omega (arith, long)) (behind_first first row 0 values has.1))
 
--- records and lines are known by their rows
+-- a record is known by its row
 pub one_record : (e f : List ℕ × RecordRow) → record_columns e ≡ record_columns f → e ≡ f
 one_record e f same =
     let at : (n : ℕ) → column (record_columns e) n ≡ column (record_columns f) n =
@@ -51,44 +49,6 @@ one_record e f same =
         posted = same_flag e.1.posted f.1.posted (at 10) i;
       },
     )
-
-pub one_line : (e f : (ℕ × List ℕ) × Bool) → line_columns e ≡ line_columns f → e ≡ f
-one_line e f same =
-    let at : (n : ℕ) → column (line_columns e) n ≡ column (line_columns f) n =
-    λ n. ap (λ (r : Row). column r n) same in
-    λ i. (
-      (same_count e.0.0 f.0.0 (at 0) i, same_blob e.0.1 f.0.1 (at 1) i),
-      same_flag e.1 f.1 (at 2) i,
-    )
-
--- so records are the same where their rows are
-pub same_records : (one other : List (List ℕ × RecordRow))
-    → map record_columns one ≡ map record_columns other → one ≡ other
-same_records [] [] same = refl
-same_records [] (f ∷ other) same = absurd (let e = same in cc)
-same_records (e ∷ one) [] same = absurd (let e = same in cc)
-same_records (e ∷ one) (f ∷ other) same =
-    let first : record_columns e ≡ record_columns f = (let e = same in cc) in
-    let rest : map record_columns one ≡ map record_columns other = (let e = same in cc) in
-    λ i. one_record e f first i ∷ same_records one other rest i
-
--- charge rows are known by their rows
-pub one_day : (m n : ℕ) (a b : ChargeRow)
-    → day_columns ((m, row_key a), a) ≡ day_columns ((n, row_key b), b)
-    → ◌≡◌ {A = (ℕ × RowKey) × ChargeRow} ((m, row_key a), a) ((n, row_key b), b)
-one_day m n a b same =
-    let at : (k : ℕ) → column (day_columns ((m, row_key a), a)) k
-    ≡ column (day_columns ((n, row_key b), b)) k = λ k. ap (λ (r : Row). column r k) same in
-    let row : a ≡ b = λ i. record {
-      day = same_int a.day b.day (at 1) i;
-      centre = same_text a.centre b.centre (at 2) i;
-      shift = same_text a.shift b.shift (at 3) i;
-      count = same_count a.count b.count (at 4) i;
-      cpu = same_count a.cpu b.cpu (at 5) i;
-      blocks = same_count a.blocks b.blocks (at 6) i;
-      amount = same_count a.amount b.amount (at 7) i;
-    } in
-    λ i. ((same_count m n (at 0) i, row_key (row i)), row i)
 
 -- a choice's row says its number, its record's name and its period
 pub same_choice : (number other : ℕ) (one two : ChoiceRow)

@@ -21,14 +21,8 @@ use Rattle.book_audit.specs.declared.finding.Tree.TheVariants.{Marks, Records, T
 use Rattle.book_audit.specs.Walks.{AreRising, AreWide, HasWalked, key_in, key_width, last_key}
 use Rattle.book_audit.specs.Walks.{width}
 
--- what holds of all elements holds of one behind others
-pub one_of_all : {X : Type 0} (P : X → Type 0) (done : List X) (x : X) (more : List X)
-    → AllByRecursion P (done ++ x ∷ more) → P x
-one_of_all P [] x more all = all.0
-one_of_all P (y ∷ done) x more all = one_of_all P done x more all.1
-
 -- a key is the first columns of a row, and at least one
-pub within : (tree : Tree) → key_width tree ≤ width tree
+within : (tree : Tree) → key_width tree ≤ width tree
 within Book = omega arith
 within Tariffs = omega arith
 within Closes = omega arith
@@ -55,7 +49,7 @@ some ChoiceNames = omega arith
 some Details = omega arith
 
 -- over a key of so many columns, a row compares by its first columns
-pub prefix_is : (n : ℕ) (row key : Row) → n ≤ length row → length key ≡ n
+prefix_is : (n : ℕ) (row key : Row) → n ≤ length row → length key ≡ n
     → prefix_cmp plain row key ≡ row_cmp (take n row) key
 prefix_is n row key long same =
     ap (λ r. prefix_cmp plain r key) (sym (take-append-drop n row))
@@ -99,7 +93,7 @@ behind tree (e ∷ next ∷ done) row rising last =
     (row_cmp_total.trans (key_in tree e) (key_in tree next) (key_in tree row) rising.0.0 later.0, later)
 
 -- the last key has so many columns
-pub last_long : (tree : Tree) (done : List Row) → AreWide tree done → done ≢ []
+last_long : (tree : Tree) (done : List Row) → AreWide tree done → done ≢ []
     → length (last_key tree done) ≡ key_width tree
 last_long tree [] wide some = absurd (some refl)
 last_long tree (row ∷ []) wide some =
