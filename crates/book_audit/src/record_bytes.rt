@@ -1,7 +1,6 @@
 //! The bytes of a record, and what they say.
 
 ghost use Rattle.std.specs.Prelude.{◌≡◌, IfOk, None, OnOk, Some};
-ghost use Rattle.sha2.specs.Sha256.{sha256};
 ghost use Rattle.tariff_rules.specs.Price.{IsPriced};
 ghost use Rattle.book_audit.specs.Data.{SaysData, price_of};
 ghost use Rattle.book_audit.specs.Rules.{identity_under};
@@ -42,8 +41,6 @@ fn wrong_by_data(
     rulings: &Rulings,
     stored: &StoredRecord,
 ) -> Result<Option<Wrong>, AllocError>
-    ensures name { IfOk result (λ wrong. wrong ≡ None
-        → stored.now.name ≡ sha256 stored.now.data_bytes.items) }
     ensures says { IfOk result (λ wrong. wrong ≡ None → SaysData rulings.now stored.now) }
     ensures priced { IfOk result (λ wrong. wrong ≡ None → IsPriced stored.now.priced) }
 {
