@@ -23,7 +23,7 @@ use Rattle.smf_frames.proofs.GroupedTexts.{cut_way}
 use Rattle.smf_frames.proofs.TakenGroups.{way_cut}
 use Rattle.smf_frames.proofs.Fronts.{front_led, is_front}
 use Rattle.program_output.specs.Layouts.{ends_segment, is_filled, looks_like, IsDumpIn, is_block}
-use Rattle.program_output.specs.Layouts.{is_misread, FirstBytesTell}
+use Rattle.program_output.specs.Layouts.{first_record, is_misread, FirstBytesTell, HasBlockFirst}
 
 -- the records of a text come first, whatever bytes follow it
 record ComeFirst (layout : Layout) (text more : List ℕ) : Type 0 where
@@ -138,18 +138,43 @@ is_so layout bytes dump =
     and_from (nat_lt descriptor_len (length bytes)) (is_filled (front layout bytes))
     (lt-ltb descriptor_len (length bytes) dump.some) filled
 
--- what looks like a dump in a layout is one by the standard, and no other bytes do
-pub looks_standard : (layout : Layout) (bytes : List ℕ)
-    → (looks_like layout bytes ≡ true) ↔ IsDumpIn layout bytes
-looks_standard layout bytes = (looks_so layout bytes, is_so layout bytes)
+-- so the first record of a dump that is misread is a dump in blocks by the standard,
+block_first : (bytes : List ℕ) (found : Option (List ℕ)) → first_record Rdw bytes ≡ found
+    → is_block found ≡ true → HasBlockFirst Rdw bytes
+block_first bytes None there is = absurd cc
+block_first bytes (Some first) there is =
+    record { segments = refl; first = first; there = there; block = looks_so Bdw first is }
 
--- so where memory sufficed
+misread_so : (layout : Layout) (bytes : List ℕ) → is_misread layout bytes ≡ true
+    → HasBlockFirst layout bytes
+misread_so Rdw bytes is = block_first bytes (first_record Rdw bytes) refl is
+misread_so Bdw bytes is = absurd cc
+
+-- and no other dump is misread
+so_misread : (layout : Layout) (bytes : List ℕ) → HasBlockFirst layout bytes
+    → is_misread layout bytes ≡ true
+so_misread Rdw bytes has = ap is_block has.there ∙ is_so Bdw has.first has.block
+so_misread Bdw bytes has =
+    let other = has.segments in
+    cc
+
+-- so it is of segments, where memory sufficed,
 pub standard_of : {E : Type 0} (layout : Layout) (bytes : List ℕ) (result : Result Bool E)
-    → IfOk result (λ looks. looks ≡ looks_like layout bytes)
-    → IfOk result (λ looks. (looks ≡ true) ↔ IsDumpIn layout bytes)
-standard_of layout bytes (Ok looks) is =
-    subst (λ (b : Bool). (b ≡ true) ↔ IsDumpIn layout bytes) (sym is) (looks_standard layout bytes)
-standard_of layout bytes (Err none) is = tt
+    → layout ≡ Rdw
+    → IfOk result (λ is. is ≡ is_misread Rdw bytes)
+    → IfOk result (λ is. (is ≡ true) ↔ HasBlockFirst layout bytes)
+standard_of layout bytes (Ok found) named is =
+    subst (λ l. (found ≡ true) ↔ HasBlockFirst l bytes) (sym named)
+    (subst (λ (b : Bool). (b ≡ true) ↔ HasBlockFirst Rdw bytes) (sym is)
+    (misread_so Rdw bytes, so_misread Rdw bytes))
+standard_of layout bytes (Err none) named is = tt
+
+-- and of blocks, which are not misread
+pub blocks_standard : (layout : Layout) (bytes : List ℕ) → layout ≡ Bdw
+    → (false ≡ true) ↔ HasBlockFirst layout bytes
+blocks_standard layout bytes named =
+    subst (λ l. (false ≡ true) ↔ HasBlockFirst l bytes) (sym named)
+    (misread_so Bdw bytes, so_misread Bdw bytes)
 
 -- and the first bytes of a dump in segments tell
 pub tells_of : {E : Type 0} (layout : Layout) (bytes : List ℕ) (result : Result Bool E) → layout ≡ Rdw

@@ -49,6 +49,14 @@ abbrev pub is_misread : Layout → List ℕ → Bool
 is_misread Rdw bytes = is_block (first_record Rdw bytes)
 is_misread Bdw bytes = false
 
+-- the same by the standard's grammar: what is taken for the first record of segments is a dump in
+-- blocks
+pub record HasBlockFirst (layout : Layout) (bytes : List ℕ) : Type 0 where
+  pub segments : layout ≡ Rdw
+  pub first : List ℕ
+  pub there : first_record layout bytes ≡ Some first
+  pub block : IsDumpIn Bdw first
+
 -- So the first bytes of a dump tell, once its first record is among them, whatever follows.
 abbrev pub FirstBytesTell : Layout → List ℕ → Bool → Type 0
 FirstBytesTell layout bytes is = IsSome (first_record layout bytes)

@@ -3,7 +3,7 @@
 ghost use Rattle.std.specs.Prelude.{◌≡◌, ◌↔◌, true, IfOk};
 ghost use Rattle.smf_frames.specs.Texts.{front_of};
 ghost use Rattle.program_output.specs.Layouts as spec;
-ghost use Rattle.program_output.specs.Layouts.{FirstBytesTell, IsDumpIn};
+ghost use Rattle.program_output.specs.Layouts.{FirstBytesTell, HasBlockFirst};
 
 use smf_frames::{FrameFault, Layout, Split, split};
 use std::alloc::{AllocError, Global};
@@ -32,22 +32,15 @@ fn is_dump(alloc: Global, layout: Layout, bytes: &[u8]) -> Result<bool, AllocErr
     Ok(bytes.len() > DESCRIPTOR && is_filled(&found))
 }
 
-/// Whether bytes look like a dump in a layout: more than a descriptor, and segments up to their end.
-pub fn looks_like(alloc: Global, layout: Layout, bytes: &[u8]) -> Result<bool, AllocError>
-    ensures looks { IfOk result (λ looks. looks ≡ spec.looks_like layout bytes.now) }
-
-    // By the public standard.
-    ensures standard { IfOk result (λ looks. (looks ≡ true) ↔ IsDumpIn layout bytes.now) }
-{
-    is_dump(alloc, layout, bytes)
-}
-
 /// Whether a dump of which these are the first bytes is read in the wrong layout: what is taken for
 /// its first record is a block, with all of its segments. The office has then forgotten to say that
 /// it has blocks, and the records of a block are taken for one of a type that is not charged.
 pub fn is_misread(alloc: Global, layout: Layout, bytes: &[u8]) -> Result<bool, AllocError>
     ensures misread { IfOk result (λ is. is ≡ spec.is_misread layout bytes.now) }
     ensures first { IfOk result (λ is. FirstBytesTell layout bytes.now is) }
+
+    // By the public standard.
+    ensures standard { IfOk result (λ is. (is ≡ true) ↔ HasBlockFirst layout bytes.now) }
 {
     match layout {
         Layout::Rdw => has_block_first(alloc, bytes),

@@ -27,7 +27,7 @@ pub use check::check_list;
 pub use error_line::{PROGRAM, hand_all, say};
 pub use explanations::{Explanation, FaultKind, explained};
 pub use laws::{numbers_are_one_to_one, same_records_same_texts};
-pub use layouts::{is_misread, looks_like};
+pub use layouts::is_misread;
 pub use message::{
     arguments_failed, books_busy, books_unsound, far_noticed, input_refused, input_refused_at,
     io_failed, layout_noticed, ledger_refused, ledger_refused_at, log_left, no_such_number,
