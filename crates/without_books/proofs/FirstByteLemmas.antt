@@ -1,15 +1,21 @@
 -- Bytes that are read ahead of a dump, and are given with the rest.
 use Rattle.std.proofs.Common.{◌≡◌, ◌∙◌, ◌+◌, ◌-◌, ◌≤◌, ℕ, List, ◌++◌, true, true≢false, Option, Some, None}
 use Rattle.std.proofs.Common.{length, length-take-le, take, take_all, append-nil, ap, subst, sym}
+use Rattle.std.proofs.Common.{refl, Bool, false, ◌&&◌, Result, Ok, Err, inl, inr}
 use Rattle.std.proofs.Math.Seq.{take-append-add}
 use Rattle.std.proofs.lemmas.List.{take-append-le}
 use Rattle.std.specs.Io.KnownBytes.{Consumes}
+use Rattle.std.specs.Prelude.{IfOk}
+use Rattle.std.specs.Result.{result_unwrap_or}
 use Rattle.std.proofs.KnownBytes.{Consumes-trans}
 use lib.Seq.{take-append_seam}
 use borrow.Rule.Slice.PartMut.{put_mid, post_of}
+use Rattle.smf_frames.specs.declared.dump.Layout.{Layout}
+use Rattle.program_output.specs.Layouts.{is_misread}
 use Rattle.without_books.specs.declared.first_bytes.FirstEnd.{FirstEnd}
 use Rattle.without_books.specs.declared.first_bytes.FirstEnd.TheVariants.{Full, AtEnd, Failed}
-use Rattle.without_books.specs.FirstBytes.{AreFirst, IsFilled, is_whole, most_first}
+use Rattle.without_books.specs.FirstBytes.{AreFirst, IsFilled, IsLookedAt, is_whole, looks_misread}
+use Rattle.without_books.specs.FirstBytes.{most_first}
 
 -- the filled part of a room after one more read into the rest
 grown_front : (at room count : ℕ) (buffer given : List ℕ)
@@ -49,3 +55,27 @@ are_first AtEnd (Some bytes) (Some rest) first whole few filled taken =
     ∙ take_all most_first first few)
 are_first (Failed error) (Some bytes) (Some rest) first whole few filled taken =
     absurd (true≢false (sym whole))
+
+-- first bytes that are all that are to come look as they are
+pub whole_seen : {E : Type 0} (layout : Layout) (end : FirstEnd) (first : List ℕ)
+    (seen : Result Bool E) → is_whole end ≡ true → IfOk seen (λ is. is ≡ is_misread layout first)
+    → IfOk seen (λ looks. looks ≡ looks_misread layout end first)
+whole_seen layout end first (Ok seen) whole is =
+    is ∙ ap (λ b. b && is_misread layout first) (sym whole)
+whole_seen layout end first (Err none) whole is = tt
+
+-- What is seen of the first bytes of a dump is how it looks. Where nothing is seen, it does not
+-- look misread.
+pub looked_at : {E : Type 0} (layout : Layout) (end : FirstEnd) (had left : Option (List ℕ))
+    (first : List ℕ) (seen : Result Bool E) (looked : Bool) → length first ≤ most_first
+    → IsFilled end (length first) most_first left → Consumes had left first
+    → IfOk seen (λ looks. looks ≡ looks_misread layout end first)
+    → looked ≡ result_unwrap_or seen false → IsLookedAt layout had looked
+looked_at layout end had left first (Err none) looked few filled taken is given = inr given
+looked_at layout end had left first (Ok seen) looked few filled taken is given =
+    elim (is_whole end) as (λ b. is_whole end ≡ b → looked ≡ (b && is_misread layout first)
+    → IsLookedAt layout had looked) [
+      | true ↦ λ whole own.
+          inl (first, are_first end had left first whole few filled taken, own)
+      | false ↦ λ cut none. inr none
+    ] refl (given ∙ is)

@@ -36,6 +36,10 @@ is_whole Full = true
 is_whole AtEnd = true
 is_whole (Failed error) = false
 
+-- A dump looks misread by its first bytes, where they are all that are to come.
+abbrev pub looks_misread : Layout → FirstEnd → List ℕ → Bool
+looks_misread layout end first = is_whole end && is_misread layout first
+
 -- what a reader has left, if it has not come to its end
 abbrev pub left_of : {R : Type 0} → (R → Option (List ℕ)) → Option R → Option (List ℕ)
 left_of remaining None = Some []

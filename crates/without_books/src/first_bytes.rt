@@ -1,10 +1,9 @@
 //! The first bytes of a dump. They are read ahead and looked at, since they tell whether the dump
 //! looks like one in the other layout. Then they are given with the rest.
 
-ghost use Rattle.std.specs.Prelude.{◌≡◌, ◌⊎◌, ◌≤◌, Some, IfOk, OnErr, true, false, length, take};
+ghost use Rattle.std.specs.Prelude.{◌≡◌, ◌≤◌, Some, IfOk, OnErr, length, take};
 ghost use Rattle.std.specs.Io.KnownBytes.{Consumes, IsAtEnd, Keeps};
 ghost use Rattle.std.specs.Fmt.{option_append};
-ghost use Rattle.program_output.specs.Layouts as layouts;
 ghost use Rattle.without_books.specs.FirstBytes as spec;
 ghost use Rattle.without_books.specs.FirstBytes.{IsFilled, IsLookedAt, most_first, rest_remaining};
 ghost use Rattle.without_books.specs.FirstBytes.{whole_remaining};
@@ -78,7 +77,7 @@ pub fn look_at<R: Read + Drop>(alloc: Global, layout: Layout, mut reader: R) -> 
 {
     match read_first(alloc, &mut reader) {
         Ok(first) => {
-            let is_misread = looks_misread(alloc, layout, &first);
+            let is_misread = looks_misread(alloc, layout, &first).unwrap_or(false);
             LookedAt {
                 reader: joined(first.bytes, rest_of(first.end, reader)),
                 is_misread,
@@ -133,19 +132,15 @@ fn fill<R: Read>(reader: &mut R, room: &mut [u8]) -> (usize, FirstEnd)
     (count, FirstEnd::Full)
 }
 
-/// Whether a dump with these first bytes looks misread. Where they are not all, or without memory,
-/// it does not.
-fn looks_misread(alloc: Global, layout: Layout, first: &FirstBytes) -> bool
-    ensures { ((spec.is_whole first.now.end ≡ true)
-        × (result ≡ layouts.is_misread layout first.now.bytes.items)) ⊎ (result ≡ false) }
+/// Whether a dump with these first bytes looks misread. Where they are not all, it does not.
+fn looks_misread(alloc: Global, layout: Layout, first: &FirstBytes) -> Result<bool, AllocError>
+    ensures { IfOk result (λ looks.
+        looks ≡ spec.looks_misread layout first.now.end first.now.bytes.items) }
 {
     if !is_whole(&first.end) {
-        return false;
+        return Ok(false);
     }
-    match is_misread(alloc, layout, &first.bytes) {
-        Ok(is) => is,
-        Err(_) => false,
-    }
+    is_misread(alloc, layout, &first.bytes)
 }
 
 /// No more of the first bytes is to come.
