@@ -25,8 +25,9 @@ use Rattle.book_laws.specs.BillLaws.{ClosedBillsStay}
 use Rattle.book_laws.proofs.Words.{or-true, NoSuchPeriod, Line, through_at, held_in, AreReadOnce}
 use Rattle.book_laws.proofs.Words.{both_lines}
 use Rattle.book_laws.proofs.BillLemmas.{of_period}
+use Rattle.book_laws.proofs.LaterLemmas.{sound_before}
 use Rattle.book_laws.proofs.ReadLemmas.{lines_once}
-use Rattle.book_laws.proofs.StayLemmas.{answered_before, keeps, keeps_period}
+use Rattle.book_laws.proofs.StayLemmas.{keeps, keeps_period}
 use Rattle.book_laws.proofs.TariffStays.{keeps_tariffs, tariffs_stay}
 use Rattle.book_laws.proofs.TurnStays.{charge_stays}
 use Rattle.std.specs.FinMap as map
@@ -138,8 +139,7 @@ closed_bills_stay naming later earlier (suc k) centre answered closed =
     let new : Book = book_after (later ++ earlier) in
     let kept = keeps_period naming later earlier (suc k) answered closed in
     let period : Period = kept.period in
-    let before = answered_before naming later earlier answered in
-    let was_sound = sound_after naming earlier before in
+    let was_sound = sound_before naming later earlier answered in
     let is_sound = sound_after naming (later ++ earlier) answered in
     let past = closed.is_past in
     let within : k < length old.rulings.closes = omega arith in

@@ -1,11 +1,11 @@
 -- Whole histories: what their periods give and take; net counts, one work, and days; wrong
 -- definitions; sums over rows and over a period's sets; the amounts of periods; the lines that are
--- read; and closed periods. Runs, from these; calls one after another, and what they leave; the
--- lists of all periods; the lines of a statement; single centres; details, which records are counted,
--- what is kept of them, and that they stay; bills, that they stay, their tariffs and the periods of
--- their lines; tariff files; pages; rows by another tariff, and their lines; and the texts about a
--- closed period. Single records: their lives, and how their prices came about. Single answers: to
--- calls, reports, imports, and lists of requests.
+-- read; what calls make of any book; and closed periods. Runs, from these; calls one after another,
+-- and what they leave; the lists of all periods; the lines of a statement; single centres; details,
+-- which records are counted, what is kept of them, and that they stay; bills, that they stay, their
+-- tariffs and the periods of their lines; tariff files; pages; rows by another tariff, and their
+-- lines; and the texts about a closed period. Single records: their lives, and how their prices
+-- came about. Single answers: to calls, reports, imports, and lists of requests.
 mod Words
 pub mod PeriodLemmas
 pub mod NetLemmas
@@ -17,6 +17,7 @@ pub mod SetSums
 pub mod AmountLemmas
 pub mod LineLemmas
 pub mod ReadLemmas
+pub mod LaterLemmas
 pub mod ClosedLemmas
 pub mod RunLemmas
 pub mod CallLemmas

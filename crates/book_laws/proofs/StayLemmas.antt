@@ -10,11 +10,12 @@ use Rattle.book_model.specs.Words.{open_number, period_of, period_on, price_in, 
 use Rattle.book_model.specs.Words.{detail_by, detail_of, details_asked, details_for, details_of}
 use Rattle.book_model.specs.Words.{next_after}
 use Rattle.book_model.proofs.Lemmas.{calls_go_forward, closed_prices_stay, last_or-behind}
-use Rattle.book_model.proofs.Lemmas.{sound_after, pick-agree}
+use Rattle.book_model.proofs.Lemmas.{pick-agree}
 use Rattle.book_model.proofs.DetailLemmas.{asked_rise, details_rise}
 use Rattle.book_model.proofs.DetailOrder.{next_in}
 use Rattle.book_model.proofs.SoundLemmas.{later_still}
 use Rattle.book_laws.proofs.ClosedLemmas.{closed_stays, found_past, past_period}
+use Rattle.book_laws.proofs.LaterLemmas.{sound_before}
 use Rattle.book_laws.proofs.Words.{NoSuchPeriod, IsClosed}
 use Rattle.book_laws.specs.DetailStays.{DetailsStay, NextIsNext}
 
@@ -70,13 +71,6 @@ keeps naming (event ∷ later) earlier bytes answered early =
     let before = keeps naming later earlier bytes answered.1 early in
     record { early = before.early; price = before.price; place = before.place }
 
--- so were the calls before them answered
-pub answered_before : (naming : Naming) (later earlier : List Event)
-    → IsMadeByCalls naming (later ++ earlier) → IsMadeByCalls naming earlier
-answered_before naming [] earlier answered = answered
-answered_before naming (event ∷ later) earlier answered =
-    answered_before naming later earlier answered.1
-
 -- A closed period stays the one of its number, with its details.
 pub record KeepsPeriod (naming : Naming) (number : ℕ) (old new : Book) : Type 0 where
   pub period : Period
@@ -91,7 +85,7 @@ pub keeps_period : (naming : Naming) (later earlier : List Event) (number : ℕ)
 keeps_period naming later earlier number answered closed =
     let old : Book = book_after earlier in
     let new : Book = book_after (later ++ earlier) in
-    let sound = sound_after naming earlier (answered_before naming later earlier answered) in
+    let sound = sound_before naming later earlier answered in
     let there = past_period naming number old sound closed in
     let was : period_of old number ≡ Some there.0 = found_past number old closed ∙ there.1 in
     record {

@@ -3,11 +3,12 @@ use Rattle.std.specs.Prelude.{◌≡◌, ℕ, ◌+◌, true, false, All, List, O
 use Rattle.std.specs.Prelude.{◌-ℤ◌, ◌++◌}
 use Rattle.book_model.specs.Words.{Period, Book, charged_of, all_periods, is_dated_after, Event}
 use Rattle.book_model.specs.Words.{book_after, day_of_close, Naming, Rulings, has, total_of}
-use Rattle.book_model.specs.Words.{IsAnswered, IsMadeByCalls, IsSound, after}
+use Rattle.book_model.specs.Words.{IsAnswered, IsMadeByCalls, IsSound, after, after_all}
 use Rattle.table_model.specs.Words.{IsSubmittedTo, IsReadable}
 use Rattle.book_laws.specs.NetCounts.{net_count, one_if, NamesOnce}
 use Rattle.book_laws.specs.PeriodLines.{AreReadOnce}
 use Rattle.book_laws.specs.ClosedPeriods.{IsClosed, IsReadAlike}
+use Rattle.book_laws.specs.LaterCalls.{AreMadeOf}
 use Rattle.book_laws.specs.PeriodAmounts.{rows_amount, plus_amount, minus_amount, added_cost}
 use Rattle.book_laws.specs.PeriodAmounts.{reversed_cost}
 
@@ -93,3 +94,10 @@ ClosedStays =
     → IsMadeByCalls naming (later ++ earlier)
     → IsClosed number (book_after earlier)
     → IsReadAlike naming number (book_after earlier) (book_after (later ++ earlier))
+
+-- The same of any book that can be read back, whatever calls make of it.
+abbrev pub BooksStayClosed : Type 0
+BooksStayClosed =
+    (naming : Naming) (book : Book) (later : List Event) (number : ℕ)
+    → IsReadable naming book → AreMadeOf naming book later → IsClosed number book
+    → IsReadAlike naming number book (after_all later book)

@@ -2,9 +2,9 @@
 //! that does nothing.
 
 ghost use Rattle.book_laws.specs.ClosedTexts.{ClosedTextsStay};
-ghost use Rattle.book_laws.specs.HistoryLaws.{BooksChargeOnce, ChargedOnce, ClosedStays, Conserved};
-ghost use Rattle.book_laws.specs.HistoryLaws.{ConservedInSets, DatedRight, LinesOnce, NamedOnce};
-ghost use Rattle.book_laws.specs.HistoryLaws.{PostedOnce, ReadableStays};
+ghost use Rattle.book_laws.specs.HistoryLaws.{BooksChargeOnce, BooksStayClosed, ChargedOnce};
+ghost use Rattle.book_laws.specs.HistoryLaws.{ClosedStays, Conserved, ConservedInSets, DatedRight};
+ghost use Rattle.book_laws.specs.HistoryLaws.{LinesOnce, NamedOnce, PostedOnce, ReadableStays};
 ghost use Rattle.book_laws.specs.WrongPeriods.{WrongPeriodsFail};
 
 /// Over all periods a record that is charged now is charged once net, and any other nets to
@@ -55,9 +55,10 @@ pub fn lines_once()
 {}
 
 /// What is closed never changes: whatever comes after a period is closed, the period is read as it
-/// was.
+/// was, in a history and in any book that can be read back.
 pub fn closed_stays()
-    ensures { ClosedStays }
+    ensures history { ClosedStays }
+    ensures book { BooksStayClosed }
 {}
 
 /// So do these texts about a closed period, of the office and of each centre: its statement, its

@@ -1,0 +1,62 @@
+-- What calls make of a book: it stays sound, and so a history goes on.
+use Rattle.std.proofs.Common.{◌≡◌, List, [], ◌∷◌, ◌++◌, sym, subst, Some, None}
+use Rattle.book_model.specs.Words.{Book, Event, IsAnswered, IsMadeByCalls, IsSound, Naming}
+use Rattle.book_model.specs.Words.{PeriodClosed, RecordChosen, RecordKept, RulingGiven}
+use Rattle.book_model.specs.Words.{SecondRuleAdopted, TariffAccepted, after, after_all, book_after}
+use Rattle.book_model.specs.Words.{give, name_of, new_book, open_number}
+use Rattle.book_model.proofs.Lemmas.{sound_after, steps_stay_sound}
+use Rattle.book_laws.proofs.Words.{after_all-append}
+use Rattle.book_laws.specs.LaterCalls.{AreMadeOf}
+
+-- a sound book is sound after an event that was answered so,
+event_sound : (naming : Naming) (event : Event) (book : Book) → IsAnswered naming event book
+    → IsSound naming book → IsSound naming (after event book)
+event_sound naming (RecordKept bytes) book answered sound =
+    steps_stay_sound.keep naming book bytes sound answered
+event_sound naming (PeriodClosed day) book answered sound =
+    steps_stay_sound.close naming book (open_number book) day sound answered
+event_sound naming (RulingGiven (TariffAccepted (Some text) terms)) book answered sound =
+    steps_stay_sound.tariff naming book text terms sound answered
+event_sound naming (RulingGiven (TariffAccepted None terms)) book answered sound =
+    subst (λ before. IsSound naming (give (TariffAccepted None terms) before)) (sym answered)
+    (steps_stay_sound.flat naming terms)
+event_sound naming (RulingGiven (RecordChosen bytes)) book answered sound =
+    steps_stay_sound.choose naming book (name_of naming bytes) bytes sound answered.1
+event_sound naming (RulingGiven SecondRuleAdopted) book answered sound =
+    steps_stay_sound.adopt naming book sound
+
+-- and after all that calls make of it
+pub sound_later : (naming : Naming) (later : List Event) (book : Book) → IsSound naming book
+    → AreMadeOf naming book later → IsSound naming (after_all later book)
+sound_later naming [] book sound made = sound
+sound_later naming (event ∷ later) book sound made =
+    event_sound naming event (after_all later book) made.0
+    (sound_later naming later book sound made.1)
+
+module _ (naming : Naming) where
+  -- where calls made a history that goes on, they made what came before,
+  answered_before : (later earlier : List Event) → IsMadeByCalls naming (later ++ earlier)
+      → IsMadeByCalls naming earlier
+  answered_before [] earlier answered = answered
+  answered_before (event ∷ later) earlier answered = answered_before later earlier answered.1
+
+  -- which left a sound book,
+  pub sound_before : (later earlier : List Event) → IsMadeByCalls naming (later ++ earlier)
+      → IsSound naming (book_after earlier)
+  sound_before later earlier answered =
+      sound_after naming earlier (answered_before later earlier answered)
+
+  -- and of that book the rest
+  pub made_later : (later earlier : List Event) → IsMadeByCalls naming (later ++ earlier)
+      → AreMadeOf naming (book_after earlier) later
+  made_later [] earlier answered = tt
+  made_later (event ∷ later) earlier answered = (
+    subst (λ (book : Book). IsAnswered naming event book)
+        (after_all-append later earlier new_book) answered.0,
+    made_later later earlier answered.1,
+  )
+
+-- what is true of the book that the rest made of it is true of the book of the history
+pub of_history : (P : Book → Type 0) (later earlier : List Event)
+    → P (after_all later (book_after earlier)) → P (book_after (later ++ earlier))
+of_history P later earlier holds = subst P (sym (after_all-append later earlier new_book)) holds
