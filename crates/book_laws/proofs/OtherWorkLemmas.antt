@@ -9,8 +9,9 @@ use Rattle.book_model.specs.Words.{no_event, period_of, price_by, price_in, pric
 use Rattle.book_model.specs.Words.{rows_for, rows_of, same_bytes, what_if_answer, what_if_outcome}
 use Rattle.book_model.proofs.Lemmas.{is, is_first, length-sum_by, sum_by-filter}
 use Rattle.table_model.specs.Words.{IsReadable}
-use Rattle.book_laws.specs.OtherPriceLaws.{CountSameWork, KeepsWork, NamesSameCentres, WhatIf}
-use Rattle.book_laws.proofs.ClosedLemmas.{closed_stays}
+use Rattle.book_laws.specs.OtherPriceLaws.{BooksKeepWhatIfs, CountSameWork, KeepsWork}
+use Rattle.book_laws.specs.OtherPriceLaws.{NamesSameCentres, WhatIf}
+use Rattle.book_laws.proofs.ClosedLemmas.{books_stay_closed, closed_stays}
 use Rattle.book_laws.proofs.OtherPriceLemmas.{answered_rows, costs_as_said, counted_priced}
 use Rattle.book_laws.proofs.OtherPriceLemmas.{gives_statement}
 use Rattle.book_laws.proofs.RowSums.{sum_by-centre_rows, sum_by-rows}
@@ -193,3 +194,9 @@ what_if = record {
       let alike = closed_stays naming later earlier number answered closed in
       ap (λ found. no_event (what_if_answer terms found)) alike.period;
 }
+
+-- and of books that can be read back
+pub books_keep_what_ifs : BooksKeepWhatIfs
+books_keep_what_ifs naming book later number terms whole made closed =
+    let alike = books_stay_closed naming book later number whole made closed in
+    ap (λ found. no_event (what_if_answer terms found)) alike.period

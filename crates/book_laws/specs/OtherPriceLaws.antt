@@ -5,10 +5,11 @@ use Rattle.book_model.specs.Words.{on_every_day, Priced, AcceptedTerms, Book, Ev
 use Rattle.book_model.specs.Words.{Naming, Period, Records, Terms, book_after, charges_outcome}
 use Rattle.book_model.specs.Words.{day_of, flat_book, has, in_force, members, no_event, period_of}
 use Rattle.book_model.specs.Words.{price_by, price_in, prices, rows_if_room, same_bytes, terms_in}
-use Rattle.book_model.specs.Words.{what_if_outcome}
+use Rattle.book_model.specs.Words.{after_all, what_if_outcome}
 use Rattle.report_texts.specs.Centres.{rows_of_centre}
 use Rattle.table_model.specs.Readable.{IsReadable}
 use Rattle.book_laws.specs.ClosedPeriods.{IsClosed}
+use Rattle.book_laws.specs.LaterCalls.{AreMadeOf}
 
 -- Each record of a period costs what the tariff says. The rows are those of the same records at the
 -- prices of a trial by this tariff, which is then the only one and in force on every day; and the
@@ -112,3 +113,10 @@ pub record WhatIf : Type 0 where
       → IsClosed number (book_after earlier)
       → what_if_outcome number terms (book_after (later ++ earlier))
       ≡ what_if_outcome number terms (book_after earlier)
+
+-- So it stays of a closed period of any book that can be read back, whatever calls make of it.
+abbrev pub BooksKeepWhatIfs : Type 0
+BooksKeepWhatIfs =
+    (naming : Naming) (book : Book) (later : List Event) (number : ℕ) (terms : Terms)
+    → IsReadable naming book → AreMadeOf naming book later → IsClosed number book
+    → what_if_outcome number terms (after_all later book) ≡ what_if_outcome number terms book
