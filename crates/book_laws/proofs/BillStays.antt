@@ -1,31 +1,35 @@
 -- The bills of closed periods stay.
-use Rattle.std.proofs.Common.{◌≡◌, ℕ, zero, suc, ◌<◌, List, [], ◌∷◌, ◌++◌, length, refl, sym, ap}
+use Rattle.std.proofs.Common.{◌≡◌, ℕ, zero, suc, ◌<◌, List, [], ◌∷◌, length, refl, sym, ap}
 use Rattle.std.proofs.Common.{◌∙◌, true, false, true≢false, Bool, ◌||◌, Option, Some, None, is_some}
 use Rattle.std.proofs.Common.{arith, All, ℤ, pos, if◌then◌else◌, filter_map, ok_or, option_and_then}
-use Rattle.std.proofs.Common.{option_map}
+use Rattle.std.proofs.Common.{option_map, int_cmp}
+use Rattle.std.specs.List.Sorted.{IsStrictlySortedBy}
 use Rattle.std.proofs.lemmas.List.Sorted.{All-permutation}
 use Rattle.book_model.proofs.Std.{cons_option, list_any, result_ok, All-append, All-cons}
 use Rattle.book_model.proofs.Std.{All-filter, All-nil, IsPermutation-sym, slice_get-get_or}
 use Rattle.book_model.specs.declared.bill.HeldBack.{HeldBack}
 use Rattle.book_model.specs.declared.fault.LedgerFault.TheVariants.{NoSuchRecord}
-use Rattle.book_model.specs.Words.{day_of, job_of, Priced, Book, IsSound, Naming, Period, Records}
-use Rattle.book_model.specs.Words.{Rulings, Terms, bill_of, billed_line, billed_lines}
-use Rattle.book_model.specs.Words.{billed_tariff, book_after, charged_before, details_asked}
+use Rattle.book_model.specs.Words.{day_of, job_of, Priced, Book, Event, IsSound, Naming, Period}
+use Rattle.book_model.specs.Words.{Records, Rulings, Terms, after_all, bill_of, bill_outcome}
+use Rattle.book_model.specs.Words.{billed_line, billed_lines, billed_tariff, book_after}
+use Rattle.book_model.specs.Words.{charged_before, details_asked}
 use Rattle.book_model.specs.Words.{disputes_in, has, held_back_in, held_back_of, in_force}
 use Rattle.book_model.specs.Words.{is_dated_after, jobs_of, last_close, letterhead_among, life_of}
 use Rattle.book_model.specs.Words.{lines_for, lines_of, members, name_of, no_event, period_by_trail}
 use Rattle.book_model.specs.Words.{period_of_line, period_on, price_by, price_in, reckoning_by}
 use Rattle.book_model.specs.Words.{record_named, same_bytes, steps_of, trail_by, trail_of}
 use Rattle.book_model.specs.Words.{work_rows}
-use Rattle.book_model.proofs.Lemmas.{line_by, line_of, map-agree, sound_after, is, is_first}
+use Rattle.book_model.proofs.Lemmas.{line_by, line_of, map-agree, is, is_first}
 use Rattle.book_model.proofs.SamePriceLemmas.{same_lines}
 use Rattle.report_texts.specs.Centres.{lines_of_centre}
 use Rattle.table_model.proofs.TrailLemmas.{named_itself}
-use Rattle.book_laws.specs.BillLaws.{ClosedBillsStay}
+use Rattle.book_laws.specs.BillLaws.{BooksKeepBills, ClosedBillsStay}
+use Rattle.book_laws.specs.LaterCalls.{AreMadeOf}
 use Rattle.book_laws.proofs.Words.{or-true, NoSuchPeriod, Line, through_at, held_in, AreReadOnce}
-use Rattle.book_laws.proofs.Words.{both_lines}
+use Rattle.book_laws.proofs.Words.{both_lines, IsClosed}
 use Rattle.book_laws.proofs.BillLemmas.{of_period}
-use Rattle.book_laws.proofs.LaterLemmas.{sound_before}
+use Rattle.book_laws.proofs.LaterLemmas.{answered_before, closes_rise, made_later, of_history}
+use Rattle.book_laws.proofs.LaterLemmas.{sound_before, sound_later}
 use Rattle.book_laws.proofs.ReadLemmas.{lines_once}
 use Rattle.book_laws.proofs.StayLemmas.{keeps, keeps_period}
 use Rattle.book_laws.proofs.TariffStays.{keeps_tariffs, tariffs_stay}
@@ -129,18 +133,21 @@ none_held_back naming book k centre within =
     let held : HeldBack = held_back_in centre (disputes_in naming book.rulings book.held) in
     ap (λ (through : Option ℤ). if is_some through then None else Some held) closed
 
--- the law
-pub closed_bills_stay : ClosedBillsStay
-closed_bills_stay naming later earlier zero centre answered closed =
+-- the bill of a closed period stays, where a sound book has its closes in order
+bill_stays : (naming : Naming) (later : List Event) (old : Book) (number : ℕ)
+    (centre : Option (List ℕ)) → IsSound naming old
+    → IsStrictlySortedBy int_cmp old.rulings.closes → AreMadeOf naming old later
+    → IsClosed number old
+    → bill_outcome naming number centre (after_all later old)
+    ≡ bill_outcome naming number centre old
+bill_stays naming later old zero centre was_sound rising made closed =
     let some = closed.is_numbered in
     absurd (omega arith)
-closed_bills_stay naming later earlier (suc k) centre answered closed =
-    let old : Book = book_after earlier in
-    let new : Book = book_after (later ++ earlier) in
-    let kept = keeps_period naming later earlier (suc k) answered closed in
+bill_stays naming later old (suc k) centre was_sound rising made closed =
+    let new : Book = after_all later old in
+    let kept = keeps_period naming later old (suc k) was_sound made closed in
     let period : Period = kept.period in
-    let was_sound = sound_before naming later earlier answered in
-    let is_sound = sound_after naming (later ++ earlier) answered in
+    let is_sound = sound_later naming later old was_sound made in
     let past = closed.is_past in
     let within : k < length old.rulings.closes = omega arith in
     let as_many = was_sound.closed in
@@ -149,7 +156,7 @@ closed_bills_stay naming later earlier (suc k) centre answered closed =
     let read = of_period (λ period. AreReadOnce naming old.rulings period) naming old was_sound
     (lines_once naming old was_sound) (suc k) period kept.was in
     let alike = λ (bytes : List ℕ) (early : is_dated_after (last_close old.rulings) bytes ≡ false).
-    (keeps naming later earlier bytes answered early).price in
+    (keeps naming later old bytes made early).price in
     let lines = same_lines new.rulings old.rulings (last_close old.rulings) alike naming period
     kept.dated in
     let P : Line → Type 0 = λ line.
@@ -159,8 +166,8 @@ closed_bills_stay naming later earlier (suc k) centre answered closed =
     → (priced : Priced) → P (line_with naming old.rulings P plus bytes priced) =
     λ plus bytes was now early priced.
     let line : Line = line_with naming old.rulings P plus bytes priced in
-    let place = (keeps naming later earlier bytes answered early).place in
-    let charges = charge_stays (suc k) bytes naming later earlier answered (omega arith) in
+    let place = (keeps naming later old bytes made early).place in
+    let charges = charge_stays (suc k) bytes later old (omega arith) in
     let same : period_of_line naming new (suc k) line ≡ period_of_line naming old (suc k) line =
     period_told naming new is_sound (suc k) line bytes now refl
     ∙ (λ i. if plus then Some (place i) else charges i)
@@ -174,8 +181,8 @@ closed_bills_stay naming later earlier (suc k) centre answered closed =
     (kept.dated.taken bytes there) priced) in
     let billed = ap (billed_lines naming new (suc k) centre) lines
     ∙ billed_alike naming new old (suc k) centre (lines_of naming old.rulings period) each in
-    let tariffs = tariffs_stay naming later earlier k answered within in
-    let still = (keeps_tariffs naming later earlier k answered within).within in
+    let tariffs = tariffs_stay naming later old k rising made within in
+    let still = (keeps_tariffs naming later old k rising made within).within in
     let none = none_held_back naming new k centre still
     ∙ sym (none_held_back naming old k centre within) in
     let same : bill_of naming new (suc k) centre period ≡ bill_of naming old (suc k) centre period =
@@ -192,3 +199,18 @@ closed_bills_stay naming later earlier (suc k) centre answered closed =
     ap (by new) kept.is
     ∙ ap (λ bill. no_event (ok_or (Some bill) NoSuchPeriod)) same
     ∙ sym (ap (by old) kept.was)
+
+-- the law, of books that can be read back
+pub books_keep_bills : BooksKeepBills
+books_keep_bills naming book later number centre whole made closed =
+    bill_stays naming later book number centre whole.sound whole.in_order made closed
+
+-- and of histories
+pub closed_bills_stay : ClosedBillsStay
+closed_bills_stay naming later earlier number centre answered closed =
+    let old : Book = book_after earlier in
+    of_history (λ new. bill_outcome naming number centre new
+    ≡ bill_outcome naming number centre old) later earlier
+    (bill_stays naming later old number centre (sound_before naming later earlier answered)
+    (closes_rise naming earlier (answered_before naming later earlier answered))
+    (made_later naming later earlier answered) closed)

@@ -2,9 +2,7 @@
 -- period of its day.
 use Rattle.std.proofs.Common.{◌≡◌, ℕ, zero, suc, ◌+◌, ◌≤◌, List, [], ◌∷◌, ◌++◌, length, refl, sym}
 use Rattle.std.proofs.Common.{ap, ◌∙◌, true, false, true≢false, Bool, cond, ◌&&◌, Option, Some}
-use Rattle.std.proofs.Common.{None, arith, All, ℤ, pos, ◌-ℤ◌, count_by, nat_lt, slice_get, int_cmp}
-use Rattle.std.proofs.Common.{lt-ltb}
-use Rattle.std.specs.List.Sorted.{IsStrictlySortedBy}
+use Rattle.std.proofs.Common.{None, arith, All, ℤ, pos, ◌-ℤ◌, count_by, nat_lt, slice_get, lt-ltb}
 use Rattle.book_model.proofs.Std.{option_map_or, false_from_ne_true, ints, All-weaker, sum_by-cons}
 use Rattle.book_model.proofs.Std.{sum_by_push}
 use Rattle.book_model.specs.Words.{rulings_before, AreAllDatedThrough, Book, Event, IsMadeByCalls}
@@ -12,17 +10,17 @@ use Rattle.book_model.specs.Words.{IsSound, Naming, Period, PeriodClosed, Record
 use Rattle.book_model.specs.Words.{all_periods, book_after, charged_by, charged_in, charged_of}
 use Rattle.book_model.specs.Words.{charged_through, closes, counted_of, day_of_close, has}
 use Rattle.book_model.specs.Words.{held_before, is_dated_after, is_dated_in, is_dated_through}
-use Rattle.book_model.specs.Words.{is_undisputed, last_close, open_number, period_after, period_by}
-use Rattle.book_model.specs.Words.{rulings, those}
-use Rattle.book_model.proofs.Lemmas.{calls_go_forward, close_at, counted_at, sound_after, has_those}
+use Rattle.book_model.specs.Words.{is_undisputed, last_close, period_after, period_by, rulings}
+use Rattle.book_model.specs.Words.{those}
+use Rattle.book_model.proofs.Lemmas.{close_at, counted_at, sound_after, has_those}
 use Rattle.book_model.proofs.Lemmas.{in_those, passes_those, second_of, list_any-count_by}
 use Rattle.book_model.proofs.CountedDays.{AreInWindows, has_counted_of}
 use Rattle.book_model.proofs.MadeByCallsLemmas.{rulings_are}
-use Rattle.table_model.proofs.CloseOrder.{rise_behind}
 use Rattle.table_model.proofs.PeriodPlaces.{at_place}
 use Rattle.book_laws.specs.DetailLaws.{CountedByDay, CountedIsRead, DetailedOnce}
 use Rattle.book_laws.specs.NetCounts.{one_if, times_added, times_counted, times_reversed}
 use Rattle.book_laws.proofs.DatedLemmas.{all_are, dated_right, period_at}
+use Rattle.book_laws.proofs.LaterLemmas.{closes_rise}
 use Rattle.book_laws.proofs.NetLemmas.{charged_once}
 
 -- a test counts at most one
@@ -116,17 +114,6 @@ counted_is_read naming history bytes answered =
     (times_reversed periods bytes) (one_if (has (charged_of book) bytes))
     (charged_once history bytes) in
     omega arith
-
--- the days of closes rise
-pub closes_rise : (naming : Naming) (history : List Event) → IsMadeByCalls naming history
-    → IsStrictlySortedBy int_cmp (book_after history).rulings.closes
-unfolding IsStrictlySortedBy
-closes_rise naming [] answered = tt
-closes_rise naming (PeriodClosed day ∷ older) answered =
-    let book : Book = book_after older in
-    rise_behind book.rulings.closes day (closes_rise naming older answered.1)
-    (calls_go_forward.close book (open_number book) day answered.0)
-closes_rise naming (event ∷ older) answered = closes_rise naming older answered.1
 
 -- what a close charges is dated through it
 charged_dated : (ruled : Rulings) (through : Option ℤ) (held : Records) (bytes : List ℕ)

@@ -1,10 +1,12 @@
--- What calls make of a book: it stays sound, and so a history goes on.
-use Rattle.std.proofs.Common.{◌≡◌, List, [], ◌∷◌, ◌++◌, sym, subst, Some, None}
+-- What calls make of a book: it stays sound, its closes stay in order, and so a history goes on.
+use Rattle.std.proofs.Common.{List, [], ◌∷◌, ◌++◌, sym, subst, Some, None, int_cmp}
+use Rattle.std.specs.List.Sorted.{IsStrictlySortedBy}
 use Rattle.book_model.specs.Words.{Book, Event, IsAnswered, IsMadeByCalls, IsSound, Naming}
 use Rattle.book_model.specs.Words.{PeriodClosed, RecordChosen, RecordKept, RulingGiven}
 use Rattle.book_model.specs.Words.{SecondRuleAdopted, TariffAccepted, after, after_all, book_after}
 use Rattle.book_model.specs.Words.{give, name_of, new_book, open_number}
-use Rattle.book_model.proofs.Lemmas.{sound_after, steps_stay_sound}
+use Rattle.book_model.proofs.Lemmas.{calls_go_forward, sound_after, steps_stay_sound}
+use Rattle.table_model.proofs.CloseOrder.{rise_behind}
 use Rattle.book_laws.proofs.Words.{after_all-append}
 use Rattle.book_laws.specs.LaterCalls.{AreMadeOf}
 
@@ -33,9 +35,37 @@ sound_later naming (event ∷ later) book sound made =
     event_sound naming event (after_all later book) made.0
     (sound_later naming later book sound made.1)
 
+-- and closes that are in order stay so
+pub rise_later : (naming : Naming) (later : List Event) (book : Book)
+    → IsStrictlySortedBy int_cmp book.rulings.closes → AreMadeOf naming book later
+    → IsStrictlySortedBy int_cmp (after_all later book).rulings.closes
+rise_later naming [] book rising made = rising
+rise_later naming (PeriodClosed day ∷ later) book rising made =
+    let between : Book = after_all later book in
+    rise_behind between.rulings.closes day (rise_later naming later book rising made.1)
+    (calls_go_forward.close between (open_number between) day made.0)
+rise_later naming (event ∷ later) book rising made = rise_later naming later book rising made.1
+
+-- new books have no closes
+none_rise : IsStrictlySortedBy int_cmp new_book.rulings.closes
+unfolding IsStrictlySortedBy
+none_rise = tt
+
 module _ (naming : Naming) where
+  -- a history that calls made is what they made of new books,
+  made_of_new : (history : List Event) → IsMadeByCalls naming history
+      → AreMadeOf naming new_book history
+  made_of_new [] answered = tt
+  made_of_new (event ∷ older) answered = (answered.0, made_of_new older answered.1)
+
+  -- so the days of its closes rise
+  pub closes_rise : (history : List Event) → IsMadeByCalls naming history
+      → IsStrictlySortedBy int_cmp (book_after history).rulings.closes
+  closes_rise history answered =
+      rise_later naming history new_book none_rise (made_of_new history answered)
+
   -- where calls made a history that goes on, they made what came before,
-  answered_before : (later earlier : List Event) → IsMadeByCalls naming (later ++ earlier)
+  pub answered_before : (later earlier : List Event) → IsMadeByCalls naming (later ++ earlier)
       → IsMadeByCalls naming earlier
   answered_before [] earlier answered = answered
   answered_before (event ∷ later) earlier answered = answered_before later earlier answered.1

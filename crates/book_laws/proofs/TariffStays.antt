@@ -7,16 +7,17 @@ use Rattle.std.specs.List.Sorted.{IsStrictlySortedBy}
 use Rattle.std.proofs.lemmas.Map.Keys.{Less-from_sorted}
 use Rattle.book_model.proofs.Std.{last_or, ints, filter-append, filter_map-append}
 use Rattle.book_model.proofs.Std.{get_or_from_slice_get, slice_get-get_or, slice_get_within}
-use Rattle.book_model.specs.Words.{AcceptedTerms, Book, Event, IsMadeByCalls, Naming, PeriodClosed}
+use Rattle.book_model.specs.Words.{AcceptedTerms, Book, Event, Naming, PeriodClosed, after_all}
 use Rattle.book_model.specs.Words.{RulingGiven, Rulings, RulingSeen, TariffAccepted, TariffSeen}
-use Rattle.book_model.specs.Words.{Terms, begins_by, book_after, in_force_from, tariff_seen}
+use Rattle.book_model.specs.Words.{Terms, begins_by, in_force_from, tariff_seen}
 use Rattle.book_model.specs.Words.{tariffs_from, tariffs_in, tariffs_seen, tariffs_through}
 use Rattle.book_model.specs.Words.{through_of}
 use Rattle.book_model.proofs.Lemmas.{calls_go_forward, close_at, slice_get-front}
 use Rattle.book_model.proofs.CountedDays.{through_at}
 use Rattle.table_model.proofs.CloseOrder.{earlier as is_earlier, first_earlier}
 use Rattle.book_reports.proofs.KeptTariffLemmas.{in_force_push}
-use Rattle.book_laws.proofs.CountedLemmas.{closes_rise}
+use Rattle.book_laws.proofs.LaterLemmas.{rise_later}
+use Rattle.book_laws.specs.LaterCalls.{AreMadeOf}
 
 -- of rising days one that stands before another is earlier
 pub rise_at : (days : List ℤ) (j k : ℕ) (one other : ℤ) → IsStrictlySortedBy int_cmp days → j < k
@@ -143,45 +144,43 @@ pub record KeepsTariffs (k : ℕ) (old new : Book) : Type 0 where
   pub same : tariffs_at k new.rulings.closes new.rulings.tariffs
       ≡ tariffs_at k old.rulings.closes old.rulings.tariffs
 
-pub keeps_tariffs : (naming : Naming) (later earlier : List Event) (k : ℕ)
-    → IsMadeByCalls naming (later ++ earlier)
-    → k < length (book_after earlier).rulings.closes
-    → KeepsTariffs k (book_after earlier) (book_after (later ++ earlier))
-keeps_tariffs naming [] earlier k answered within = record { within = within; same = refl }
-keeps_tariffs naming (PeriodClosed day ∷ later) earlier k answered within =
-    let before = keeps_tariffs naming later earlier k answered.1 within in
-    let book : Book = book_after (later ++ earlier) in
+pub keeps_tariffs : (naming : Naming) (later : List Event) (start : Book) (k : ℕ)
+    → IsStrictlySortedBy int_cmp start.rulings.closes → AreMadeOf naming start later
+    → k < length start.rulings.closes → KeepsTariffs k start (after_all later start)
+keeps_tariffs naming [] start k rising made within = record { within = within; same = refl }
+keeps_tariffs naming (PeriodClosed day ∷ later) start k rising made within =
+    let before = keeps_tariffs naming later start k rising made.1 within in
+    let book : Book = after_all later start in
     let more = length-append book.rulings.closes (day ∷ []) in
     let still = before.within in record {
       within = omega arith;
       same = close_leaves book.rulings.closes book.rulings.tariffs day k before.within
           ∙ before.same;
     }
-keeps_tariffs naming (RulingGiven (TariffAccepted (Some text) terms) ∷ later) earlier k answered
+keeps_tariffs naming (RulingGiven (TariffAccepted (Some text) terms) ∷ later) start k rising made
     within =
-    let before = keeps_tariffs naming later earlier k answered.1 within in
-    let book : Book = book_after (later ++ earlier) in record {
+    let before = keeps_tariffs naming later start k rising made.1 within in
+    let book : Book = after_all later start in record {
       within = before.within;
       same =
           tariff_leaves book.rulings.closes book.rulings.tariffs text terms k
-          (closes_rise naming (later ++ earlier) answered.1) before.within
-          (calls_go_forward.tariff book text terms answered.0)
+          (rise_later naming later start rising made.1) before.within
+          (calls_go_forward.tariff book text terms made.0)
           ∙ before.same;
     }
-keeps_tariffs naming (RulingGiven (TariffAccepted None terms) ∷ later) earlier k answered within =
-    let before = keeps_tariffs naming later earlier k answered.1 within in
-    let never = subst (λ (book : Book). k < length book.rulings.closes) answered.0 before.within in
+keeps_tariffs naming (RulingGiven (TariffAccepted None terms) ∷ later) start k rising made within =
+    let before = keeps_tariffs naming later start k rising made.1 within in
+    let never = subst (λ (book : Book). k < length book.rulings.closes) made.0 before.within in
     absurd (omega arith)
-keeps_tariffs naming (event ∷ later) earlier k answered within =
-    let before = keeps_tariffs naming later earlier k answered.1 within in
+keeps_tariffs naming (event ∷ later) start k rising made within =
+    let before = keeps_tariffs naming later start k rising made.1 within in
     record { within = before.within; same = before.same }
 
-pub tariffs_stay : (naming : Naming) (later earlier : List Event) (k : ℕ)
-    → IsMadeByCalls naming (later ++ earlier)
-    → k < length (book_after earlier).rulings.closes
-    → tariffs_in (suc k) (book_after (later ++ earlier)).rulings
-    ≡ tariffs_in (suc k) (book_after earlier).rulings
-tariffs_stay naming later earlier k answered within =
-    tariffs_are k (book_after (later ++ earlier)).rulings
-    ∙ (keeps_tariffs naming later earlier k answered within).same
-    ∙ sym (tariffs_are k (book_after earlier).rulings)
+pub tariffs_stay : (naming : Naming) (later : List Event) (old : Book) (k : ℕ)
+    → IsStrictlySortedBy int_cmp old.rulings.closes → AreMadeOf naming old later
+    → k < length old.rulings.closes
+    → tariffs_in (suc k) (after_all later old).rulings ≡ tariffs_in (suc k) old.rulings
+tariffs_stay naming later old k rising made within =
+    tariffs_are k (after_all later old).rulings
+    ∙ (keeps_tariffs naming later old k rising made within).same
+    ∙ sym (tariffs_are k old.rulings)

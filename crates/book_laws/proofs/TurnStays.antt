@@ -4,10 +4,9 @@ use Rattle.std.proofs.Common.{◌∙◌, true, false, Bool, cond, ◌&&◌, None
 use Rattle.std.proofs.Common.{option_map, le-ltb, length-append}
 use Rattle.book_model.proofs.Std.{last_or, filter-append}
 use Rattle.book_model.specs.declared.trail.Deed.{Deed}
-use Rattle.book_model.specs.Words.{Book, Event, IsMadeByCalls, Naming, Period, PeriodClosed}
-use Rattle.book_model.specs.Words.{book_after, charged_before, charged_through, has, is_charge}
-use Rattle.book_model.specs.Words.{last_close, life_from, life_of, open_period, period_by, turn_if}
-use Rattle.book_model.specs.Words.{turns_in}
+use Rattle.book_model.specs.Words.{Book, Event, Period, PeriodClosed, after_all, charged_before}
+use Rattle.book_model.specs.Words.{charged_through, has, is_charge, last_close, life_from, life_of}
+use Rattle.book_model.specs.Words.{open_period, period_by, turn_if, turns_in}
 use Rattle.book_laws.proofs.Words.{Added, Charged, Reversed, Turn}
 
 -- a charge in a period before that of the number
@@ -63,14 +62,13 @@ module _ (number : ℕ) (bytes : List ℕ) where
       ∙ ap (λ turns. earlier_charges number own ++ turns) (one_later (suc k) later last (omega arith))
       ∙ sym (filter-append (is_before number) own (life_from (suc k) later bytes))
 
-  -- So the earlier charges stay, whatever calls follow.
-  keeps_turns : (naming : Naming) (later earlier : List Event)
-      → IsMadeByCalls naming (later ++ earlier) → number ≤ length (book_after earlier).past
-      → KeepsTurns number bytes (book_after earlier) (book_after (later ++ earlier))
-  keeps_turns naming [] earlier answered long = record { long = long; same = refl }
-  keeps_turns naming (PeriodClosed day ∷ later) earlier answered long =
-      let before = keeps_turns naming later earlier answered.1 long in
-      let book : Book = book_after (later ++ earlier) in
+  -- So the earlier charges stay, whatever follows.
+  keeps_turns : (later : List Event) (start : Book) → number ≤ length start.past
+      → KeepsTurns number bytes start (after_all later start)
+  keeps_turns [] start long = record { long = long; same = refl }
+  keeps_turns (PeriodClosed day ∷ later) start long =
+      let before = keeps_turns later start long in
+      let book : Book = after_all later start in
       let ended : Period = period_by (last_close book.rulings) book.posted
       (charged_through book.rulings day book.held) in
       let more = length-append book.past (ended ∷ []) in
@@ -78,18 +76,16 @@ module _ (number : ℕ) (bytes : List ℕ) where
         long = omega arith;
         same = one_later 1 book.past ended (omega arith) ∙ before.same;
       }
-  keeps_turns naming (event ∷ later) earlier answered long =
-      let before = keeps_turns naming later earlier answered.1 long in
+  keeps_turns (event ∷ later) start long =
+      let before = keeps_turns later start long in
       record { long = before.long; same = before.same }
 
-  pub charge_stays : (naming : Naming) (later earlier : List Event)
-      → IsMadeByCalls naming (later ++ earlier) → number ≤ length (book_after earlier).past
-      → charged_before number (life_of (book_after (later ++ earlier)) bytes)
-      ≡ charged_before number (life_of (book_after earlier) bytes)
-  charge_stays naming later earlier answered long =
-      let old : Book = book_after earlier in
-      let new : Book = book_after (later ++ earlier) in
-      let kept = keeps_turns naming later earlier answered long in
+  pub charge_stays : (later : List Event) (old : Book) → number ≤ length old.past
+      → charged_before number (life_of (after_all later old) bytes)
+      ≡ charged_before number (life_of old bytes)
+  charge_stays later old long =
+      let new : Book = after_all later old in
+      let kept = keeps_turns later old long in
       let still = kept.long in
       ap (λ turns. option_map (λ (turn : Turn). turn.period) (last_or None turns))
       (one_later 1 new.past (open_period new) (omega arith)

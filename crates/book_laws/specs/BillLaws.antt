@@ -10,14 +10,15 @@ use Rattle.book_model.specs.declared.dispute.Variant.{Variant}
 use Rattle.book_model.specs.declared.line.Line.{Line}
 use Rattle.book_model.specs.declared.row.ChargeRow.{ChargeRow}
 use Rattle.book_model.specs.Words.{BillSeen, Book, Disputed, Event, IsMadeByCalls, IsSound, Naming}
-use Rattle.book_model.specs.Words.{Period, Rulings, Terms, amount_for, bill_of, bill_outcome}
-use Rattle.book_model.specs.Words.{book_after, day_of, has, held_back_in, in_force, is_day_of}
-use Rattle.book_model.specs.Words.{lines_of, period_of, rows_for, tariff_by}
+use Rattle.book_model.specs.Words.{Period, Rulings, Terms, after_all, amount_for, bill_of}
+use Rattle.book_model.specs.Words.{bill_outcome, book_after, day_of, has, held_back_in, in_force}
+use Rattle.book_model.specs.Words.{is_day_of, lines_of, period_of, rows_for, tariff_by}
 use Rattle.report_texts.specs.Centres.{lines_of_centre, rows_of_centre}
 use Rattle.report_texts.specs.Charges.{all_charges, centres_of, charges_of_centre, plain_lines}
 use Rattle.report_texts.specs.declared.charges.Charges.{Charges}
 use Rattle.table_model.specs.Readable.{IsReadable}
 use Rattle.book_laws.specs.ClosedPeriods.{IsClosed}
+use Rattle.book_laws.specs.LaterCalls.{AreMadeOf}
 
 -- of charge rows, those of the centre that is named, or all of them where none is
 abbrev pub rows_asked : Option (List ℕ) → List ChargeRow → List ChargeRow
@@ -148,3 +149,11 @@ ClosedBillsStay =
     → IsClosed number (book_after earlier)
     → bill_outcome naming number centre (book_after (later ++ earlier))
     ≡ bill_outcome naming number centre (book_after earlier)
+
+-- The same of any book that can be read back, whatever calls make of it.
+abbrev pub BooksKeepBills : Type 0
+BooksKeepBills =
+    (naming : Naming) (book : Book) (later : List Event) (number : ℕ) (centre : Option (List ℕ))
+    → IsReadable naming book → AreMadeOf naming book later → IsClosed number book
+    → bill_outcome naming number centre (after_all later book)
+    ≡ bill_outcome naming number centre book

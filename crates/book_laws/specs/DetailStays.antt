@@ -1,9 +1,12 @@
 -- Details of closed periods stay, and details are read one after another.
 use Rattle.std.specs.Prelude.{◌≡◌, ℕ, List, ◌∷◌, ◌++◌, Option, Some}
 use Rattle.book_model.specs.declared.detail.Detail.{Detail}
-use Rattle.book_model.specs.Words.{Event, IsMadeByCalls, Naming, Records, Rulings, book_after}
-use Rattle.book_model.specs.Words.{details_asked, details_for, details_outcome, first_detail, next_after}
+use Rattle.book_model.specs.Words.{Book, Event, IsMadeByCalls, Naming, Records, Rulings, after_all}
+use Rattle.book_model.specs.Words.{book_after, details_asked, details_for, details_outcome}
+use Rattle.book_model.specs.Words.{first_detail, next_after}
+use Rattle.table_model.specs.Readable.{IsReadable}
 use Rattle.book_laws.specs.ClosedPeriods.{IsClosed}
+use Rattle.book_laws.specs.LaterCalls.{AreMadeOf}
 
 -- What is closed never changes: whatever calls follow, the details of a closed period are answered as
 -- they were, also after choices, the second rule of identity and tariffs that come late.
@@ -14,6 +17,14 @@ DetailsStay =
     → IsClosed number (book_after earlier)
     → details_outcome naming number centre (book_after (later ++ earlier))
     ≡ details_outcome naming number centre (book_after earlier)
+
+-- The same of any book that can be read back, whatever calls make of it.
+abbrev pub BooksKeepDetails : Type 0
+BooksKeepDetails =
+    (naming : Naming) (book : Book) (later : List Event) (number : ℕ) (centre : Option (List ℕ))
+    → IsReadable naming book → AreMadeOf naming book later → IsClosed number book
+    → details_outcome naming number centre (after_all later book)
+    ≡ details_outcome naming number centre book
 
 -- Details are read one at a time, those of a centre or all: after those that were read comes the
 -- first of the rest.

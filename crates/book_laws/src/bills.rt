@@ -3,7 +3,7 @@
 
 ghost use Rattle.book_laws.specs.BillLaws.{BilledLinesHavePeriods, BilledTariffsPrice};
 ghost use Rattle.book_laws.specs.BillLaws.{BilledTariffsRule, BillsAddUp, BillsSplitStatements};
-ghost use Rattle.book_laws.specs.BillLaws.{ClosedBillsStay, HeldBackBounds};
+ghost use Rattle.book_laws.specs.BillLaws.{BooksKeepBills, ClosedBillsStay, HeldBackBounds};
 
 /// A bill splits the rows of the statement into steps and jobs, and has the lines of the
 /// adjustments.
@@ -37,7 +37,9 @@ pub fn held_back_bounds()
     ensures { HeldBackBounds }
 {}
 
-/// The bill of a closed period is answered as it was, whatever calls follow.
+/// The bill of a closed period is answered as it was, whatever calls follow, in a history and in
+/// any book that can be read back.
 pub fn closed_bills_stay()
-    ensures { ClosedBillsStay }
+    ensures history { ClosedBillsStay }
+    ensures book { BooksKeepBills }
 {}

@@ -3,7 +3,7 @@
 
 ghost use Rattle.book_laws.specs.DetailLaws.{CentreDetailsAddUp, CountedByDay, CountedIsRead};
 ghost use Rattle.book_laws.specs.DetailLaws.{DetailedOnce, DetailsAddUp};
-ghost use Rattle.book_laws.specs.DetailStays.{DetailsStay, NextIsNext};
+ghost use Rattle.book_laws.specs.DetailStays.{BooksKeepDetails, DetailsStay, NextIsNext};
 ghost use Rattle.book_laws.specs.KeptDetails.{CountedFollows, DetailsAreKept, RowsJoinAndGo};
 ghost use Rattle.book_laws.specs.KeptDetails.{TariffsReadKept};
 
@@ -54,9 +54,11 @@ pub fn rows_join_and_go()
     ensures { RowsJoinAndGo }
 {}
 
-/// The details of a closed period are answered as they were, whatever calls follow.
+/// The details of a closed period are answered as they were, whatever calls follow, in a history
+/// and in any book that can be read back.
 pub fn details_stay()
-    ensures { DetailsStay }
+    ensures history { DetailsStay }
+    ensures book { BooksKeepDetails }
 {}
 
 /// Read one at a time, after those that were read comes the first of the rest.
