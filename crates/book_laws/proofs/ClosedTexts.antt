@@ -1,26 +1,32 @@
 -- The texts about a closed period stay.
 use Rattle.std.proofs.Common.{◌≡◌, ℕ, List, ◌++◌, Option, Result, Ok, Err, refl}
 use Rattle.tariff_rules.specs.declared.fault.TariffFault.{TariffFault}
-use Rattle.book_model.specs.Words.{Book, Event, IsMadeByCalls, Naming, Terms, book_after, terms_in}
+use Rattle.book_model.specs.declared.fault.LedgerFault.{LedgerFault}
+use Rattle.book_model.specs.Words.{Book, Naming, Terms, after_all, bill_outcome, book_after}
+use Rattle.book_model.specs.Words.{details_outcome, terms_in, what_if_outcome}
 use Rattle.book_reports.specs.declared.report.PeriodReport.{PeriodReport}
 use Rattle.book_reports.specs.declared.report.PeriodReport.TheVariants.{AdjustmentList, Statement}
 use Rattle.book_reports.specs.declared.report.PeriodReport.TheVariants.{AdjustmentTable}
 use Rattle.book_reports.specs.declared.report.PeriodReport.TheVariants.{StatementTable}
+use Rattle.book_reports.specs.declared.report.Report.TheVariants.{Bill, OfPeriod}
+use Rattle.book_reports.specs.declared.streamed_details.DetailReport.{DetailReport}
 use Rattle.book_reports.specs.declared.what_if.StatementForm.{StatementForm}
 use Rattle.book_reports.specs.declared.what_if.StatementForm.TheVariants.{Text, Table}
 use Rattle.book_reports.specs.declared.what_if.WhatIf.{WhatIf}
 use Rattle.book_reports.specs.Bills.{bill_in, bill_with}
 use Rattle.book_reports.specs.BookTexts.{period_adjustment_table, period_adjustments, period_answer}
-use Rattle.book_reports.specs.BookTexts.{period_statement, period_statement_table, shown_by}
-use Rattle.book_reports.specs.StreamedDetails.{details_text}
+use Rattle.book_reports.specs.BookTexts.{period_statement, period_statement_table, report_answer}
+use Rattle.book_reports.specs.BookTexts.{shown_by}
+use Rattle.book_reports.specs.StreamedDetails.{detail_answer, details_text}
 use Rattle.book_reports.specs.WhatIfTexts.{form_under, shown_by_both, table_shown, text_shown}
-use Rattle.book_reports.specs.WhatIfTexts.{what_if_by}
-use Rattle.book_laws.specs.ClosedPeriods.{IsClosed, IsReadAlike}
-use Rattle.book_laws.specs.ClosedTexts.{ClosedTextsStay}
-use Rattle.book_laws.proofs.BillStays.{closed_bills_stay}
-use Rattle.book_laws.proofs.ClosedLemmas.{closed_stays}
-use Rattle.book_laws.proofs.OtherWorkLemmas.{what_if}
-use Rattle.book_laws.proofs.StayLemmas.{details_stay}
+use Rattle.book_reports.specs.WhatIfTexts.{what_if_by, what_if_report}
+use Rattle.book_laws.specs.ClosedPeriods.{IsReadAlike}
+use Rattle.book_laws.specs.ClosedTexts.{BooksKeepTexts, ClosedTextsStay, IsFinal, IsFinalInBooks}
+use Rattle.book_laws.specs.ClosedTexts.{TextsStay}
+use Rattle.book_laws.proofs.BillStays.{books_keep_bills, closed_bills_stay}
+use Rattle.book_laws.proofs.ClosedLemmas.{books_stay_closed, closed_stays}
+use Rattle.book_laws.proofs.OtherWorkLemmas.{books_keep_what_ifs, what_if}
+use Rattle.book_laws.proofs.StayLemmas.{books_keep_details, details_stay}
 
 -- a statement, or adjustments, of a period that is read alike
 pub period_stays : (naming : Naming) (number : ℕ) (old new : Book)
@@ -35,49 +41,92 @@ period_stays naming number old new alike AdjustmentList centre =
 period_stays naming number old new alike AdjustmentTable centre =
     λ i. shown_by (period_adjustment_table centre number) (alike.lines i).answer
 
-module _ (naming : Naming) (later earlier : List Event)
-    (answered : IsMadeByCalls naming (later ++ earlier)) (number : ℕ)
-    (closed : IsClosed number (book_after earlier)) where
-  read : IsReadAlike naming number (book_after earlier) (book_after (later ++ earlier))
-  read = closed_stays naming later earlier number answered closed
+-- what two books answer of a period is the same
+record AnswersAlike (naming : Naming) (number : ℕ) (old new : Book) : Type 0 where
+  read : IsReadAlike naming number old new
+  bill : (centre : Option (List ℕ))
+      → bill_outcome naming number centre new ≡ bill_outcome naming number centre old
+  details : (centre : Option (List ℕ))
+      → details_outcome naming number centre new ≡ details_outcome naming number centre old
+  priced : (terms : Terms) → what_if_outcome number terms new ≡ what_if_outcome number terms old
 
-  -- what the period would have cost by these terms
+module _ (naming : Naming) (number : ℕ) (old new : Book)
+    (alike : AnswersAlike naming number old new) where
+  -- so is what the period would have cost by these terms
   form_stays : (form : StatementForm) (centre : Option (List ℕ)) (digest : List ℕ) (terms : Terms)
-      → form_under form centre number digest terms (book_after (later ++ earlier))
-      ≡ form_under form centre number digest terms (book_after earlier)
+      → form_under form centre number digest terms new
+      ≡ form_under form centre number digest terms old
   form_stays Text centre digest terms =
-      let other = what_if.closed naming later earlier number terms answered closed in
-      λ i. shown_by_both (text_shown centre number digest (read.day i)) (other i).answer
-      (read.rows i).answer
+      let other = alike.priced terms in
+      λ i. shown_by_both (text_shown centre number digest (alike.read.day i)) (other i).answer
+      (alike.read.rows i).answer
   form_stays Table centre digest terms =
-      let other = what_if.closed naming later earlier number terms answered closed in
+      let other = alike.priced terms in
       λ i. shown_by (table_shown centre number) (other i).answer
 
--- the same by a tariff's file
-what_if_stays : (naming : Naming) (later earlier : List Event) (asked : WhatIf) (text : List ℕ)
-    (said : Result Terms TariffFault) → IsMadeByCalls naming (later ++ earlier)
-    → IsClosed asked.period (book_after earlier)
-    → what_if_by asked text said (book_after (later ++ earlier))
-    ≡ what_if_by asked text said (book_after earlier)
-what_if_stays naming later earlier asked text (Err why) answered closed = refl
-what_if_stays naming later earlier asked text (Ok terms) answered closed =
-    form_stays naming later earlier answered asked.period closed asked.form asked.centre _ terms
-
--- the law
-pub closed_texts_stay : ClosedTextsStay
-closed_texts_stay = record {
-  reports = λ naming report number centre later earlier answered closed.
-      period_stays naming number (book_after earlier) (book_after (later ++ earlier))
-      (closed_stays naming later earlier number answered closed) report centre;
-  bills = λ naming form number centre later earlier answered closed.
-      let read = closed_stays naming later earlier number answered closed in
-      let bill = closed_bills_stay naming later earlier number centre answered closed in
+  -- and its bill
+  bill_stays : (form : StatementForm) (centre : Option (List ℕ))
+      → report_answer naming (Bill form number centre) new
+      ≡ report_answer naming (Bill form number centre) old
+  bill_stays form centre =
+      let bill = alike.bill centre in
       λ i. shown_by (bill_in form number centre)
-      (shown_by (bill_with (read.day i)) (bill i).answer);
-  details = λ naming wanted later earlier answered closed.
-      let read = closed_stays naming later earlier wanted.period answered closed in
-      let kept = details_stay naming later earlier wanted.period wanted.centre answered closed in
-      λ i. shown_by (details_text wanted (read.day i)) (kept i).answer;
-  what_ifs = λ naming asked tariff later earlier answered closed.
-      what_if_stays naming later earlier asked tariff (terms_in tariff) answered closed;
+      (shown_by (bill_with (alike.read.day i)) (bill i).answer)
+
+-- the same of the details that are wanted,
+details_stay_so : (naming : Naming) (wanted : DetailReport) (old new : Book)
+    → AnswersAlike naming wanted.period old new
+    → detail_answer wanted naming new ≡ detail_answer wanted naming old
+details_stay_so naming wanted old new alike =
+    let kept = alike.details wanted.centre in
+    λ i. shown_by (details_text wanted (alike.read.day i)) (kept i).answer
+
+-- and by a tariff's file
+what_if_stays : (naming : Naming) (asked : WhatIf) (text : List ℕ)
+    (said : Result Terms TariffFault) (old new : Book) → AnswersAlike naming asked.period old new
+    → what_if_by asked text said new ≡ what_if_by asked text said old
+what_if_stays naming asked text (Err why) old new alike = refl
+what_if_stays naming asked text (Ok terms) old new alike =
+    form_stays naming asked.period old new alike asked.form asked.centre _ terms
+
+-- so the texts stay where books answer alike
+texts_stay : (Final : Naming → ℕ → (Book → Result (List ℕ) LedgerFault) → Type 0)
+    → ((naming : Naming) (number : ℕ) (answer : Book → Result (List ℕ) LedgerFault)
+    → ((old new : Book) → AnswersAlike naming number old new → answer new ≡ answer old)
+    → Final naming number answer)
+    → TextsStay Final
+texts_stay Final final = record {
+  reports = λ naming report number centre.
+      final naming number (report_answer naming (OfPeriod report number centre))
+      (λ old new alike. period_stays naming number old new alike.read report centre);
+  bills = λ naming form number centre.
+      final naming number (report_answer naming (Bill form number centre))
+      (λ old new alike. bill_stays naming number old new alike form centre);
+  details = λ naming wanted.
+      final naming wanted.period (detail_answer wanted naming) (details_stay_so naming wanted);
+  what_ifs = λ naming asked tariff.
+      final naming asked.period (λ book. (what_if_report asked tariff book).answer)
+      (what_if_stays naming asked tariff (terms_in tariff));
 }
+
+-- the law, of books that can be read back
+pub books_keep_texts : BooksKeepTexts
+books_keep_texts = texts_stay IsFinalInBooks
+    (λ naming number answer stays book later whole made closed.
+    stays book (after_all later book) (record {
+      read = books_stay_closed naming book later number whole made closed;
+      bill = λ centre. books_keep_bills naming book later number centre whole made closed;
+      details = λ centre. books_keep_details naming book later number centre whole made closed;
+      priced = λ terms. books_keep_what_ifs naming book later number terms whole made closed;
+    }))
+
+-- and of histories
+pub closed_texts_stay : ClosedTextsStay
+closed_texts_stay = texts_stay IsFinal
+    (λ naming number answer stays later earlier answered closed.
+    stays (book_after earlier) (book_after (later ++ earlier)) (record {
+      read = closed_stays naming later earlier number answered closed;
+      bill = λ centre. closed_bills_stay naming later earlier number centre answered closed;
+      details = λ centre. details_stay naming later earlier number centre answered closed;
+      priced = λ terms. what_if.closed naming later earlier number terms answered closed;
+    }))

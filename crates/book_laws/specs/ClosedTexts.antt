@@ -2,7 +2,8 @@
 -- what is in dispute now.
 use Rattle.std.specs.Prelude.{◌≡◌, ℕ, List, ◌++◌, Option, Result}
 use Rattle.book_model.specs.declared.fault.LedgerFault.{LedgerFault}
-use Rattle.book_model.specs.Words.{Book, Event, IsMadeByCalls, Naming, book_after}
+use Rattle.book_model.specs.Words.{Book, Event, IsMadeByCalls, Naming, after_all, book_after}
+use Rattle.table_model.specs.Readable.{IsReadable}
 use Rattle.book_reports.specs.declared.report.PeriodReport.{PeriodReport}
 use Rattle.book_reports.specs.declared.report.Report.TheVariants.{Bill, OfPeriod}
 use Rattle.book_reports.specs.declared.streamed_details.DetailReport.{DetailReport}
@@ -12,6 +13,7 @@ use Rattle.book_reports.specs.BookTexts.{report_answer}
 use Rattle.book_reports.specs.StreamedDetails.{detail_answer}
 use Rattle.book_reports.specs.WhatIfTexts.{what_if_report}
 use Rattle.book_laws.specs.ClosedPeriods.{IsClosed}
+use Rattle.book_laws.specs.LaterCalls.{AreMadeOf}
 
 -- what books answer once a period is closed, they answer whatever calls follow
 abbrev pub IsFinal : Naming → ℕ → (Book → Result (List ℕ) LedgerFault) → Type 0
@@ -20,19 +22,33 @@ IsFinal naming number answer =
     → IsClosed number (book_after earlier)
     → answer (book_after (later ++ earlier)) ≡ answer (book_after earlier)
 
+-- the same of any book that can be read back, whatever calls make of it
+abbrev pub IsFinalInBooks : Naming → ℕ → (Book → Result (List ℕ) LedgerFault) → Type 0
+IsFinalInBooks naming number answer =
+    (book : Book) (later : List Event) → IsReadable naming book → AreMadeOf naming book later
+    → IsClosed number book → answer (after_all later book) ≡ answer book
+
 -- So it is with these texts about a closed period, of the office and of each centre, as a list and as
 -- a table: its statement and its adjustments, its bill, its details, and what it would have cost by
 -- another tariff; also after choices, the second rule of identity and tariffs that come late.
-pub record ClosedTextsStay : Type 0 where
+pub record TextsStay (Final : Naming → ℕ → (Book → Result (List ℕ) LedgerFault) → Type 0)
+    : Type 0 where
   pub reports :
       (naming : Naming) (report : PeriodReport) (number : ℕ) (centre : Option (List ℕ))
-      → IsFinal naming number (report_answer naming (OfPeriod report number centre))
+      → Final naming number (report_answer naming (OfPeriod report number centre))
   pub bills :
       (naming : Naming) (form : StatementForm) (number : ℕ) (centre : Option (List ℕ))
-      → IsFinal naming number (report_answer naming (Bill form number centre))
+      → Final naming number (report_answer naming (Bill form number centre))
   pub details :
       (naming : Naming) (wanted : DetailReport)
-      → IsFinal naming wanted.period (detail_answer wanted naming)
+      → Final naming wanted.period (detail_answer wanted naming)
   pub what_ifs :
       (naming : Naming) (asked : WhatIf) (tariff : List ℕ)
-      → IsFinal naming asked.period (λ book. (what_if_report asked tariff book).answer)
+      → Final naming asked.period (λ book. (what_if_report asked tariff book).answer)
+
+-- they stay in histories, and in any book that can be read back
+abbrev pub ClosedTextsStay : Type 0
+ClosedTextsStay = TextsStay IsFinal
+
+abbrev pub BooksKeepTexts : Type 0
+BooksKeepTexts = TextsStay IsFinalInBooks

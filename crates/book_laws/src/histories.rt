@@ -1,7 +1,7 @@
 //! Laws of whole histories, which hold of the definitions alone. Each is the contract of a function
 //! that does nothing.
 
-ghost use Rattle.book_laws.specs.ClosedTexts.{ClosedTextsStay};
+ghost use Rattle.book_laws.specs.ClosedTexts.{BooksKeepTexts, ClosedTextsStay};
 ghost use Rattle.book_laws.specs.HistoryLaws.{BooksChargeOnce, BooksStayClosed, ChargedOnce};
 ghost use Rattle.book_laws.specs.HistoryLaws.{ClosedStays, Conserved, ConservedInSets, DatedRight};
 ghost use Rattle.book_laws.specs.HistoryLaws.{LinesOnce, NamedOnce, PostedOnce, ReadableStays};
@@ -65,7 +65,8 @@ pub fn closed_stays()
 /// adjustments, its bill, its details, and what it would have cost by another tariff. Its page does
 /// not, since it shows what is in dispute now.
 pub fn closed_texts_stay()
-    ensures { ClosedTextsStay }
+    ensures history { ClosedTextsStay }
+    ensures book { BooksKeepTexts }
 {}
 
 /// The law of the net count is false for periods that reverse nothing, that count records dated no
