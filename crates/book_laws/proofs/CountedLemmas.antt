@@ -1,19 +1,19 @@
 -- Which records are counted: each at most once, as it is read from its mark and its lines, and in the
 -- period of its day.
 use Rattle.std.proofs.Common.{◌≡◌, ℕ, zero, suc, ◌+◌, ◌≤◌, List, [], ◌∷◌, ◌++◌, length, refl, sym}
-use Rattle.std.proofs.Common.{ap, ◌∙◌, true, false, true≢false, Bool, cond, ◌&&◌, Option, Some}
-use Rattle.std.proofs.Common.{None, arith, All, ℤ, pos, ◌-ℤ◌, count_by, nat_lt, slice_get, lt-ltb}
+use Rattle.std.proofs.Common.{ap, ◌∙◌, true, false, true≢false, Bool, cond, ◌&&◌, Option}
+use Rattle.std.proofs.Common.{arith, All, ℤ, pos, ◌-ℤ◌, count_by, nat_lt, slice_get, lt-ltb}
 use Rattle.book_model.proofs.Std.{option_map_or, false_from_ne_true, ints, All-weaker, sum_by-cons}
 use Rattle.book_model.proofs.Std.{sum_by_push}
 use Rattle.book_model.specs.Words.{rulings_before, AreAllDatedThrough, Book, Event, IsMadeByCalls}
 use Rattle.book_model.specs.Words.{IsSound, Naming, Period, PeriodClosed, Records, Rulings}
-use Rattle.book_model.specs.Words.{all_periods, book_after, charged_by, charged_in, charged_of}
+use Rattle.book_model.specs.Words.{all_periods, book_after, charged_in, charged_of}
 use Rattle.book_model.specs.Words.{charged_through, closes, counted_of, day_of_close, has}
 use Rattle.book_model.specs.Words.{held_before, is_dated_after, is_dated_in, is_dated_through}
-use Rattle.book_model.specs.Words.{is_undisputed, last_close, period_after, period_by, rulings}
+use Rattle.book_model.specs.Words.{last_close, period_after, period_by, rulings}
 use Rattle.book_model.specs.Words.{those}
 use Rattle.book_model.proofs.Lemmas.{close_at, counted_at, sound_after, has_those}
-use Rattle.book_model.proofs.Lemmas.{in_those, passes_those, second_of, list_any-count_by}
+use Rattle.book_model.proofs.Lemmas.{in_those, list_any-count_by}
 use Rattle.book_model.proofs.CountedDays.{AreInWindows, has_counted_of}
 use Rattle.book_model.proofs.MadeByCallsLemmas.{rulings_are}
 use Rattle.table_model.proofs.PeriodPlaces.{at_place}
@@ -21,6 +21,7 @@ use Rattle.book_laws.specs.DetailLaws.{CountedByDay, CountedIsRead, DetailedOnce
 use Rattle.book_laws.specs.NetCounts.{one_if, times_added, times_counted, times_reversed}
 use Rattle.book_laws.proofs.DatedLemmas.{all_are, dated_right, period_at}
 use Rattle.book_laws.proofs.LaterLemmas.{closes_rise}
+use Rattle.book_laws.proofs.LinkedLemmas.{charged_dated}
 use Rattle.book_laws.proofs.NetLemmas.{charged_once}
 
 -- a test counts at most one
@@ -114,16 +115,6 @@ counted_is_read naming history bytes answered =
     (times_reversed periods bytes) (one_if (has (charged_of book) bytes))
     (charged_once history bytes) in
     omega arith
-
--- what a close charges is dated through it
-charged_dated : (ruled : Rulings) (through : Option ℤ) (held : Records) (bytes : List ℕ)
-    → has (charged_by ruled through held) bytes ≡ true
-    → option_map_or (λ day. is_dated_through day bytes) through true ≡ true
-charged_dated ruled None held bytes there = refl
-charged_dated ruled (Some day) held bytes there =
-    let undisputed : List ℕ → Bool = is_undisputed ruled held in
-    second_of (undisputed bytes) (is_dated_through day bytes)
-    (passes_those (λ b. undisputed b && is_dated_through day b) held bytes there)
 
 -- the day of a close, by the rulings of the book
 close_is : (k : ℕ) (history : List Event)

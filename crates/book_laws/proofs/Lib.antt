@@ -7,6 +7,7 @@
 -- lines; and the texts about a closed period. Single records: their lives, and how their prices
 -- came about. Single answers: to calls, reports, imports, and lists of requests.
 mod Words
+pub mod LinkedLemmas
 pub mod PeriodLemmas
 pub mod NetLemmas
 pub mod WorkLemmas

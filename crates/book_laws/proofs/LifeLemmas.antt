@@ -1,25 +1,29 @@
 -- Lives: charges and reversals take turns, and net to whether the record is charged now.
-use Rattle.std.proofs.Common.{◌≡◌, ℕ, suc, ◌+◌, List, [], ◌∷◌, ◌++◌, refl, sym, ap, ◌∙◌, subst}
+use Rattle.std.proofs.Common.{◌≡◌, ℕ, zero, suc, ◌+◌, ◌≤◌, List, [], ◌∷◌, ◌++◌, length, refl, sym}
+use Rattle.std.proofs.Common.{ap, ◌∙◌, subst}
 use Rattle.std.proofs.Common.{true, false, true≢false, Bool, cond, not, ◌&&◌, Option, arith, None}
 use Rattle.std.proofs.Common.{Some, Ok, ℤ, pos, ◌-ℤ◌, codes, count_by, sum_by, decimal, ok_or}
 use Rattle.std.proofs.Common.{option_and_then, option_map, append-nil}
 use Rattle.std.specs.Fmt.{signed_decimal}
-use Rattle.book_model.proofs.Std.{sum_by-append, sum_by-cons}
+use Rattle.book_model.proofs.Std.{false_from_ne_true, sum_by-append, sum_by-cons}
 use Rattle.book_model.specs.declared.fault.LedgerFault.TheVariants.{NoSuchRecord}
 use Rattle.book_model.specs.declared.trail.Deed.{Deed}
-use Rattle.book_model.specs.Words.{Book, Event, Period, PeriodClosed, Records, AreDatedThrough}
-use Rattle.book_model.specs.Words.{all_periods, book_after, charged_of, charged_through, has}
-use Rattle.book_model.specs.Words.{is_charge, is_dated_after, last_close, life_from, life_of}
-use Rattle.book_model.specs.Words.{net_of, Naming, TrailSeen, period_by, reckoning_in, record_named}
-use Rattle.book_model.specs.Words.{trail_by, trail_of, turn_if, turns_in, Reckoning}
-use Rattle.book_model.proofs.Lemmas.{none_in, sum_by-plus}
+use Rattle.book_model.specs.Words.{Book, Period, Records, AreDatedThrough, all_periods, book_after}
+use Rattle.book_model.specs.Words.{charged_of, has, is_charge, is_dated_after, last_close}
+use Rattle.book_model.specs.Words.{life_from, life_of, net_of, Naming, TrailSeen, period_by}
+use Rattle.book_model.specs.Words.{reckoning_in, record_named, trail_by, trail_of, trail_outcome}
+use Rattle.book_model.specs.Words.{turn_if, turns_in, Reckoning}
+use Rattle.book_model.proofs.Lemmas.{sum_by-plus}
 use Rattle.report_texts.specs.Columns.{newline}
 use Rattle.report_texts.specs.LifeLines.{net_line}
+use Rattle.table_model.specs.Readable.{IsChain}
+use Rattle.table_model.specs.Words.{chained, close_after}
 use Rattle.book_reports.proofs.WritingLemmas.{same_value}
 use Rattle.book_laws.proofs.Words.{Added, Charged, Reversed, Turn, net_count, one_if}
-use Rattle.book_laws.proofs.NetLemmas.{charged_once, has_without, in_added, in_counted}
-use Rattle.book_laws.proofs.PeriodLemmas.{posted_dated}
-use Rattle.book_laws.specs.LifeLaws.{LivesNet, LivesTakeTurns, TakeTurns, TrailsNet}
+use Rattle.book_laws.proofs.LinkedLemmas.{linked_after, posted_early}
+use Rattle.book_laws.proofs.NetLemmas.{has_without, in_added, in_counted, linked_nets}
+use Rattle.book_laws.specs.LifeLaws.{BookLivesTakeTurns, BookTrailsNet, LivesNet, LivesTakeTurns}
+use Rattle.book_laws.specs.LifeLaws.{NetsAsCounted, ShowsNet, TakeTurns, TrailsNet}
 
 -- what comes after some turns may be replaced by what leads on from there
 then_instead : (turns old new : List Turn) (from was now : Bool)
@@ -76,23 +80,40 @@ module _ (bytes : List ℕ) where
       (has before bytes) (has charged bytes)
       (λ from. one_more (suc k) later last from before charged old) led
 
-  -- the closed periods
-  past_turns : (history : List Event)
-      → TakeTurns false (life_from 1 (book_after history).past bytes)
-      (has (book_after history).posted bytes)
-  past_turns [] = sym (none_in bytes)
-  past_turns (PeriodClosed day ∷ older) =
-      let book : Book = book_after older in
-      one_more 1 book.past (last_close book.rulings) false book.posted
-      (charged_through book.rulings day book.held) (posted_dated older) (past_turns older)
-  past_turns (event ∷ older) = past_turns older
+  -- periods that are linked by what was charged
+  chained_turns : (closes : List ℤ) (charged : ℕ → Records)
+      → ((k : ℕ) → k ≤ length closes → AreDatedThrough (close_after k closes) (charged k))
+      → (k : ℕ) → k ≤ length closes
+      → TakeTurns false (life_from 1 (chained k closes charged) bytes) (has (charged k) bytes)
+  chained_turns closes charged dated zero within =
+      sym (false_from_ne_true (has (charged 0) bytes) (λ there.
+      true≢false (dated 0 within bytes there)))
+  chained_turns closes charged dated (suc k) within =
+      let before : k ≤ length closes = omega (arith, within) in
+      one_more 1 (chained k closes charged) (close_after k closes) false (charged k)
+      (charged (suc k)) (dated k before) (chained_turns closes charged dated k before)
 
--- the law
+  -- so all periods of a book that is linked
+  linked_turns : (book : Book) → IsChain book
+      → TakeTurns false (life_of book bytes) (has (charged_of book) bytes)
+  linked_turns book linked =
+      let closes : List ℤ = book.rulings.closes in
+      let past : List Period = chained (length closes) closes linked.charged in
+      let led = chained_turns closes linked.charged linked.dated (length closes) (omega arith) in
+      one_more 1 book.past (last_close book.rulings) false book.posted (charged_of book)
+      (posted_early book linked)
+      (subst (λ (past : List Period).
+      TakeTurns false (life_from 1 past bytes) (has book.posted bytes)) (sym linked.past)
+      (subst (λ (posted : Records). TakeTurns false (life_from 1 past bytes) (has posted bytes))
+      (sym linked.posted) led))
+
+-- the law, of histories
 pub lives_take_turns : LivesTakeTurns
-lives_take_turns history bytes =
-    let book : Book = book_after history in
-    one_more bytes 1 book.past (last_close book.rulings) false book.posted (charged_of book)
-    (posted_dated history) (past_turns bytes history)
+lives_take_turns history bytes = linked_turns bytes (book_after history) (linked_after history)
+
+-- and of books that can be read back
+pub book_lives_take_turns : BookLivesTakeTurns
+book_lives_take_turns naming book bytes whole = linked_turns bytes book whole.past
 
 -- how often a test passes in three lists of one turn or none
 count_three : (p : Turn → Bool) (one two three : List Turn)
@@ -184,12 +205,16 @@ module _ (bytes : List ℕ) where
       (all_periods book) in
       λ i. pos (given i) -ℤ pos (taken i)
 
+-- and in a book that is linked it nets to whether the record is charged now
+nets_so : (book : Book) (bytes : List ℕ) → IsChain book → NetsAsCounted book bytes
+nets_so book bytes linked = record {
+  counted = life_nets bytes book;
+  charged = life_nets bytes book ∙ linked_nets bytes book linked;
+}
+
 -- the law
 pub lives_net : LivesNet
-lives_net history bytes = record {
-  counted = life_nets bytes (book_after history);
-  charged = life_nets bytes (book_after history) ∙ charged_once history bytes;
-}
+lives_net history bytes = nets_so (book_after history) bytes (linked_after history)
 
 -- a trail that was made of a record has its life
 of_reckoning : (naming : Naming) (book : Book) (bytes : List ℕ) (reckoning : Option Reckoning)
@@ -214,14 +239,24 @@ net_written : (life : List Turn) (n : ℕ) → net_of life ≡ pos n
 unfolding net_line
 net_written life n is = ap (λ net. codes "NET " ++ signed_decimal net ++ newline) is
 
--- the law
-pub trails_net : TrailsNet
-trails_net naming history name trail answered =
-    let book : Book = book_after history in
+-- so a trail that a linked book answers shows its net
+shows_net : (naming : Naming) (book : Book) (name : List ℕ) (trail : TrailSeen) → IsChain book
+    → (trail_outcome naming name book).answer ≡ Ok trail → ShowsNet book trail
+shows_net naming book name trail linked answered =
     let life = ap net_of (trail_life naming book (record_named naming book.held name) trail answered) in
-    let nets = lives_net history trail.bytes in
+    let nets = nets_so book trail.bytes linked in
     record {
       counted = life ∙ nets.counted;
       shown = net_written trail.life (one_if (has (charged_of book) trail.bytes))
           (life ∙ nets.charged);
     }
+
+-- the law, of histories
+pub trails_net : TrailsNet
+trails_net naming history name trail answered =
+    shows_net naming (book_after history) name trail (linked_after history) answered
+
+-- and of books that can be read back
+pub book_trails_net : BookTrailsNet
+book_trails_net naming book name trail whole answered =
+    shows_net naming book name trail whole.past answered

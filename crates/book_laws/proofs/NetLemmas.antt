@@ -1,16 +1,17 @@
 -- A record is charged once net, or nets to nothing.
 use Rattle.std.proofs.Common.{◌≡◌, ℕ, ◌+◌, ◌≤◌, List, refl, ap, ◌∙◌, true, false, true≢false, Bool}
-use Rattle.std.proofs.Common.{is_some, not, ◌&&◌, arith, ℤ, pos, Option, sum_by}
-use Rattle.book_model.specs.Words.{Book, Naming, Period, period_by, is_dated_after, book_after}
-use Rattle.book_model.specs.Words.{Records, by_bytes, has, without, all_periods, charged_of}
+use Rattle.std.proofs.Common.{not, ◌&&◌, arith, ℤ, pos, None, Option, sum_by}
+use Rattle.book_model.proofs.Std.{false_from_ne_true}
+use Rattle.book_model.specs.Words.{Book, Period, period_by, is_dated_after, book_after}
+use Rattle.book_model.specs.Words.{Records, has, without, all_periods, charged_of}
 use Rattle.book_model.specs.Words.{AreDatedThrough}
 use Rattle.book_model.proofs.Lemmas.{has_those, sum_by-plus}
 use Rattle.book_laws.specs.NetCounts.{one_if, times_counted, times_added, times_reversed, net_count}
 use Rattle.book_laws.specs.NetCounts.{NamesOnce}
-use Rattle.table_model.specs.Words.{IsReadable}
+use Rattle.table_model.specs.Readable.{IsChain}
 use Rattle.book_laws.specs.HistoryLaws.{BooksChargeOnce, ChargedOnce, PostedOnce, NamedOnce}
-use Rattle.book_laws.proofs.PeriodLemmas.{net, past_nets, all_nets, all_hold, book_nets}
-use Rattle.std.specs.FinMap as map
+use Rattle.book_laws.proofs.LinkedLemmas.{linked_after}
+use Rattle.book_laws.proofs.PeriodLemmas.{net, past_nets, all_nets, all_hold}
 
 -- A record is charged before a period or not, at its end or not, and dated after the close before
 -- it or not: its row, plus line and minus line make the difference.
@@ -63,9 +64,11 @@ module _ (bytes : List ℕ) where
       by_cases (has before bytes) (has charged bytes) (is_dated_after last bytes) (old bytes) in
       omega arith
 
-  -- a record is not in the empty set
-  none : one_if (has {R = by_bytes} map.empty bytes) ≡ 0
-  none = ap one_if (ap is_some (map.get-empty by_bytes bytes))
+  -- before the first close no record is charged
+  none : (records : Records) → AreDatedThrough None records → one_if (has records bytes) ≡ 0
+  none records dated =
+      ap one_if
+      (false_from_ne_true (has records bytes) (λ there. true≢false (dated bytes there)))
 
   -- if periods give what is charged and what they take, the record is charged once net, or
   -- nets to nothing
@@ -79,36 +82,31 @@ module _ (bytes : List ℕ) where
       net (times_counted periods bytes + times_added periods bytes) (times_reversed periods bytes)
       (one_if (has charged bytes)) (omega arith)
 
--- the law
+  -- so it is over all periods of a book that is linked
+  pub linked_nets : (book : Book) → IsChain book
+      → net_count (all_periods book) bytes ≡ pos (one_if (has (charged_of book) bytes))
+  linked_nets book linked =
+      net_of (all_periods book) (charged_of book)
+      (all_nets given taken (λ records. one_if (has records bytes)) none one_period book linked)
+
+  -- and over its closed periods
+  past_net : (book : Book) → IsChain book
+      → net_count book.past bytes ≡ pos (one_if (has book.posted bytes))
+  past_net book linked =
+      net_of book.past book.posted
+      (past_nets given taken (λ records. one_if (has records bytes)) none one_period book linked)
+
+-- the law, of histories
 pub charged_once : ChargedOnce
-charged_once history bytes =
-    net_of bytes (all_periods (book_after history)) (charged_of (book_after history))
-    (all_nets (given bytes) (taken bytes) (λ records. one_if (has records bytes)) (none bytes)
-    (one_period bytes) history)
+charged_once history bytes = linked_nets bytes (book_after history) (linked_after history)
 
--- before the first close nothing was charged
-nothing_first : {naming : Naming} (book : Book) (whole : IsReadable naming book) (bytes : List ℕ)
-    → one_if (has (whole.past.charged 0) bytes) ≡ 0
-nothing_first book whole bytes =
-    elim (has (whole.past.charged 0) bytes) as (λ b. has (whole.past.charged 0) bytes ≡ b
-    → one_if b ≡ 0) [
-      | true ↦ λ there. absurd (true≢false (whole.past.dated 0 (omega arith) bytes there))
-      | false ↦ λ none. refl
-    ] refl
-
--- so the same is true of a book that can be read back
+-- and of books that can be read back
 pub books_charge_once : BooksChargeOnce
-books_charge_once naming book bytes whole =
-    net_of bytes (all_periods book) (charged_of book)
-    (book_nets (given bytes) (taken bytes) (λ records. one_if (has records bytes)) (none bytes)
-    (one_period bytes) book whole (nothing_first book whole bytes))
+books_charge_once naming book bytes whole = linked_nets bytes book whole.past
 
 -- the same for the closed periods
 pub posted_once : PostedOnce
-posted_once history bytes =
-    net_of bytes (book_after history).past (book_after history).posted
-    (past_nets (given bytes) (taken bytes) (λ records. one_if (has records bytes)) (none bytes)
-    (one_period bytes) history)
+posted_once history bytes = past_net bytes (book_after history) (linked_after history)
 
 -- at most one of the three
 one_of : (before now late : Bool)

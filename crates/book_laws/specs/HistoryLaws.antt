@@ -67,6 +67,10 @@ abbrev pub Conserved : Type 0
 Conserved = (naming : Naming) (history : List Event) → IsMadeByCalls naming history
     → IsBalanced naming (book_after history)
 
+-- and so is any book that can be read back
+abbrev pub BooksConserve : Type 0
+BooksConserve = (naming : Naming) (book : Book) → IsReadable naming book → IsBalanced naming book
+
 -- The same for the periods' sets of records: for every history, and at the prices of any rulings.
 abbrev pub ConservedInSets : Type 0
 ConservedInSets =

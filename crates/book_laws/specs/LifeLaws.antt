@@ -7,6 +7,7 @@ use Rattle.book_model.specs.Words.{Book, Event, Naming, TrailSeen, all_periods, 
 use Rattle.book_model.specs.Words.{charged_of, has, is_charge, life_of, net_of, trail_outcome}
 use Rattle.report_texts.specs.Columns.{newline}
 use Rattle.report_texts.specs.LifeLines.{net_line}
+use Rattle.table_model.specs.Readable.{IsReadable}
 use Rattle.book_laws.specs.NetCounts.{net_count, one_if}
 
 -- Charges and reversals take turns: only a record that is not charged is charged, and only a charge
@@ -23,6 +24,12 @@ LivesTakeTurns =
     (history : List Event) (bytes : List ℕ)
     → TakeTurns false (life_of (book_after history) bytes)
     (has (charged_of (book_after history)) bytes)
+
+-- and in any book that can be read back
+abbrev pub BookLivesTakeTurns : Type 0
+BookLivesTakeTurns =
+    (naming : Naming) (book : Book) (bytes : List ℕ) → IsReadable naming book
+    → TakeTurns false (life_of book bytes) (has (charged_of book) bytes)
 
 -- The net of a life is the net count over all periods, and one if the record is charged now, else
 -- none.
@@ -45,3 +52,9 @@ TrailsNet =
     (naming : Naming) (history : List Event) (name : List ℕ) (trail : TrailSeen)
     → (trail_outcome naming name (book_after history)).answer ≡ Ok trail
     → ShowsNet (book_after history) trail
+
+-- and where any book is asked for it that can be read back
+abbrev pub BookTrailsNet : Type 0
+BookTrailsNet =
+    (naming : Naming) (book : Book) (name : List ℕ) (trail : TrailSeen) → IsReadable naming book
+    → (trail_outcome naming name book).answer ≡ Ok trail → ShowsNet book trail

@@ -2,9 +2,10 @@
 //! that does nothing.
 
 ghost use Rattle.book_laws.specs.ClosedTexts.{BooksKeepTexts, ClosedTextsStay};
-ghost use Rattle.book_laws.specs.HistoryLaws.{BooksChargeOnce, BooksStayClosed, ChargedOnce};
-ghost use Rattle.book_laws.specs.HistoryLaws.{ClosedStays, Conserved, ConservedInSets, DatedRight};
-ghost use Rattle.book_laws.specs.HistoryLaws.{LinesOnce, NamedOnce, PostedOnce, ReadableStays};
+ghost use Rattle.book_laws.specs.HistoryLaws.{BooksChargeOnce, BooksConserve, BooksStayClosed};
+ghost use Rattle.book_laws.specs.HistoryLaws.{ChargedOnce, ClosedStays, Conserved, ConservedInSets};
+ghost use Rattle.book_laws.specs.HistoryLaws.{DatedRight, LinesOnce, NamedOnce, PostedOnce};
+ghost use Rattle.book_laws.specs.HistoryLaws.{ReadableStays};
 ghost use Rattle.book_laws.specs.WrongPeriods.{WrongPeriodsFail};
 
 /// Over all periods a record that is charged now is charged once net, and any other nets to
@@ -29,9 +30,10 @@ pub fn posted_once()
 {}
 
 /// The rows and plus lines of all periods, less their minus lines, amount to what the records cost
-/// that are charged now.
+/// that are charged now, after a history and in any book that can be read back.
 pub fn conserved()
-    ensures { Conserved }
+    ensures history { Conserved }
+    ensures book { BooksConserve }
 {}
 
 /// The same for the periods' sets of records: for every history, and at the prices of any rulings.

@@ -1,5 +1,5 @@
-use Rattle.book_laws.proofs.ReadLemmas.{conserved}
+use Rattle.book_laws.proofs.ReadLemmas.{books_conserve, conserved}
 use Rattle.book_laws.proofs.histories.conserved.Goals as goal
 
 pub returns : goal.returns
-returns c = conserved
+returns c = record { history = conserved; book = books_conserve }
