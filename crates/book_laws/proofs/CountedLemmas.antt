@@ -1,71 +1,81 @@
 -- Which records are counted: each at most once, as it is read from its mark and its lines, and in the
 -- period of its day.
 use Rattle.std.proofs.Common.{◌≡◌, ℕ, zero, suc, ◌+◌, ◌≤◌, List, [], ◌∷◌, ◌++◌, length, refl, sym}
-use Rattle.std.proofs.Common.{ap, ◌∙◌, true, false, true≢false, Bool, cond, ◌&&◌, Option}
-use Rattle.std.proofs.Common.{arith, All, ℤ, pos, ◌-ℤ◌, count_by, nat_lt, slice_get, lt-ltb}
-use Rattle.book_model.proofs.Std.{option_map_or, false_from_ne_true, ints, All-weaker, sum_by-cons}
+use Rattle.std.proofs.Common.{ap, ◌∙◌, subst, true, false, true≢false, Bool, ◌&&◌, Option, Some}
+use Rattle.std.proofs.Common.{get_or, arith, ℤ, pos, ◌-ℤ◌, nat_lt, slice_get, int_cmp, lt-ltb}
+use Rattle.std.specs.List.Sorted.{IsStrictlySortedBy}
+use Rattle.book_model.proofs.Std.{option_map_or, false_from_ne_true, ints, slice_get-get_or}
 use Rattle.book_model.proofs.Std.{sum_by_push}
-use Rattle.book_model.specs.Words.{rulings_before, AreAllDatedThrough, Book, Event, IsMadeByCalls}
-use Rattle.book_model.specs.Words.{IsSound, Naming, Period, PeriodClosed, Records, Rulings}
-use Rattle.book_model.specs.Words.{all_periods, book_after, charged_in, charged_of}
-use Rattle.book_model.specs.Words.{charged_through, closes, counted_of, day_of_close, has}
-use Rattle.book_model.specs.Words.{held_before, is_dated_after, is_dated_in, is_dated_through}
-use Rattle.book_model.specs.Words.{last_close, period_after, period_by, rulings}
-use Rattle.book_model.specs.Words.{those}
+use Rattle.book_model.specs.Words.{rulings_before, AreDatedThrough, Book, Event, IsSound, Naming}
+use Rattle.book_model.specs.Words.{Period, Records, Rulings, all_periods}
+use Rattle.book_model.specs.Words.{book_after, charged_in, charged_of, closes, counted_of}
+use Rattle.book_model.specs.Words.{day_of_close, has, held_before, is_dated_after, is_dated_in}
+use Rattle.book_model.specs.Words.{is_dated_through, last_close, period_after, period_by, period_of}
+use Rattle.book_model.specs.Words.{rulings, those}
 use Rattle.book_model.proofs.Lemmas.{close_at, counted_at, sound_after, has_those}
 use Rattle.book_model.proofs.Lemmas.{in_those, list_any-count_by}
 use Rattle.book_model.proofs.CountedDays.{AreInWindows, has_counted_of}
 use Rattle.book_model.proofs.MadeByCallsLemmas.{rulings_are}
+use Rattle.book_model.proofs.SoundLemmas.{later_still}
+use Rattle.table_model.specs.Readable.{IsChain}
+use Rattle.table_model.specs.Words.{chained, close_after}
+use Rattle.table_model.proofs.CountedReading.{last_after}
 use Rattle.table_model.proofs.PeriodPlaces.{at_place}
-use Rattle.book_laws.specs.DetailLaws.{CountedByDay, CountedIsRead, DetailedOnce}
+use Rattle.book_laws.specs.DetailLaws.{BooksDetailOnce, CountedByDay, CountedIsRead, DetailedOnce}
 use Rattle.book_laws.specs.NetCounts.{one_if, times_added, times_counted, times_reversed}
 use Rattle.book_laws.proofs.DatedLemmas.{all_are, dated_right, period_at}
 use Rattle.book_laws.proofs.LaterLemmas.{closes_rise}
-use Rattle.book_laws.proofs.LinkedLemmas.{charged_dated}
+use Rattle.book_laws.proofs.LinkedLemmas.{charged_dated, linked_after}
 use Rattle.book_laws.proofs.NetLemmas.{charged_once}
+use Rattle.book_laws.proofs.TariffStays.{rise_at}
 
 -- a test counts at most one
 at_most_one : (b : Bool) → one_if b ≤ 1
 at_most_one true = omega arith
 at_most_one false = omega arith
 
--- where no element passes a test, none is counted
-count_none : {X : Type 0} (p : X → Bool) (xs : List X) → All (λ x. p x ≡ false) xs
-    → count_by p xs ≡ 0
-count_none p [] all = refl
-count_none p (x ∷ xs) all =
-    let own = sum_by-cons (λ x. cond (p x) 1 0) x xs in
-    let first = ap one_if (all 0 x (omega arith)) in
-    let rest = count_none p xs (λ k d within. all (suc k) d (omega arith)) in
-    omega arith
+-- what is dated no later than a close is dated no later than the next
+next_early : (closes : List ℤ) → IsStrictlySortedBy int_cmp closes → (k : ℕ)
+    → suc k ≤ length closes → (bytes : List ℕ) → is_dated_after (close_after k closes) bytes ≡ false
+    → is_dated_after (close_after (suc k) closes) bytes ≡ false
+next_early closes rising zero within bytes early = absurd (true≢false early)
+next_early closes rising (suc k) within bytes early =
+    let one : ℤ = get_or closes k (pos 0) in
+    let other : ℤ = get_or closes (suc k) (pos 0) in
+    let at_one : slice_get closes k ≡ Some one =
+    slice_get-get_or closes k (pos 0) (omega (arith, within)) in
+    let at_other : slice_get closes (suc k) ≡ Some other =
+    slice_get-get_or closes (suc k) (pos 0) (omega (arith, within)) in
+    let before = rise_at closes k (suc k) one other rising (omega arith) at_one at_other in
+    ap (λ close. is_dated_after close bytes) at_other
+    ∙ later_still (Some one) other bytes before
+    (ap (λ close. is_dated_after close bytes) (sym at_one) ∙ early)
 
-module _ (naming : Naming) (book : Book) (sound : IsSound naming book) (bytes : List ℕ) where
+module _ (bytes : List ℕ) where
   abbrev counts : Period → Bool
   counts period = has period.counted bytes
 
-  -- no closed period counts what is dated after the last close
-  none_late : is_dated_after (last_close book.rulings) bytes ≡ true
-      → times_counted book.past bytes ≡ 0
-  none_late late =
-      count_none counts book.past
-      (All-weaker (AreAllDatedThrough (last_close book.rulings)) (λ period. counts period ≡ false)
-      (λ period dated. false_from_ne_true (counts period) (λ there.
-      true≢false (sym late ∙ dated.counted bytes there)))
-      book.past sound.settled)
+  -- one more period that does not count it, after others that do not
+  none_more : (periods : List Period) (period : Period) → times_counted periods bytes ≡ 0
+      → counts period ≡ false → times_counted (periods ++ period ∷ []) bytes ≡ 0
+  none_more periods period none uncounted =
+      let all = sum_by_push (λ (period : Period). one_if (counts period)) periods period in
+      let own = ap one_if uncounted in
+      omega arith
 
-  -- so one more period counts it where none did, or does not
-  one_more : (charged : Records) → times_counted book.past bytes ≤ 1
-      → times_counted (book.past ++ period_by (last_close book.rulings) book.posted charged ∷ [])
-      bytes ≤ 1
-  one_more charged few =
-      let last : Option ℤ = last_close book.rulings in
-      let period : Period = period_by last book.posted charged in
-      let all = sum_by_push (λ (period : Period). one_if (counts period)) book.past period in
+  -- one more period counts it where none did, or does not
+  one_more : (periods : List Period) (last : Option ℤ) (before charged : Records)
+      → (is_dated_after last bytes ≡ true → times_counted periods bytes ≡ 0)
+      → times_counted periods bytes ≤ 1
+      → times_counted (periods ++ period_by last before charged ∷ []) bytes ≤ 1
+  one_more periods last before charged uncounted few =
+      let period : Period = period_by last before charged in
+      let all = sum_by_push (λ (period : Period). one_if (counts period)) periods period in
       let is = has_those (is_dated_after last) charged bytes in
       elim (is_dated_after last bytes)
-      as (λ b. is_dated_after last bytes ≡ b → times_counted (book.past ++ period ∷ []) bytes ≤ 1) [
+      as (λ b. is_dated_after last bytes ≡ b → times_counted (periods ++ period ∷ []) bytes ≤ 1) [
         | true ↦ λ late.
-            let none = none_late late in
+            let none = uncounted late in
             let own = at_most_one (counts period) in
             omega arith
         | false ↦ λ early.
@@ -73,22 +83,60 @@ module _ (naming : Naming) (book : Book) (sound : IsSound naming book) (bytes : 
             omega arith
       ] refl
 
--- the closed periods count a record at most once
-past_once : (naming : Naming) (history : List Event) (bytes : List ℕ) → IsMadeByCalls naming history
-    → times_counted (book_after history).past bytes ≤ 1
-past_once naming [] bytes answered = omega arith
-past_once naming (PeriodClosed day ∷ older) bytes answered =
-    let book : Book = book_after older in
-    one_more naming book (sound_after naming older answered.1) bytes
-    (charged_through book.rulings day book.held) (past_once naming older bytes answered.1)
-past_once naming (event ∷ older) bytes answered = past_once naming older bytes answered.1
+  -- periods that are linked by what was charged
+  module _ (closes : List ℤ) (charged : ℕ → Records)
+      (dated : (k : ℕ) → k ≤ length closes → AreDatedThrough (close_after k closes) (charged k))
+      (rising : IsStrictlySortedBy int_cmp closes) where
+    -- do not count it where it is dated after their last close,
+    none_late : (k : ℕ) → k ≤ length closes → is_dated_after (close_after k closes) bytes ≡ true
+        → times_counted (chained k closes charged) bytes ≡ 0
+    none_late zero within late = refl
+    none_late (suc k) within late =
+        let before : k ≤ length closes = omega (arith, within) in
+        let periods : List Period = chained k closes charged in
+        let last : Option ℤ = close_after k closes in
+        let now : Records = charged (suc k) in
+        let stood : times_counted periods bytes ≡ 0 =
+        elim (is_dated_after last bytes)
+        as (λ b. is_dated_after last bytes ≡ b → times_counted periods bytes ≡ 0) [
+          | true ↦ λ here. none_late k before here
+          | false ↦ λ early.
+              absurd (true≢false (sym late ∙ next_early closes rising k within bytes early))
+        ] refl in
+        none_more periods (period_by last (charged k) now) stood
+        (false_from_ne_true (counts (period_by last (charged k) now)) (λ there.
+        true≢false (sym late
+        ∙ dated (suc k) within bytes (in_those (is_dated_after last) now bytes there))))
 
--- the law
+    -- and count it at most once
+    few : (k : ℕ) → k ≤ length closes → times_counted (chained k closes charged) bytes ≤ 1
+    few zero within = omega arith
+    few (suc k) within =
+        let before : k ≤ length closes = omega (arith, within) in
+        one_more (chained k closes charged) (close_after k closes) (charged k) (charged (suc k))
+        (none_late k before) (few k before)
+
+  -- so a linked book whose closes are in order counts it at most once
+  counted_once : (book : Book) → IsChain book → IsStrictlySortedBy int_cmp book.rulings.closes
+      → times_counted (all_periods book) bytes ≤ 1
+  counted_once book linked rising =
+      let days : List ℤ = book.rulings.closes in
+      one_more book.past (last_close book.rulings) book.posted (charged_of book)
+      (λ late. ap (λ (periods : List Period). times_counted periods bytes) linked.past
+      ∙ none_late days linked.charged linked.dated rising (length days) (omega arith)
+      (ap (λ close. is_dated_after close bytes) (sym (last_after days)) ∙ late))
+      (subst (λ (periods : List Period). times_counted periods bytes ≤ 1) (sym linked.past)
+      (few days linked.charged linked.dated rising (length days) (omega arith)))
+
+-- the law, of books that can be read back
+pub books_detail_once : BooksDetailOnce
+books_detail_once naming book bytes whole = counted_once bytes book whole.past whole.in_order
+
+-- and of histories
 pub detailed_once : DetailedOnce
 detailed_once naming history bytes answered =
-    let book : Book = book_after history in
-    one_more naming book (sound_after naming history answered) bytes (charged_of book)
-    (past_once naming history bytes answered)
+    counted_once bytes (book_after history) (linked_after history)
+    (closes_rise naming history answered)
 
 -- at most one is one, if there is one
 one_less : (n : ℕ) → n ≤ 1 → one_if (nat_lt 0 n) ≡ n
@@ -140,14 +188,20 @@ in_windows history k period bytes there counted =
     && option_map_or (λ day. is_dated_through day bytes) (close_is (suc k) history i) true)
     ∙ (λ i. late i && early i)
 
--- the law
-pub counted_by_day : CountedByDay
-counted_by_day naming history number period answered found =
-    let book : Book = book_after history in
-    let sound = sound_after naming history answered in
+-- so it is what is dated in it and counted at all
+pub counted_in_days : (naming : Naming) (book : Book) → IsSound naming book
+    → IsStrictlySortedBy int_cmp book.rulings.closes → AreInWindows book
+    → (number : ℕ) (period : Period) → period_of book number ≡ Some period
+    → period.counted ≡ those (is_dated_in book.rulings number) (counted_of book)
+counted_in_days naming book sound rising dated number period found =
     let place = at_place naming book sound number period found in
     let at = place.1 in
     let own : suc place.0 ≡ number = omega arith in
-    counted_at naming book sound (closes_rise naming history answered) (in_windows history) place.0
-    period place.2
+    counted_at naming book sound rising dated place.0 period place.2
     ∙ ap (λ n. those (is_dated_in book.rulings n) (counted_of book)) own
+
+-- the law
+pub counted_by_day : CountedByDay
+counted_by_day naming history number period answered found =
+    counted_in_days naming (book_after history) (sound_after naming history answered)
+    (closes_rise naming history answered) (in_windows history) number period found

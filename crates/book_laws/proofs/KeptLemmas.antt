@@ -1,33 +1,46 @@
 -- Kept details: the details of a period are those of its days, and they follow the book.
 use Rattle.std.proofs.Common.{◌≡◌, ℕ, List, refl, ap, ◌∙◌, true, false, Option, Some, None, ℤ, ◌<ℤ◌}
-use Rattle.std.proofs.Common.{int_lt, MatchOption, arith}
+use Rattle.std.proofs.Common.{filter, int_lt, MatchOption, arith}
 use Rattle.book_model.proofs.Std.{ints}
-use Rattle.book_model.specs.Words.{day_of, Book, IsSound, Naming, book_after, charged_of}
-use Rattle.book_model.specs.Words.{counted_of, details_for, has, is_counted, is_dated_after}
-use Rattle.book_model.specs.Words.{is_dated_in, last_close, is_day_of}
+use Rattle.book_model.specs.Words.{day_of, Book, IsSound, Naming, Period, book_after, charged_of}
+use Rattle.book_model.specs.Words.{counted_of, details_for, details_of, has, is_counted}
+use Rattle.book_model.specs.Words.{is_dated_after, is_dated_in, last_close, is_day_of, those}
 use Rattle.book_model.proofs.Lemmas.{calls_go_forward, current_is, sound_after, in_those}
 use Rattle.book_model.proofs.CountedDays.{has_counted_of}
 use Rattle.book_model.proofs.CountedLemmas.{close_leaves, settled_is}
 use Rattle.book_model.proofs.DetailLemmas.{detail_joins, details_those}
-use Rattle.table_model.proofs.DetailReading.{dated_alike}
-use Rattle.book_laws.specs.KeptDetails.{CountedFollows, DetailsAreKept, RowsJoinAndGo}
-use Rattle.book_laws.specs.KeptDetails.{TariffsReadKept}
-use Rattle.book_laws.proofs.CountedLemmas.{counted_by_day}
+use Rattle.table_model.proofs.DetailReading.{dated_alike, in_windows}
+use Rattle.book_laws.specs.KeptDetails.{BookDetailsAreKept, CountedFollows, DetailsAreKept}
+use Rattle.book_laws.specs.KeptDetails.{RowsJoinAndGo, TariffsReadKept, kept_details}
+use Rattle.book_laws.proofs.CountedLemmas.{counted_by_day, counted_in_days}
 use Rattle.book_laws.proofs.ReadLemmas.{named}
 
--- the law
-pub details_are_kept : DetailsAreKept
-details_are_kept naming history number period answered found =
-    let book : Book = book_after history in
-    let sound = sound_after naming history answered in
+-- of a sound book, what is kept for the days of a period are its details
+kept_for_days : (naming : Naming) (book : Book) → IsSound naming book → (number : ℕ)
+    (period : Period) → period.counted ≡ those (is_dated_in book.rulings number) (counted_of book)
+    → details_of naming book.rulings period
+    ≡ filter (λ detail. is_day_of number book.rulings detail.priced.day) (kept_details naming book)
+kept_for_days naming book sound number period counted =
     let held : (bytes : List ℕ) → has (counted_of book) bytes ≡ true → has book.held bytes ≡ true =
     λ bytes there. in_those (is_counted book) book.held bytes there in
-    ap (details_for naming book.rulings)
-    (counted_by_day naming history number period answered found)
+    ap (details_for naming book.rulings) counted
     ∙ details_those naming book.rulings (counted_of book)
     (named naming book sound (counted_of book) held) (is_dated_in book.rulings number)
     (λ detail. is_day_of number book.rulings detail.priced.day)
     (dated_alike naming book.rulings number)
+
+-- the law, of books that can be read back
+pub book_details_are_kept : BookDetailsAreKept
+book_details_are_kept naming book number period whole found =
+    kept_for_days naming book whole.sound number period
+    (counted_in_days naming book whole.sound whole.in_order (in_windows naming book whole) number
+    period found)
+
+-- and of histories
+pub details_are_kept : DetailsAreKept
+details_are_kept naming history number period answered found =
+    kept_for_days naming (book_after history) (sound_after naming history answered) number period
+    (counted_by_day naming history number period answered found)
 
 -- what is dated after the last close is counted where it is charged
 current_counted : (naming : Naming) (book : Book) (bytes : List ℕ) → IsSound naming book

@@ -7,6 +7,7 @@ use Rattle.book_model.specs.Words.{book_after, charged_of, counted_of, details_a
 use Rattle.book_model.specs.Words.{details_of_centre, has, is_dated_in, period_of, rows_for}
 use Rattle.book_model.specs.Words.{rows_of, those}
 use Rattle.report_texts.specs.Centres.{rows_of_centre}
+use Rattle.table_model.specs.Readable.{IsReadable}
 use Rattle.table_model.specs.TablesOf.{row_key}
 use Rattle.book_laws.specs.NetCounts.{one_if, times_added, times_counted, times_reversed}
 
@@ -47,6 +48,12 @@ abbrev pub DetailedOnce : Type 0
 DetailedOnce =
     (naming : Naming) (history : List Event) (bytes : List ℕ) → IsMadeByCalls naming history
     → times_counted (all_periods (book_after history)) bytes ≤ 1
+
+-- The same of any book that can be read back.
+abbrev pub BooksDetailOnce : Type 0
+BooksDetailOnce =
+    (naming : Naming) (book : Book) (bytes : List ℕ) → IsReadable naming book
+    → times_counted (all_periods book) bytes ≤ 1
 
 -- What a period counts is what is counted at all and dated in it: so an index of what is counted, by
 -- day, has the details of each period in a row.

@@ -9,6 +9,7 @@ use Rattle.book_model.specs.Words.{Rulings, Terms, Records, book_after, by_detai
 use Rattle.book_model.specs.Words.{close, close_answer, counted_of, detail_of, details_for}
 use Rattle.book_model.specs.Words.{details_of, has, is_counted_in, is_dated_after, last_close}
 use Rattle.book_model.specs.Words.{name_of, period_of, terms_answer, with, is_day_of}
+use Rattle.table_model.specs.Readable.{IsReadable}
 
 -- the rows that are kept
 abbrev pub kept_details : Naming → Book → List Detail
@@ -30,6 +31,15 @@ DetailsAreKept =
     → details_of naming (book_after history).rulings period
     ≡ filter (λ detail. is_day_of number (book_after history).rulings detail.priced.day)
     (kept_details naming (book_after history))
+
+-- The same of any book that can be read back.
+abbrev pub BookDetailsAreKept : Type 0
+BookDetailsAreKept =
+    (naming : Naming) (book : Book) (number : ℕ) (period : Period)
+    → IsReadable naming book
+    → period_of book number ≡ Some period
+    → details_of naming book.rulings period
+    ≡ filter (λ detail. is_day_of number book.rulings detail.priced.day) (kept_details naming book)
 
 -- How the kept rows follow a book. Of what is dated after the last close those are kept that are
 -- charged: a row comes and goes with the mark of its record. Of what is dated no later no row comes or

@@ -1,11 +1,11 @@
 //! Laws of details, which hold of the definitions alone. Each is the contract of a function that
 //! does nothing.
 
-ghost use Rattle.book_laws.specs.DetailLaws.{CentreDetailsAddUp, CountedByDay, CountedIsRead};
-ghost use Rattle.book_laws.specs.DetailLaws.{DetailedOnce, DetailsAddUp};
+ghost use Rattle.book_laws.specs.DetailLaws.{BooksDetailOnce, CentreDetailsAddUp, CountedByDay};
+ghost use Rattle.book_laws.specs.DetailLaws.{CountedIsRead, DetailedOnce, DetailsAddUp};
 ghost use Rattle.book_laws.specs.DetailStays.{BooksKeepDetails, DetailsStay, NextIsNext};
-ghost use Rattle.book_laws.specs.KeptDetails.{CountedFollows, DetailsAreKept, RowsJoinAndGo};
-ghost use Rattle.book_laws.specs.KeptDetails.{TariffsReadKept};
+ghost use Rattle.book_laws.specs.KeptDetails.{BookDetailsAreKept, CountedFollows, DetailsAreKept};
+ghost use Rattle.book_laws.specs.KeptDetails.{RowsJoinAndGo, TariffsReadKept};
 
 /// The details of a period add up to its statement: for each day, centre and shift the records of
 /// the details are those that the charge row sums.
@@ -18,9 +18,11 @@ pub fn centre_details_add_up()
     ensures { CentreDetailsAddUp }
 {}
 
-/// Each record stands in the details of at most one period.
+/// Each record stands in the details of at most one period, in a history and in any book that can
+/// be read back.
 pub fn detailed_once()
-    ensures { DetailedOnce }
+    ensures history { DetailedOnce }
+    ensures book { BooksDetailOnce }
 {}
 
 /// What a period counts is what any period counts that is dated in it.
@@ -33,9 +35,11 @@ pub fn counted_is_read()
     ensures { CountedIsRead }
 {}
 
-/// The details of a period are the kept rows of its days.
+/// The details of a period are the kept rows of its days, in a history and in any book that can be
+/// read back.
 pub fn details_are_kept()
-    ensures { DetailsAreKept }
+    ensures history { DetailsAreKept }
+    ensures book { BookDetailsAreKept }
 {}
 
 /// Kept rows come and go with the marks of records that are dated after the last close, and no
