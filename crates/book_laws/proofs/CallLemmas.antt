@@ -15,8 +15,10 @@ use Rattle.book_core.proofs.FollowLemmas.{accept_event-answered, adopt_answered,
 use Rattle.book_core.proofs.FollowLemmas.{close_answered, tariff_answered}
 use Rattle.book_core.proofs.TransitionLemmas.{no_work, work_then}
 use Rattle.book_reports.proofs.ReadingLemmas.{IsReading}
+use Rattle.office.specs.Laws.{IsStillOpen}
 use Rattle.office.proofs.ChoiceLemmas.{choices_answered}
 use Rattle.office.proofs.LawLemmas.{asks_answered}
+use Rattle.office.proofs.LeavingLemmas.{Leaves}
 use Rattle.office.proofs.RunLemmas.{runs_answered}
 use Rattle.book_http.proofs.LawLemmas.{requests_make_history}
 use Rattle.book_laws.specs.CallLaws.{CallsFollowHistory}
@@ -134,14 +136,24 @@ done_is_work seen before (step ∷ later) done =
     (subst (λ naming. IsTransition (seen step.after) last (works_of naming (calls_of later)))
     done.0.naming (done_is_work seen step.after later done.1))
 
--- calls on the books of a history leave those of one that goes on with it
-pub calls_follow_history : {L : Type 0} (seen : L → Seen) → CallsFollowHistory seen
-calls_follow_history seen naming start before steps answered opened done still =
+-- calls on any book leave what they make of it
+pub calls_leave : {L : Type 0} (seen : L → Seen) (naming : Naming) (start : Book) (before : L)
+    (steps : List (Step L)) → IsOpenAt naming start (seen before) → AreDone seen before steps
+    → IsStillOpen (seen (ledger_after_calls before steps))
+    → Leaves naming (works_of naming (calls_of steps)) start
+    (seen (ledger_after_calls before steps))
+calls_leave seen naming start before steps opened done still =
     let after : Seen = seen (ledger_after_calls before steps) in
     let work : IsTransition (seen before) after (works_of naming (calls_of steps)) =
     subst (λ naming. IsTransition (seen before) after (works_of naming (calls_of steps))) opened.naming
     (done_is_work seen before steps done) in
-    let left = work_leaves opened work still in
+    work_leaves opened work still
+
+-- so calls on the books of a history leave those of one that goes on with it
+pub calls_follow_history : {L : Type 0} (seen : L → Seen) → CallsFollowHistory seen
+calls_follow_history seen naming start before steps answered opened done still =
+    let after : Seen = seen (ledger_after_calls before steps) in
+    let left = calls_leave seen naming (book_after start) before steps opened done still in
     record {
       events = left.events;
       made = left.made;

@@ -10,14 +10,15 @@ use Rattle.book_model.specs.Words.{Outcome, no_event, charges_outcome, adjustmen
 use Rattle.book_model.specs.Words.{Naming, rows_for}
 use Rattle.book_model.proofs.Lemmas.{sound_after, slice_get-front, slice_get-behind}
 use Rattle.book_model.proofs.Lemmas.{books_follow_history}
-use Rattle.book_core.specs.Words.{Seen}
+use Rattle.book_core.specs.Words.{IsOpenAt, Seen}
+use Rattle.office.specs.Laws.{IsStillOpen}
 use Rattle.book_laws.proofs.Words.{LedgerFault, NoSuchPeriod, Line, ChargeRow, plus_of, minus_of}
 use Rattle.book_laws.specs.HistoryLaws.{IsBalanced}
-use Rattle.book_laws.proofs.ReadLemmas.{conserved}
+use Rattle.book_laws.proofs.ReadLemmas.{books_conserve, conserved}
 use Rattle.book_laws.specs.ListLaws.{PeriodLists, list_calls, rows_in, lines_in, rows_cost}
-use Rattle.book_laws.specs.ListLaws.{ListsConserve}
-use Rattle.book_laws.specs.Calls.{works_of}
-use Rattle.book_laws.proofs.CallLemmas.{calls_follow_history}
+use Rattle.book_laws.specs.ListLaws.{BookListsConserve, ListsConserve}
+use Rattle.book_laws.specs.Calls.{AreDone, Step, calls_of, ledger_after_calls, works_of}
+use Rattle.book_laws.proofs.CallLemmas.{calls_leave}
 
 -- what comes after a prefix is found at its length
 found_behind : {X : Type 0} (front later : List X) (x : X)
@@ -151,19 +152,38 @@ lists_answered naming number (period ∷ later) was book events is made =
       ),
     )
 
--- the law of the lists
+-- what a ledger answers for all periods of a book is balanced, where the book is
+lists_of_book : {L : Type 0} (seen : L → Seen) (naming : Naming) (book : Book) (before : L)
+    (steps : List (Step L)) (periods : List PeriodLists)
+    → length book.past ≡ length book.rulings.closes → IsBalanced naming book
+    → IsOpenAt naming book (seen before) → AreDone seen before steps
+    → IsStillOpen (seen (ledger_after_calls before steps))
+    → calls_of steps ≡ list_calls 1 periods → length periods ≡ open_number book
+    → pos (rows_cost (rows_in periods) + sum_by plus_of (lines_in periods))
+    -ℤ pos (sum_by minus_of (lines_in periods))
+    ≡ pos (total_of book.rulings (charged_of book))
+lists_of_book seen naming book before steps periods closed balanced opened done still asked all =
+    let left = calls_leave seen naming book before steps opened done still in
+    let lists = lists_answered naming 1 periods false book left.events false
+    (subst (λ calls. works_of naming calls false book left.events false) asked left.made) in
+    let all_rows : length (rows_in periods) ≡ open_number book =
+    length-map periods (λ period. period.rows.items) ∙ all in
+    let all_lines : length (lines_in periods) ≡ open_number book =
+    length-map periods (λ period. period.lines.items) ∙ all in
+    lists_balance naming book closed (rows_in periods) (lines_in periods) balanced lists.0 lists.1
+    all_rows all_lines
+
+-- the law of the lists, of books that can be read back
+pub book_lists_conserve : {L : Type 0} (seen : L → Seen) → BookListsConserve seen
+book_lists_conserve seen naming book before steps periods whole opened done still asked all =
+    lists_of_book seen naming book before steps periods whole.sound.closed
+    (books_conserve naming book whole) opened done still asked all
+
+-- and of histories
 pub lists_conserve : {L : Type 0} (seen : L → Seen) → ListsConserve seen
 lists_conserve seen naming history before steps periods answered opened done still asked all =
     let book : Book = book_after history in
     let same : book ≡ book_of history = books_follow_history history in
-    let left = calls_follow_history seen naming history before steps answered opened done still in
-    let lists = lists_answered naming 1 periods false book left.events false
-    (subst (λ calls. works_of naming calls false book left.events false) asked left.made) in
-    let as_many : length periods ≡ open_number book = all ∙ ap open_number (sym same) in
-    let all_rows : length (rows_in periods) ≡ open_number book =
-    length-map periods (λ period. period.rows.items) ∙ as_many in
-    let all_lines : length (lines_in periods) ≡ open_number book =
-    length-map periods (λ period. period.lines.items) ∙ as_many in
-    lists_balance naming book (sound_after naming history answered).closed (rows_in periods)
-    (lines_in periods) (conserved naming history answered) lists.0 lists.1 all_rows all_lines
+    lists_of_book seen naming book before steps periods (sound_after naming history answered).closed
+    (conserved naming history answered) opened done still asked (all ∙ ap open_number (sym same))
     ∙ ap (λ book. pos (total_of book.rulings (charged_of book))) same

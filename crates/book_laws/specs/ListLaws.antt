@@ -6,6 +6,7 @@ use Rattle.book_model.specs.declared.line.Line.{Line}
 use Rattle.book_model.specs.declared.row.ChargeRow.{ChargeRow}
 use Rattle.book_model.specs.Words.{total_of, IsMadeByCalls, Book, charged_of, open_number, Event}
 use Rattle.book_model.specs.Words.{book_after, book_of, Naming}
+use Rattle.table_model.specs.Readable.{IsReadable}
 use Rattle.book_core.specs.Ledgers.{Seen, IsOpenAt}
 use Rattle.book_laws.specs.PeriodAmounts.{plus_of, minus_of}
 use Rattle.office.specs.Laws.{IsStillOpen}
@@ -47,5 +48,18 @@ ListsConserve {L} seen =
     → length periods ≡ open_number (book_of history)
     → let book : Book = book_of history in
     pos (rows_cost (rows_in periods) + sum_by plus_of (lines_in periods))
+    -ℤ pos (sum_by minus_of (lines_in periods))
+    ≡ pos (total_of book.rulings (charged_of book))
+
+-- The same of a ledger that is open at any book that can be read back.
+abbrev pub BookListsConserve : {L : Type 0} → (L → Seen) → Type 0
+BookListsConserve {L} seen =
+    (naming : Naming) (book : Book) (before : L) (steps : List (Step L))
+    (periods : List PeriodLists)
+    → IsReadable naming book → IsOpenAt naming book (seen before)
+    → AreDone seen before steps → IsStillOpen (seen (ledger_after_calls before steps))
+    → calls_of steps ≡ list_calls 1 periods
+    → length periods ≡ open_number book
+    → pos (rows_cost (rows_in periods) + sum_by plus_of (lines_in periods))
     -ℤ pos (sum_by minus_of (lines_in periods))
     ≡ pos (total_of book.rulings (charged_of book))

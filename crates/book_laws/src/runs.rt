@@ -1,7 +1,7 @@
 //! Laws of runs, which hold of the definitions alone. Each is the contract of a function that does
 //! nothing.
 
-ghost use Rattle.book_laws.specs.ListLaws.{ListsConserve};
+ghost use Rattle.book_laws.specs.ListLaws.{BookListsConserve, ListsConserve};
 ghost use Rattle.book_laws.specs.CallLaws.{CallsFollowHistory};
 ghost use Rattle.book_laws.specs.RunLaws.{ClosedStatementsStay, OpenStatementIsFirst};
 ghost use Rattle.book_laws.specs.RunLaws.{RunOrderIsFree, RunsChargeOnce, RunsConserve};
@@ -56,9 +56,11 @@ pub fn calls_follow_history<L: Ledger>()
 {}
 
 /// The charge rows and plus lines that a ledger answers for all its periods, less the minus lines,
-/// amount to what the records cost that are charged by the history.
+/// amount to what the records cost that are charged by the history, or in the book that can be read
+/// back.
 pub fn lists_conserve<L: Ledger>()
-    ensures { ListsConserve L.seen }
+    ensures history { ListsConserve L.seen }
+    ensures book { BookListsConserve L.seen }
 {}
 
 /// Each line of a statement but the first has 114 characters, for any period of books that can be
