@@ -1,0 +1,51 @@
+-- Commands from the one on that made the books.
+use Rattle.std.proofs.Common.{◌≡◌, ◌∙◌, ℕ, List, [], Option, Result, Ok, Err, ap, sym}
+use Rattle.std.specs.Borrow.{Bor}
+use Rattle.book_model.specs.declared.fault.LedgerFault.{LedgerFault}
+use Rattle.book_model.specs.declared.fault.LedgerFault.TheVariants as ledger
+use Rattle.named_books.specs.Shelves.{IsMade, Shelf}
+use Rattle.named_books.specs.declared.repository.RepositoryFault.{RepositoryFault}
+use Rattle.named_books.specs.declared.repository.RepositoryFault.TheVariants.{Busy, Exists, Io, Ledger, Unseen}
+use Rattle.command_line.specs.declared.request.BookRequest.TheVariants.{Init}
+use Rattle.command_line.specs.declared.request.Request.TheVariants.{OfBooks}
+use Rattle.program_output.specs.Statuses.{ledger_status}
+use Rattle.program_output.specs.declared.status.Status.{Status}
+use Rattle.program_output.specs.declared.status.Status.TheVariants.{Done}
+use Rattle.without_books.specs.Faults.{fault_status, shelf_end, shelf_fault, status_by, without_log}
+use Rattle.chargectl.specs.Requests.{DoesOrRefuses}
+
+-- no fault of a ledger is said to be done
+ledger_undone : (fault : LedgerFault) → ledger_status fault ≡ Done → ⊥
+ledger_undone ledger.Memory is = cc is
+ledger_undone ledger.Store is = cc is
+ledger_undone ledger.Reopen is = cc is
+ledger_undone ledger.NotBooks is = cc is
+ledger_undone ledger.OldForm is = cc is
+ledger_undone ledger.NewForm is = cc is
+ledger_undone fault is = cc is
+
+-- nor is one of a place
+place_undone : (fault : RepositoryFault) → fault_status (shelf_fault fault) ≡ Done → ⊥
+place_undone Io is = cc is
+place_undone Exists is = cc is
+place_undone Busy is = cc is
+place_undone Unseen is = cc is
+place_undone (Ledger fault) is = ledger_undone fault is
+
+-- books were made, as was said
+made_done : (book : List ℕ) (old new : Shelf) (made : Result (Unit {0}) RepositoryFault)
+    → IsMade book old new made → status_by (without_log (shelf_end made)) ≡ Done
+    → old.is_free book → new.holds book []
+made_done book old new (Ok done) it is free = it.made free
+made_done book old new (Err fault) it is free = absurd (place_undone fault is)
+
+-- so did a command that was told to
+pub begun : {S : Type 0} (shelf : S → Shelf) (waits : S → ℕ → Type 0) (old new : S)
+    (book : Bor (List ℕ)) (wait : ℕ) (had held holds : Option (List ℕ)) (Failed : Type 0)
+    (Says : List (List ℕ) → Type 0) (status : Status)
+    → DoesOrRefuses shelf waits old new (Ok (OfBooks book wait Init)) had held holds Failed Says status
+    → status ≡ Done → (shelf old).is_free book.now → (shelf new).holds book.now []
+begun shelf waits old new book wait had held holds Failed Says status it is free =
+    let ran = it.1 in
+    made_done book.now (shelf ran.waiting) (shelf new) ran.does.made ran.does.done
+    (ap status_by (sym ran.does.ends) ∙ sym it.2 ∙ is) (ran.same.free book.now free)

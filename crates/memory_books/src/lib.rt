@@ -1,0 +1,12 @@
+//! Books in memory by their names: a place of which it is known what it holds.
+#![tactic(auto)]
+
+mod kept;
+mod laws;
+mod places;
+mod plain;
+mod shelf;
+
+pub use kept::KeptLedger;
+pub use laws::commands_in_memory_follow_history;
+pub use shelf::MemoryBooks;
