@@ -7,7 +7,9 @@ use Rattle.std.specs.declared.alloc.AllocError.{AllocError}
 use Rattle.streams.specs.Failures.{HasFailed}
 use Rattle.book_model.specs.Records.{same_bytes}
 use Rattle.book_model.specs.declared.fault.LedgerFault.{LedgerFault}
-use Rattle.book_model.specs.Words.{Book, Event, IsMadeByCalls, Naming, book_after, book_of}
+use Rattle.book_model.specs.declared.fault.LedgerFault.TheVariants.{Memory, Store, Reopen}
+use Rattle.book_model.specs.Words.{Book, Event, IsMadeByCalls, Naming, Outcome, book_after, book_of}
+use Rattle.book_core.specs.Calls.{Calls, listed}
 use Rattle.book_model.proofs.StepLemmas.{books_follow_history}
 use Rattle.book_core.specs.Follow.{MakesAnswered}
 use Rattle.book_core.specs.Transition.{Transition, NoEvent}
@@ -19,8 +21,9 @@ use Rattle.named_books.specs.declared.repository.RepositoryFault.{RepositoryFaul
 use Rattle.named_books.specs.declared.repository.RepositoryFault.TheVariants.{Unseen}
 use Rattle.office.specs.declared.request.Answer.{Answer}
 use Rattle.office.specs.declared.request.Asked.{Asked}
+use Rattle.office.specs.declared.request.Asked.TheVariants.{Import, ImportBytes, Report, WhatIf}
 use Rattle.office.specs.Outcomes.{is_hindered}
-use Rattle.office.specs.Requests.{Asks, response_by}
+use Rattle.office.specs.Requests.{Asks, Dump, Response, response_by}
 use Rattle.named_books.specs.Shelves.{ComesBy, Shelf, IsDoneTo, IsOpened, IsTried, IsUntouched}
 use Rattle.office.proofs.ChoiceLemmas.{choices_done}
 use Rattle.office.proofs.LawLemmas.{asks_done}
@@ -40,16 +43,18 @@ use Rattle.chargectl.specs.declared.answered.Answered.{Answered}
 use Rattle.chargectl.specs.declared.streamed_lists.StreamedList.{StreamedList}
 use Rattle.chargectl.specs.Choices.{ChoosesBy, ChoosesListed, ComesOfList, IsListFault}
 use Rattle.chargectl.specs.Choices.{list_answered}
-use Rattle.chargectl.specs.Commands.{AsksAndTells, AsksNothing, AsksOnceBy, ComesOf, once_answered}
+use Rattle.chargectl.specs.Commands.{AsksAndTells, AsksNothing, AsksOnceBy, ComesOf, IsFileFault}
+use Rattle.chargectl.specs.Commands.{may_change, once_answered}
 use Rattle.chargectl.specs.Audits.{AuditsBooks, BacksUp}
 use Rattle.chargectl.specs.CommandLaws.{AreCommanded, AskedBy, AsksOfHistory, Commanded}
 use Rattle.chargectl.specs.CommandLaws.{ChoicesFollow, CommandsFollowHistory, DoesToHistory, Follows}
 use Rattle.chargectl.specs.CommandLaws.{IsListed, LeaveHistory, ListBy, ListOfHistory, ListsHistoryBy}
 use Rattle.chargectl.specs.CommandLaws.{ListsAskedOfHistory, ListsOfHistory, OpenedSo, RunsOn}
-use Rattle.chargectl.specs.CommandLaws.{ServesEach, ServesOfHistory}
+use Rattle.chargectl.specs.CommandLaws.{ServesEach, ServesHistoryBy}
 use Rattle.chargectl.specs.CommandLaws.{TriedBy, TriesOfHistory, place_after}
 use Rattle.chargectl.specs.DryRuns.{ComesOfDryRun, ShowsDry, TriesAndTells, TriesOnceBy}
-use Rattle.chargectl.specs.Requests.{Answering, Does, DoesOrRefuses, ServesBy, SettlesBy}
+use Rattle.chargectl.specs.Requests.{Answering, Does, DoesOrRefuses, IsServiceFault, ServesBy}
+use Rattle.chargectl.specs.Requests.{SettlesBy}
 use Rattle.chargectl.specs.StreamedLists.{ListsAsked, ListsBy, WritesSomeOf, list_answer, list_of}
 use Rattle.chargectl.specs.StreamedLists.{listing_answered}
 use Rattle.chargectl.specs.Upgrades.{UpgradesBy}
@@ -116,6 +121,44 @@ record Makes (Made : Transition) (history made : List Event) : Type 0 where
   is : Bool
   made_so : Made false (book_after history) made is
 
+-- where a fault is in place of an answer nothing was made, unless the store failed
+called_unmade : (outcome : Book → Outcome Response) (fault : LedgerFault) (book : Book)
+    (events : List Event) (is : Bool)
+    → Calls (λ (told : Response). told) outcome (Err fault) false book events is → fault ≢ Store
+    → events ≡ []
+called_unmade outcome Memory book events is called apart = called.makes
+called_unmade outcome Store book events is called apart = absurd (apart refl)
+called_unmade outcome Reopen book events is called apart = called.makes
+called_unmade outcome fault book events is called apart = called.makes.1
+
+asked_unmade : (naming : Naming) (asked : Asked) (dump : Dump) (fault : LedgerFault) (book : Book)
+    (events : List Event) (is : Bool) → Asks naming asked dump (Err fault) false book events is
+    → fault ≢ Store → events ≡ []
+asked_unmade naming (Import layout) dump fault book events is made apart = absurd made
+asked_unmade naming (ImportBytes layout bytes) dump fault book events is made apart = absurd made
+asked_unmade naming other dump fault book events is made apart =
+    called_unmade _ fault book events is made apart
+
+-- what has no event makes none, whatever is told
+called_reads : (outcome : Book → Outcome Response) (told : Result Response LedgerFault) (book : Book)
+    (events : List Event) (is : Bool) → (outcome book).event ≡ None
+    → Calls (λ (told : Response). told) outcome told false book events is → events ≡ []
+called_reads outcome (Ok value) book events is none called = called.makes.1 ∙ ap listed none
+called_reads outcome (Err Memory) book events is none called = called.makes
+called_reads outcome (Err Store) book events is none called =
+    elim called.makes [ inl made ↦ made | inr made ↦ made ∙ ap listed none ]
+called_reads outcome (Err Reopen) book events is none called = called.makes
+called_reads outcome (Err fault) book events is none called = called.makes.1
+
+asked_reads : (naming : Naming) (asked : Asked) (dump : Dump) (told : Result Response LedgerFault)
+    (book : Book) (events : List Event) (is : Bool) → Asks naming asked dump told false book events is
+    → may_change asked ≡ false → events ≡ []
+asked_reads naming (Report report) dump told book events is made read =
+    called_reads _ told book events is refl made
+asked_reads naming (WhatIf report tariff) dump told book events is made read =
+    called_reads _ told book events is refl made
+asked_reads naming other dump told book events is made read = absurd (true≢false read)
+
 -- books of one name are those of another, or are not
 module _ (naming : Naming) (history : List Event) (name : List ℕ) (old new : Shelf)
     (answered : IsMadeByCalls naming history) (held : old.holds name history) where
@@ -164,13 +207,24 @@ module _ (naming : Naming) (history : List Event) (name : List ℕ) (old new : S
           → Follows naming history asked told made
       follows_of made it =
           let once = it.made_so in
+          let work = subst
+          (λ book. Asks naming asked once.dump (response_by told) false book made it.is)
+          (books_follow_history history) once.made in
           record {
             dump = once.dump;
             input = once.input;
             given = once.given;
-            is = asks_done naming asked once.dump (response_by told) (book_of history) made it.is
-                (subst (λ book. Asks naming asked once.dump (response_by told) false book made it.is)
-                (books_follow_history history) once.made);
+            left = it.is;
+            work = work;
+            unmade = λ fault same apart.
+                asked_unmade naming asked once.dump fault (book_of history) made it.is
+                (subst (λ told. Asks naming asked once.dump (response_by told) false (book_of history) made
+                it.is) same work)
+                apart;
+            reads = λ read.
+                asked_reads naming asked once.dump (response_by told) (book_of history) made it.is work
+                read;
+            is = asks_done naming asked once.dump (response_by told) (book_of history) made it.is work;
           }
 
   -- a list was written
@@ -199,9 +253,14 @@ module _ (naming : Naming) (history : List Event) (name : List ℕ) (old new : S
       follows_of : (made : List Event) → Makes (ChoosesBy naming names (Ok chosen)) history made
           → ChoicesFollow naming history names (Ok chosen) made
       follows_of made it =
-          choices_done naming names chosen.answers.items chosen.refusal (book_of history) made it.is
-          (subst (λ book. ChoosesBy naming names (Ok chosen) false book made it.is)
-          (books_follow_history history) it.made_so)
+          let work = subst (λ book. ChoosesBy naming names (Ok chosen) false book made it.is)
+          (books_follow_history history) it.made_so in
+          record {
+            left = it.is;
+            work = work;
+            is = choices_done naming names chosen.answers.items chosen.refusal (book_of history) made it.is
+                work;
+          }
   chosen_on book names (Err none) done =
       step_as (λ made so. (λ same. (so.0 same).made_so.none, so.1))
       (work_on book NoEvent (none_answered naming) done)
@@ -224,15 +283,6 @@ module _ (naming : Naming) (history : List Event) (name : List ℕ) (old new : S
   ]
   opened_on book Refuses follow work So so_of (Err fault) done =
       step_as (λ made is. (λ _. (follow fault done.0, is), λ _. is)) (none_on book done.1)
-
--- no connections make no events
-none_served : (naming : Naming) (history made : List Event) → made ≡ []
-    → ServesOfHistory naming history made
-none_served naming history made is = record {
-  told = [];
-  is = false;
-  made_so = record { none = is; same = refl };
-}
 
 module _ (history : List Event) (name : List ℕ) (old new : Shelf)
     (answered : IsMadeByCalls old.naming history) (held : old.holds name history)
@@ -490,24 +540,46 @@ module _ {S : Type 0} (shelf : S → Shelf) (history : List Event) (name : List 
     (Refuses : List ℕ → RepositoryFault → Type 0)
     (follow : (book : List ℕ) (fault : RepositoryFault) → (shelf before).refuses book fault
     → Refuses book fault) where
+  -- why a service ended early
+  cause_as : (book : List ℕ) (served : Result Bool CommandFault)
+      → IfErr served (IsServiceFault ((shelf before).refuses book))
+      → IfErr served (IsServiceFault (Refuses book))
+  cause_as book (Ok failed) cause = tt
+  cause_as book (Err why) cause =
+      either_as ((shelf before).refuses book) (Refuses book) (follow book) (IsFileFault why) why cause
+
   -- connections in turn, or none
   serves_on : (book : List ℕ) (requests : ℕ) (has holds : Option (List ℕ)) (Failed : Type 0)
       (came : Result Ended CommandFault)
       → ServesBy shelf requests book before after has holds Failed came
       → Step (shelf before).naming history name (shelf before) (shelf after)
-      (Where book name (ServesOfHistory (shelf before).naming history))
+      (Where book name
+      (λ made. ServesHistoryBy (shelf before).naming history (Refuses book) requests has holds Failed
+      came made))
   serves_on book requests has holds Failed (Ok ended) it =
       step_as (λ made so. (
         λ same.
             let made_it = so.0 same in
-            record { told = it.told; is = made_it.is; made_so = made_it.made_so },
+            record {
+              told = it.told;
+              is = made_it.is;
+              made_so = made_it.made_so;
+              served = it.served;
+              all = it.all;
+              early = it.early;
+              cause = cause_as book it.served it.cause;
+              ends = it.ends;
+            },
         so.1,
       ))
       (work_on (shelf before).naming history name (shelf before) (shelf after) answered held book
       (ServesEach (shelf before).naming it.told) (each_answered (shelf before).naming it.told)
       (turn_done shelf book before after it.told it.turn))
   serves_on book requests has holds Failed (Err why) it =
-      step_as (λ made is. (λ _. none_served (shelf before).naming history made is, λ _. is))
+      step_as (λ made is. (
+        λ _. (shelf_as ((shelf before).refuses book) (Refuses book) (follow book) why it.0, it.2, is),
+        λ _. is,
+      ))
       (none_on (shelf before).naming history name (shelf before) (shelf after) answered held book it.1)
 
   does_on : (book : List ℕ) (request : BookRequest) (has holds : Option (List ℕ)) (Failed : Type 0)
@@ -528,7 +600,11 @@ module _ {S : Type 0} (shelf : S → Shelf) (history : List Event) (name : List 
       backs_up_on history name (shelf before) (shelf after) answered held Refuses follow book copy.now
       has holds Failed does.came does.does
   does_on book (asks.Serve port requests) has holds Failed ended does =
-      serves_on book requests has holds Failed does.came does.does
+      step_as (λ made so. (
+        λ same. record { came = does.came; serves = so.0 same; ends = does.ends },
+        so.1,
+      ))
+      (serves_on book requests has holds Failed does.came does.does)
   does_on book (asks.List asked) has holds Failed ended does =
       list_asked history name (shelf before) (shelf after) answered held Refuses follow (list_of asked)
       book has holds Failed ended does

@@ -1,13 +1,14 @@
 -- Commands, one after the other, on books that are kept by their names: each tells what the definitions
 -- give for the whole history before it.
 use Rattle.std.specs.Prelude.{◌≡◌, ◌≢◌, Bool, false, ℕ, List, [], ◌∷◌, ◌++◌, Option, None, Some}
-use Rattle.std.specs.Prelude.{IfErr, IfOk, OnOk, Result, Ok, Err, String}
+use Rattle.std.specs.Prelude.{IfErr, IfOk, OnErr, OnOk, Result, Ok, Err, String, length, true}
 use Rattle.std.specs.Global.{Global}
 use Rattle.std.specs.declared.alloc.AllocError.{AllocError}
 use Rattle.streams.specs.Failures.{HasFailed}
 use Rattle.streams.specs.InputOutput.{Input}
 use Rattle.tariff_rules.specs.Limits.{most_rate}
 use Rattle.book_model.specs.declared.fault.LedgerFault.{LedgerFault}
+use Rattle.book_model.specs.declared.fault.LedgerFault.TheVariants.{Store}
 use Rattle.book_model.specs.Words.{Book, Event, IsMadeByCalls, Naming, book_after, book_of}
 use Rattle.book_core.specs.Transition.{Transition, NoEvent, Then}
 use Rattle.book_http.specs.declared.served.Served.{Served}
@@ -18,9 +19,9 @@ use Rattle.office.specs.declared.choosing.Chosen.{Chosen}
 use Rattle.named_books.specs.declared.repository.RepositoryFault.{RepositoryFault}
 use Rattle.office.specs.declared.request.Answer.{Answer}
 use Rattle.office.specs.declared.request.Asked.{Asked}
-use Rattle.office.specs.Choices.{are_hindered, choices_outcome}
+use Rattle.office.specs.Choices.{ChoosesEach, are_hindered, choices_outcome}
 use Rattle.office.specs.Outcomes.{asked_outcome, is_hindered}
-use Rattle.office.specs.Requests.{Dump, Gives, response_by}
+use Rattle.office.specs.Requests.{Asks, Dump, Gives, response_by}
 use Rattle.named_books.specs.Shelves.{Shelf, OpenedAnew, WhereUnopened}
 use Rattle.command_line.specs.declared.request.BookRequest.{BookRequest}
 use Rattle.command_line.specs.declared.request.BookRequest.TheVariants as book
@@ -41,11 +42,11 @@ use Rattle.chargectl.specs.declared.answered.Answered.{Answered}
 use Rattle.chargectl.specs.declared.streamed_lists.StreamedList.{StreamedList}
 use Rattle.chargectl.specs.Choices.{AreListed, ChoosesNothing, TellsList, chosen_of}
 use Rattle.chargectl.specs.Commands.{AsksNothing, IsAskedBy, IsShelfFault, Tells, answer_of}
-use Rattle.chargectl.specs.Commands.{answer_told, first_fault, notice_of}
+use Rattle.chargectl.specs.Commands.{answer_told, first_fault, may_change, notice_of}
 use Rattle.chargectl.specs.DryRuns.{ShowsDry}
-use Rattle.chargectl.specs.Requests.{Answering, CommandsBy}
+use Rattle.chargectl.specs.Requests.{Answering, CommandsBy, IsServiceFault, WritesEarly, WritesLines}
 use Rattle.chargectl.specs.StreamedLists.{WritesSomeOf, list_answer, list_end, list_of}
-use Rattle.chargectl.specs.Serving.{AnswersSome, IsToldOf}
+use Rattle.chargectl.specs.Serving.{AnswersSome, IsToldOf, service_end}
 
 -- a command: its words, its input, its output and standard error before and after it, its status, and
 -- the place of the books after it
@@ -73,14 +74,19 @@ AreCommanded shelf waits contents may_answer Says before (command ∷ later) =
     command.held command.holds Says command.quiet command.said command.status
     × AreCommanded shelf waits contents may_answer Says command.after later
 
--- After a history this was asked and told, and it made these events, the newest first. Unless a lack
--- of memory or the store hindered it, that is what the definitions say of the history, looked at as
--- a whole.
+-- After a history this was asked and told, and it made these events, the newest first. A refusal made
+-- none, and neither did a lack of memory: a fault of the store alone leaves it open whether the events
+-- of the answer were made. What only reads made none, whatever it told. Unless a lack of memory or the
+-- store hindered it, all of this is what the definitions say of the history, looked at as a whole.
 pub record Follows (naming : Naming) (history : List Event) (asked : Asked)
     (told : Result Answer LedgerFault) (made : List Event) : Type 0 where
   pub dump : Dump
   pub input : Input
   pub given : Gives asked dump (response_by told) input
+  pub left : Bool
+  pub work : Asks naming asked dump (response_by told) false (book_of history) made left
+  pub unmade : (fault : LedgerFault) → told ≡ Err fault → fault ≢ Store → made ≡ []
+  pub reads : may_change asked ≡ false → made ≡ []
   pub is : is_hindered (response_by told) ≡ false
       → asked_outcome naming asked dump (book_of history)
       ≡ record { told = response_by told; events = made }
@@ -147,17 +153,26 @@ pub record TriesOfHistory (naming : Naming) (history : List Event)
   pub tells : Tells came held holds Failed ended
   pub none : made ≡ []
 
--- After a history the records of these names were chosen, one after the other, which made these events.
+-- After a history the records of these names were chosen, one after the other, which made these events:
+-- those of the choices that were answered, and of one that a fault of the store hindered maybe its own.
 -- Unless a lack of memory or the store hindered one, that is what the definitions say of the history,
--- looked at as a whole; without memory for the answers none was chosen.
+-- looked at as a whole.
+pub record ChoicesMade (naming : Naming) (history : List Event) (names : List (List ℕ))
+    (chosen : Chosen) (made : List Event) : Type 0 where
+  pub left : Bool
+  pub work : ChoosesEach naming names chosen.answers.items chosen.refusal false (book_of history) made
+      left
+  pub is : are_hindered chosen.refusal ≡ false
+      → choices_outcome naming names (book_of history) ≡ record {
+        answers = chosen.answers.items;
+        refusal = chosen.refusal;
+        events = made;
+      }
+
+-- without memory for the answers none was chosen
 abbrev pub ChoicesFollow : Naming → List Event → List (List ℕ) → Result Chosen AllocError → List Event
     → Type 0
-ChoicesFollow naming history names (Ok chosen) made = are_hindered chosen.refusal ≡ false
-    → choices_outcome naming names (book_of history) ≡ record {
-      answers = chosen.answers.items;
-      refusal = chosen.refusal;
-      events = made;
-    }
+ChoicesFollow naming history names (Ok chosen) made = ChoicesMade naming history names chosen made
 ChoicesFollow naming history names (Err none) made = made ≡ []
 
 -- the names of a list were chosen, and so it was told
@@ -203,11 +218,36 @@ ServesEach naming [] = NoEvent
 ServesEach naming (what ∷ before) =
     Then (ServesEach naming before) (OpenedAnew (ServesAny naming what))
 
--- connections made these events of the books of a history
-pub record ServesOfHistory (naming : Naming) (history made : List Event) : Type 0 where
+-- Connections made these events of the books of a history: those of which lines were written, as many as
+-- were due, unless the service ended early and said why.
+pub record ServesHistory (naming : Naming) (history : List Event)
+    (Refuses : RepositoryFault → Type 0) (requests : ℕ) (held holds : Option (List ℕ)) (Failed : Type 0)
+    (ended : Ended) (made : List Event) : Type 0 where
   pub told : List Served
   pub is : Bool
   pub made_so : ServesEach naming told false (book_after history) made is
+  pub served : Result Bool CommandFault
+  pub all : IfOk served (λ failed. (length told ≡ requests) × WritesLines told held holds failed
+      × (failed ≡ true → Failed))
+  pub early : OnErr served (WritesEarly told held holds)
+  pub cause : IfErr served (IsServiceFault Refuses)
+  pub ends : ended.came ≡ service_end served
+
+-- or the place refused the books before
+abbrev pub ServesHistoryBy : Naming → List Event → (RepositoryFault → Type 0) → ℕ → Option (List ℕ)
+    → Option (List ℕ) → Type 0 → Result Ended CommandFault → List Event → Type 0
+ServesHistoryBy naming history Refuses requests held holds Failed (Ok ended) made =
+    ServesHistory naming history Refuses requests held holds Failed ended made
+ServesHistoryBy naming history Refuses requests held holds Failed (Err why) made =
+    IsShelfFault Refuses why × (holds ≡ held) × (made ≡ [])
+
+-- and that was told
+pub record ServesOfHistory (naming : Naming) (history : List Event)
+    (Refuses : RepositoryFault → Type 0) (requests : ℕ) (held holds : Option (List ℕ)) (Failed : Type 0)
+    (ended : Ended) (made : List Event) : Type 0 where
+  pub came : Result Ended CommandFault
+  pub serves : ServesHistoryBy naming history Refuses requests held holds Failed came made
+  pub ends : ended ≡ settled_as came
 
 -- This text was written whole, or, before a fault, a prefix of it that is not the whole; or it was
 -- refused. Where the place refused the books none was; where it was not seen that their closed files
@@ -264,7 +304,7 @@ DoesToHistory naming history Refuses book.Upgrade held holds Failed ended made =
 DoesToHistory naming history Refuses (book.Audit quiet) held holds Failed ended made = made ≡ []
 DoesToHistory naming history Refuses (book.BackUp copy quiet) held holds Failed ended made = made ≡ []
 DoesToHistory naming history Refuses (book.Serve port requests) held holds Failed ended made =
-    ServesOfHistory naming history made
+    ServesOfHistory naming history Refuses requests held holds Failed ended made
 DoesToHistory naming history Refuses (book.List asked) held holds Failed ended made =
     ListsAskedOfHistory (list_of asked) naming history Refuses held holds ended made
 DoesToHistory naming history Refuses (book.ChooseListed file) held holds Failed ended made =
