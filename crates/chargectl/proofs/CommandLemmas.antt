@@ -24,6 +24,7 @@ use Rattle.command_line.specs.declared.request.BookRequest.TheVariants as to_boo
 use Rattle.command_line.specs.declared.request.Ruling.TheVariants as ruling
 use Rattle.program_output.specs.Names.{name_in}
 use Rattle.without_books.specs.declared.command_fault.CommandFault.{CommandFault}
+use Rattle.without_books.specs.Inputs.{Files}
 use Rattle.chargectl.specs.declared.answered.Answered.{Answered}
 use Rattle.chargectl.specs.Commands.{AsksNothing, AsksOnceBy, ComesOf}
 use Rattle.chargectl.specs.Commands.{IsFileFault, IsShelfFault}
@@ -41,12 +42,12 @@ asked_once asked had answer books input begun it =
     record { dump = it.dump; input = input; begun = begun; given = it.given; made = made }) it.work
 
 -- nothing was asked, and this is why
-pub not_asked : (request : BookRequest) (book : List ℕ) (shelf : Shelf)
+pub not_asked : (files : Files) (request : BookRequest) (book : List ℕ) (shelf : Shelf)
     (result : Result Answered CommandFault) (found : CommandFault) → IsErr result
     → IsErrAnd result (λ why. why ≡ found) → AsksNothing request (shelf.refuses book) found
-    → ComesOf request book shelf shelf result
-not_asked request book shelf (Ok answered) found bad is why = absurd is
-not_asked request book shelf (Err fault) found bad is why =
+    → ComesOf files request book shelf shelf result
+not_asked files request book shelf (Ok answered) found bad is why = absurd is
+not_asked files request book shelf (Err fault) found bad is why =
     (subst (AsksNothing request (shelf.refuses book)) (sym is) why, untouched book shelf)
 
 -- ---- why the books were refused, where the reasons are among others

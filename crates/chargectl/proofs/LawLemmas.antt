@@ -37,6 +37,7 @@ use Rattle.program_output.specs.declared.status.Status.{Status}
 use Rattle.without_books.specs.declared.command_fault.CommandFault.{CommandFault}
 use Rattle.without_books.specs.declared.ended.Ended.{Ended}
 use Rattle.without_books.specs.Faults.{settled_as}
+use Rattle.without_books.specs.Inputs.{Files}
 use Rattle.chargectl.specs.declared.choices.ListAnswered.{ListAnswered}
 use Rattle.chargectl.specs.declared.dated_rulings.DatedAnswer.{DatedAnswer}
 use Rattle.chargectl.specs.declared.answered.Answered.{Answered}
@@ -295,11 +296,12 @@ module _ (history : List Event) (name : List ℕ) (old new : Shelf)
   nothing book = nothing_as (old.refuses book) (Refuses book) (follow book)
 
   -- a command that asks the office, or nothing
-  comes_on : (book : List ℕ) (request : BookRequest) (came : Result Answered CommandFault)
-      → ComesOf request book old new came
+  comes_on : (files : Files) (book : List ℕ) (request : BookRequest)
+      (came : Result Answered CommandFault)
+      → ComesOf files request book old new came
       → Step old.naming history name old new
-      (Where book name (AskedBy old.naming history (Refuses book) request came))
-  comes_on book request (Ok told) comes =
+      (Where book name (AskedBy files old.naming history (Refuses book) request came))
+  comes_on files book request (Ok told) comes =
       step_as (λ made so. (
         λ same. record {
           asked = comes.asked;
@@ -314,20 +316,20 @@ module _ (history : List Event) (name : List ℕ) (old new : Shelf)
       (AsksOnceBy old.naming comes.asked comes.had) (Follows old.naming history comes.asked)
       (asked_on old.naming history name old new answered held book comes.asked comes.had)
       comes.came.told comes.came.done)
-  comes_on book request (Err why) comes =
+  comes_on files book request (Err why) comes =
       step_as (λ made is. (λ _. (nothing book request why comes.0, is), λ _. is))
       (none_on old.naming history name old new answered held book comes.1)
 
-  asks_on : (book : List ℕ) (request : BookRequest) (has holds : Option (List ℕ)) (Failed : Type 0)
-      (ended : Ended) → AsksAndTells request book old new has holds Failed ended
+  asks_on : (files : Files) (book : List ℕ) (request : BookRequest) (has holds : Option (List ℕ))
+      (Failed : Type 0) (ended : Ended) → AsksAndTells files request book old new has holds Failed ended
       → Step old.naming history name old new
       (Where book name
-      (AsksOfHistory old.naming history (Refuses book) request has holds Failed ended))
-  asks_on book request has holds Failed ended it =
+      (AsksOfHistory files old.naming history (Refuses book) request has holds Failed ended))
+  asks_on files book request has holds Failed ended it =
       step_as (λ made so. (
         λ same. record { came = it.answered; asked = so.0 same; tells = it.tells },
         so.1,
-      )) (comes_on book request it.answered it.comes)
+      )) (comes_on files book request it.answered it.comes)
 
   -- a list of choices
   list_comes_on : (book : List ℕ) (came : Result ListAnswered CommandFault)
@@ -476,12 +478,12 @@ module _ (history : List Event) (name : List ℕ) (old new : Shelf)
       step_as (λ made is. (λ _. tt, follow book fault tried.0, is))
       (none_on old.naming history name old new answered held book tried.1)
 
-  tries_on : (book : List ℕ) (ruling : Ruling) (has holds : Option (List ℕ)) (Failed : Type 0)
-      (ended : Ended) → TriesAndTells ruling book old new has holds Failed ended
+  tries_on : (files : Files) (book : List ℕ) (ruling : Ruling) (has holds : Option (List ℕ))
+      (Failed : Type 0) (ended : Ended) → TriesAndTells files ruling book old new has holds Failed ended
       → Step old.naming history name old new
       (Where book name
-      (TriesOfHistory old.naming history (Refuses book) ruling has holds Failed ended))
-  tries_on book ruling has holds Failed ended it =
+      (TriesOfHistory files old.naming history (Refuses book) ruling has holds Failed ended))
+  tries_on files book ruling has holds Failed ended it =
       step_as (λ made so. (
         λ same. record {
           came = it.answered;
@@ -494,10 +496,10 @@ module _ (history : List Event) (name : List ℕ) (old new : Shelf)
       (by_came it.answered it.comes)
     where
       by_came : (came : Result Answered CommandFault)
-          → ComesOfDryRun (asks.Rule ruling) book old new came
+          → ComesOfDryRun files (asks.Rule ruling) book old new came
           → Step old.naming history name old new
           (λ made. (book ≡ name
-          → TriedBy old.naming history (Refuses book) (asks.Rule ruling) came) × (made ≡ []))
+          → TriedBy files old.naming history (Refuses book) (asks.Rule ruling) came) × (made ≡ []))
       by_came (Ok answered) comes =
           step_as (λ made so. (
             λ same. record {
@@ -582,41 +584,41 @@ module _ {S : Type 0} (shelf : S → Shelf) (history : List Event) (name : List 
       ))
       (none_on (shelf before).naming history name (shelf before) (shelf after) answered held book it.1)
 
-  does_on : (book : List ℕ) (request : BookRequest) (has holds : Option (List ℕ)) (Failed : Type 0)
-      (ended : Ended) → Does shelf request book before after has holds Failed ended
+  does_on : (files : Files) (book : List ℕ) (request : BookRequest) (has holds : Option (List ℕ))
+      (Failed : Type 0) (ended : Ended) → Does files shelf request book before after has holds Failed ended
       → Step (shelf before).naming history name (shelf before) (shelf after)
       (Where book name
-      (DoesToHistory (shelf before).naming history (Refuses book) request has holds Failed ended))
-  does_on book asks.Init has holds Failed ended does =
+      (DoesToHistory files (shelf before).naming history (Refuses book) request has holds Failed ended))
+  does_on files book asks.Init has holds Failed ended does =
       still_on history name (shelf before) (shelf after) answered held Refuses follow book book
       does.done.kept
-  does_on book asks.Upgrade has holds Failed ended does =
+  does_on files book asks.Upgrade has holds Failed ended does =
       upgrades_on history name (shelf before) (shelf after) answered held Refuses follow book has holds
       Failed does.came does.does
-  does_on book (asks.Audit quiet) has holds Failed ended does =
+  does_on files book (asks.Audit quiet) has holds Failed ended does =
       audits_on history name (shelf before) (shelf after) answered held Refuses follow book has holds
       Failed does.came does.does
-  does_on book (asks.BackUp copy quiet) has holds Failed ended does =
+  does_on files book (asks.BackUp copy quiet) has holds Failed ended does =
       backs_up_on history name (shelf before) (shelf after) answered held Refuses follow book copy.now
       has holds Failed does.came does.does
-  does_on book (asks.Serve port requests) has holds Failed ended does =
+  does_on files book (asks.Serve port requests) has holds Failed ended does =
       step_as (λ made so. (
         λ same. record { came = does.came; serves = so.0 same; ends = does.ends },
         so.1,
       ))
       (serves_on book requests has holds Failed does.came does.does)
-  does_on book (asks.List asked) has holds Failed ended does =
+  does_on files book (asks.List asked) has holds Failed ended does =
       list_asked history name (shelf before) (shelf after) answered held Refuses follow (list_of asked)
       book has holds Failed ended does
-  does_on book (asks.ChooseListed file) has holds Failed ended does =
+  does_on files book (asks.ChooseListed file) has holds Failed ended does =
       list_on history name (shelf before) (shelf after) answered held Refuses follow book has holds
       Failed ended does
-  does_on book (asks.DryRun ruling) has holds Failed ended does =
-      tries_on history name (shelf before) (shelf after) answered held Refuses follow book ruling has
-      holds Failed ended does
-  does_on book request has holds Failed ended does =
-      asks_on history name (shelf before) (shelf after) answered held Refuses follow book request has
-      holds Failed ended does
+  does_on files book (asks.DryRun ruling) has holds Failed ended does =
+      tries_on history name (shelf before) (shelf after) answered held Refuses follow files book ruling
+      has holds Failed ended does
+  does_on files book request has holds Failed ended does =
+      asks_on history name (shelf before) (shelf after) answered held Refuses follow files book request
+      has holds Failed ended does
 
 -- the place of the books is as it was
 same_place : {S : Type 0} (shelf : S → Shelf) (history : List Event) (name : List ℕ) (old new : S)
@@ -630,41 +632,42 @@ same_place shelf history name old new answered held same = record {
   named = ap (λ place. (shelf place).naming) same;
 }
 
-runs_on : {S : Type 0} (shelf : S → Shelf) (waits : S → ℕ → Type 0) (history : List Event) (name : List ℕ)
-    (old new : S) → IsMadeByCalls (shelf old).naming history → (shelf old).holds name history
+runs_on : {S : Type 0} (files : Files) (shelf : S → Shelf) (waits : S → ℕ → Type 0)
+    (history : List Event) (name : List ℕ) (old new : S)
+    → IsMadeByCalls (shelf old).naming history → (shelf old).holds name history
     → (asked : Result Request ArgumentFault) (had has holds : Option (List ℕ)) (Failed : Type 0)
     (Says : List (List ℕ) → Type 0) (status : Status)
-    → DoesOrRefuses shelf waits old new asked had has holds Failed Says status
+    → DoesOrRefuses files shelf waits old new asked had has holds Failed Says status
     → Step (shelf old).naming history name (shelf old) (shelf new)
-    (RunsOn (shelf old).naming name history (shelf old).refuses asked has holds Failed status)
-runs_on shelf waits history name old new answered held (Ok (request.OfBooks book wait asked)) had has
+    (RunsOn files (shelf old).naming name history (shelf old).refuses asked has holds Failed status)
+runs_on files shelf waits history name old new answered held (Ok (request.OfBooks book wait asked)) had has
     holds Failed Says status done =
     let it = done.1 in
     let same = it.same.naming in
     let calls = subst (λ naming. IsMadeByCalls naming history) (sym same) answered in
     let step = does_on shelf history name it.waiting new calls (it.same.holds name history held)
-    (shelf old).refuses it.same.refuses book.now asked has holds Failed done.0 it.does in
+    (shelf old).refuses it.same.refuses files book.now asked has holds Failed done.0 it.does in
     step_as (λ made so. record { ended = done.0; ends = done.2; here = so.0; elsewhere = so.1 })
     (subst (λ naming. Step naming history name (shelf old) (shelf new)
     (Where book.now name
-    (DoesToHistory naming history ((shelf old).refuses book.now) asked has holds Failed done.0))) same
+    (DoesToHistory files naming history ((shelf old).refuses book.now) asked has holds Failed done.0))) same
     (step_from same step))
-runs_on shelf waits history name old new answered held (Ok (request.Trial layout cpu excp fee)) had has
+runs_on files shelf waits history name old new answered held (Ok (request.Trial layout cpu excp fee)) had has
     holds Failed Says status done =
     same_place shelf history name old new answered held done.1.0
-runs_on shelf waits history name old new answered held (Ok (request.TrialUnder layout file)) had has
+runs_on files shelf waits history name old new answered held (Ok (request.TrialUnder layout file)) had has
     holds Failed Says status done =
     same_place shelf history name old new answered held done.1.0
-runs_on shelf waits history name old new answered held (Ok (request.Unclear why)) had has holds Failed
+runs_on files shelf waits history name old new answered held (Ok (request.Unclear why)) had has holds Failed
     Says status done =
     same_place shelf history name old new answered held done.1.0
-runs_on shelf waits history name old new answered held (Ok (request.Check dump)) had has holds Failed
+runs_on files shelf waits history name old new answered held (Ok (request.Check dump)) had has holds Failed
     Says status done =
     same_place shelf history name old new answered held done.1.0
-runs_on shelf waits history name old new answered held (Ok (request.Explain kind number)) had has
+runs_on files shelf waits history name old new answered held (Ok (request.Explain kind number)) had has
     holds Failed Says status done =
     same_place shelf history name old new answered held done.1.0
-runs_on shelf waits history name old new answered held (Err fault) had has holds Failed Says status
+runs_on files shelf waits history name old new answered held (Err fault) had has holds Failed Says status
     done =
     same_place shelf history name old new answered held done.0
 
@@ -685,9 +688,9 @@ in_turn shelf waits contents may_answer Says naming name start before (command �
     let one = done.0 in
     let Failed : Type 0 = ∥ HasFailed may_answer command.holds ∥₁ in
     let step = subst (λ naming. Step naming start name (shelf before) (shelf command.after)
-    (RunsOn naming name start (shelf before).refuses one.asked (contents command.held)
+    (RunsOn command.files naming name start (shelf before).refuses one.asked (contents command.held)
     (contents command.holds) Failed command.status)) names
-    (runs_on shelf waits start name before command.after
+    (runs_on command.files shelf waits start name before command.after
     (subst (λ naming. IsMadeByCalls naming start) (sym names) answered) held one.asked command.had
     (contents command.held) (contents command.holds) Failed
     (λ lines. Says lines command.quiet command.said) command.status one.done) in

@@ -36,6 +36,7 @@ use Rattle.without_books.specs.declared.command_fault.CommandFault.{CommandFault
 use Rattle.without_books.specs.declared.command_fault.CommandFault.TheVariants as fault
 use Rattle.without_books.specs.declared.ended.Ended.{Ended}
 use Rattle.without_books.specs.Faults.{IsFileFault, settled_as, status_by}
+use Rattle.without_books.specs.Inputs.{Files}
 use Rattle.chargectl.specs.declared.choices.ListAnswered.{ListAnswered}
 use Rattle.chargectl.specs.declared.dated_rulings.DatedAnswer.{DatedAnswer}
 use Rattle.chargectl.specs.declared.answered.Answered.{Answered}
@@ -49,9 +50,10 @@ use Rattle.chargectl.specs.StreamedLists.{WritesSomeOf, list_answer, list_end, l
 use Rattle.chargectl.specs.Serving.{AnswersSome, IsToldOf, service_end}
 
 -- a command: its words, its input, its output and standard error before and after it, its status, and
--- the place of the books after it
+-- the place of the books after it; and what the files that it may read held
 pub record Commanded (S O E : Type 0) : Type 0 where
   pub words : List (String Global)
+  pub files : Files
   pub had : Option (List ℕ)
   pub held : O
   pub holds : O
@@ -70,8 +72,8 @@ abbrev pub AreCommanded : {S O E : Type 0} → (S → Shelf) → (S → ℕ → 
     → Answering O → (List (List ℕ) → E → E → Type 0) → S → List (Commanded S O E) → Type 0
 AreCommanded shelf waits contents may_answer Says before [] = Unit {0}
 AreCommanded shelf waits contents may_answer Says before (command ∷ later) =
-    CommandsBy shelf waits before command.after command.words command.had contents may_answer
-    command.held command.holds Says command.quiet command.said command.status
+    CommandsBy command.files shelf waits before command.after command.words command.had contents
+    may_answer command.held command.holds Says command.quiet command.said command.status
     × AreCommanded shelf waits contents may_answer Says command.after later
 
 -- After a history this was asked and told, and it made these events, the newest first. A refusal made
@@ -100,36 +102,37 @@ OpenedSo {A} Refuses So (Err fault) made = Refuses fault
     × WhereUnopened ((told : A) × So told made) (made ≡ []) fault
 
 -- what the words ask of the books was asked, and so it was told
-pub record AskedOf (naming : Naming) (history : List Event) (Refuses : RepositoryFault → Type 0)
-    (request : BookRequest) (answered : Answered) (made : List Event) : Type 0 where
+pub record AskedOf (files : Files) (naming : Naming) (history : List Event)
+    (Refuses : RepositoryFault → Type 0) (request : BookRequest) (answered : Answered)
+    (made : List Event) : Type 0 where
   pub asked : Asked
-  pub words : IsAskedBy request asked
+  pub words : IsAskedBy files request asked
   pub told : Result (Result Answer LedgerFault) RepositoryFault
   pub follows : OpenedSo Refuses (Follows naming history asked) told made
   pub says : answered.answer ≡ answer_of told
 
 -- or nothing was asked
-abbrev pub AskedBy : Naming → List Event → (RepositoryFault → Type 0) → BookRequest
+abbrev pub AskedBy : Files → Naming → List Event → (RepositoryFault → Type 0) → BookRequest
     → Result Answered CommandFault → List Event → Type 0
-AskedBy naming history Refuses request (Ok answered) made =
-    AskedOf naming history Refuses request answered made
-AskedBy naming history Refuses request (Err why) made =
+AskedBy files naming history Refuses request (Ok answered) made =
+    AskedOf files naming history Refuses request answered made
+AskedBy files naming history Refuses request (Err why) made =
     AsksNothing request Refuses why × (made ≡ [])
 
 -- and that was written
-pub record AsksOfHistory (naming : Naming) (history : List Event)
+pub record AsksOfHistory (files : Files) (naming : Naming) (history : List Event)
     (Refuses : RepositoryFault → Type 0) (request : BookRequest) (held holds : Option (List ℕ))
     (Failed : Type 0) (ended : Ended) (made : List Event) : Type 0 where
   pub came : Result Answered CommandFault
-  pub asked : AskedBy naming history Refuses request came made
+  pub asked : AskedBy files naming history Refuses request came made
   pub tells : Tells came held holds Failed ended
 
 -- What the words ask was tried on the books of a history, and so it was told and noticed: unless a lack of
 -- memory or the store hindered it, that is what the definitions say of the history.
-pub record TriedOn (naming : Naming) (history : List Event) (Refuses : RepositoryFault → Type 0)
-    (request : BookRequest) (answered : Answered) : Type 0 where
+pub record TriedOn (files : Files) (naming : Naming) (history : List Event)
+    (Refuses : RepositoryFault → Type 0) (request : BookRequest) (answered : Answered) : Type 0 where
   pub asked : Asked
-  pub words : IsAskedBy request asked
+  pub words : IsAskedBy files request asked
   pub told : Result DatedAnswer RepositoryFault
   pub follows : IfOk told (λ dated. is_hindered (response_by dated.answer) ≡ false
       → ShowsDry naming asked (book_of history) (response_by dated.answer) dated.notice)
@@ -138,18 +141,18 @@ pub record TriedOn (naming : Naming) (history : List Event) (Refuses : Repositor
   pub notice : answered.notice ≡ notice_of told
 
 -- or nothing was tried
-abbrev pub TriedBy : Naming → List Event → (RepositoryFault → Type 0) → BookRequest
+abbrev pub TriedBy : Files → Naming → List Event → (RepositoryFault → Type 0) → BookRequest
     → Result Answered CommandFault → Type 0
-TriedBy naming history Refuses request (Ok answered) =
-    TriedOn naming history Refuses request answered
-TriedBy naming history Refuses request (Err why) = AsksNothing request Refuses why
+TriedBy files naming history Refuses request (Ok answered) =
+    TriedOn files naming history Refuses request answered
+TriedBy files naming history Refuses request (Err why) = AsksNothing request Refuses why
 
 -- that was written, and no event was made
-pub record TriesOfHistory (naming : Naming) (history : List Event)
+pub record TriesOfHistory (files : Files) (naming : Naming) (history : List Event)
     (Refuses : RepositoryFault → Type 0) (ruling : Ruling) (held holds : Option (List ℕ))
     (Failed : Type 0) (ended : Ended) (made : List Event) : Type 0 where
   pub came : Result Answered CommandFault
-  pub tried : TriedBy naming history Refuses (book.Rule ruling) came
+  pub tried : TriedBy files naming history Refuses (book.Rule ruling) came
   pub tells : Tells came held holds Failed ended
   pub none : made ≡ []
 
@@ -297,41 +300,41 @@ ListsAskedOfHistory None naming history Refuses held holds ended made =
 
 -- what each command on books does to the history that they hold, where the place refuses them for
 -- such reasons
-abbrev pub DoesToHistory : Naming → List Event → (RepositoryFault → Type 0) → BookRequest
+abbrev pub DoesToHistory : Files → Naming → List Event → (RepositoryFault → Type 0) → BookRequest
     → Option (List ℕ) → Option (List ℕ) → Type 0 → Ended → List Event → Type 0
-DoesToHistory naming history Refuses book.Init held holds Failed ended made = made ≡ []
-DoesToHistory naming history Refuses book.Upgrade held holds Failed ended made = made ≡ []
-DoesToHistory naming history Refuses (book.Audit quiet) held holds Failed ended made = made ≡ []
-DoesToHistory naming history Refuses (book.BackUp copy quiet) held holds Failed ended made = made ≡ []
-DoesToHistory naming history Refuses (book.Serve port requests) held holds Failed ended made =
+DoesToHistory files naming history Refuses book.Init held holds Failed ended made = made ≡ []
+DoesToHistory files naming history Refuses book.Upgrade held holds Failed ended made = made ≡ []
+DoesToHistory files naming history Refuses (book.Audit quiet) held holds Failed ended made = made ≡ []
+DoesToHistory files naming history Refuses (book.BackUp copy quiet) held holds Failed ended made = made ≡ []
+DoesToHistory files naming history Refuses (book.Serve port requests) held holds Failed ended made =
     ServesOfHistory naming history Refuses requests held holds Failed ended made
-DoesToHistory naming history Refuses (book.List asked) held holds Failed ended made =
+DoesToHistory files naming history Refuses (book.List asked) held holds Failed ended made =
     ListsAskedOfHistory (list_of asked) naming history Refuses held holds ended made
-DoesToHistory naming history Refuses (book.ChooseListed file) held holds Failed ended made =
+DoesToHistory files naming history Refuses (book.ChooseListed file) held holds Failed ended made =
     ListOfHistory naming history Refuses held holds Failed ended made
-DoesToHistory naming history Refuses (book.DryRun ruling) held holds Failed ended made =
-    TriesOfHistory naming history Refuses ruling held holds Failed ended made
-DoesToHistory naming history Refuses asked held holds Failed ended made =
-    AsksOfHistory naming history Refuses asked held holds Failed ended made
+DoesToHistory files naming history Refuses (book.DryRun ruling) held holds Failed ended made =
+    TriesOfHistory files naming history Refuses ruling held holds Failed ended made
+DoesToHistory files naming history Refuses asked held holds Failed ended made =
+    AsksOfHistory files naming history Refuses asked held holds Failed ended made
 
 -- it does so to the books that its words name, and nothing to others
-pub record OnBooks (naming : Naming) (name book : List ℕ) (history : List Event)
+pub record OnBooks (files : Files) (naming : Naming) (name book : List ℕ) (history : List Event)
     (Refuses : RepositoryFault → Type 0) (request : BookRequest) (held holds : Option (List ℕ))
     (Failed : Type 0) (status : Status) (made : List Event) : Type 0 where
   pub ended : Ended
   pub ends : status ≡ status_by ended
   pub here : book ≡ name
-      → DoesToHistory naming history Refuses request held holds Failed ended made
+      → DoesToHistory files naming history Refuses request held holds Failed ended made
   pub elsewhere : book ≢ name → made ≡ []
 
 -- so with all requests: only those on books do anything to them
-abbrev pub RunsOn : Naming → List ℕ → List Event → (List ℕ → RepositoryFault → Type 0)
+abbrev pub RunsOn : Files → Naming → List ℕ → List Event → (List ℕ → RepositoryFault → Type 0)
     → Result Request ArgumentFault → Option (List ℕ) → Option (List ℕ) → Type 0 → Status
     → List Event → Type 0
-RunsOn naming name history Refuses (Ok (request.OfBooks book wait asked)) held holds Failed status
+RunsOn files naming name history Refuses (Ok (request.OfBooks book wait asked)) held holds Failed status
     made =
-    OnBooks naming name book.now history (Refuses book.now) asked held holds Failed status made
-RunsOn naming name history Refuses asked held holds Failed status made = made ≡ []
+    OnBooks files naming name book.now history (Refuses book.now) asked held holds Failed status made
+RunsOn files naming name history Refuses asked held holds Failed status made = made ≡ []
 
 -- What a command did to the books of a name, which held this history, by its words, at a place that
 -- refuses books for such reasons; calls made all of what they hold now.
@@ -341,7 +344,7 @@ pub record DoneAfter {S O E : Type 0} (contents : O → Option (List ℕ)) (may_
     : Type 0 where
   pub asked : Result Request ArgumentFault
   pub read : AreReadAs program_name most_rate (as_texts command.words) asked
-  pub runs : RunsOn naming name history Refuses asked (contents command.held)
+  pub runs : RunsOn command.files naming name history Refuses asked (contents command.held)
       (contents command.holds) (∥ HasFailed may_answer command.holds ∥₁) command.status made
   pub answered : IsMadeByCalls naming (made ++ history)
 

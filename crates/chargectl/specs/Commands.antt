@@ -1,6 +1,6 @@
 -- What each command on books asks of the office, what is written, and how it ends.
-use Rattle.std.specs.Prelude.{◌≡◌, ◌⊎◌, ⊤, Bool, true, false, ℕ, List, [], Option, Some, None, Result}
-use Rattle.std.specs.Prelude.{Ok, Err}
+use Rattle.std.specs.Prelude.{◌≡◌, ◌⊎◌, Bool, true, false, ℕ, List, [], Option, Some, None, Result}
+use Rattle.std.specs.Prelude.{Ok, Err, IfSome, string_bytes}
 use Rattle.std.specs.Borrow.{Bor}
 use Rattle.std.specs.Option.{option_map}
 use Rattle.smf_text.specs.Day.{day_of_text_of}
@@ -39,6 +39,7 @@ use Rattle.without_books.specs.declared.notice.Notice.{Notice}
 pub use Rattle.without_books.specs.Faults.{IsFileFault, IsPrinted, IsTextFault}
 use Rattle.without_books.specs.Faults.{end_of, shelf_fault, without_log}
 use Rattle.without_books.specs.FirstBytes.{IsLookedAt, layout_notice}
+use Rattle.without_books.specs.Inputs.{Files}
 use Rattle.chargectl.specs.declared.dated_rulings.DatedAnswer.{DatedAnswer}
 use Rattle.chargectl.specs.declared.answered.Answered.{Answered}
 use Rattle.chargectl.specs.Far.{far_notice}
@@ -67,18 +68,19 @@ what_if_for form period centre = record { form = form; period = period; centre =
 abbrev pub what_if_of : StatementForm → PeriodWords → Option WhatIf
 what_if_of form period = option_map (what_if_for form period.number) (asked_centre period.centre)
 
--- The table: what a command asks of the office. The text of a tariff is what its file gave.
-abbrev pub IsAskedBy : BookRequest → Asked → Type 0
-IsAskedBy (book.Import dump) (asks.Import layout) = layout ≡ dump.layout
-IsAskedBy (book.Rule (ruling.Tariff file)) (asks.Tariff text) = ⊤
-IsAskedBy (book.Rule (ruling.Close period date)) (asks.Close number through) =
+-- The table: what a command asks of the office. The text of a tariff is what the file of that name holds.
+abbrev pub IsAskedBy : Files → BookRequest → Asked → Type 0
+IsAskedBy files (book.Import dump) (asks.Import layout) = layout ≡ dump.layout
+IsAskedBy files (book.Rule (ruling.Tariff file)) (asks.Tariff text) =
+    IfSome (files file.now) (λ held. string_bytes text ≡ held)
+IsAskedBy files (book.Rule (ruling.Close period date)) (asks.Close number through) =
     (number ≡ period) × (day_of_text_of date.now ≡ Some through)
-IsAskedBy (book.Rule (ruling.Choose name)) (asks.Choose chosen) = name_in name.now ≡ Some chosen
-IsAskedBy (book.Rule ruling.Adopt) (asks.Adopt rule) = rule ≡ 2
-IsAskedBy (book.Report said) (asks.Report printed) = report_of said ≡ Some printed
-IsAskedBy (book.WhatIf form period file) (asks.WhatIf report text) =
-    what_if_of form period ≡ Some report
-IsAskedBy request asked = ⊥
+IsAskedBy files (book.Rule (ruling.Choose name)) (asks.Choose chosen) = name_in name.now ≡ Some chosen
+IsAskedBy files (book.Rule ruling.Adopt) (asks.Adopt rule) = rule ≡ 2
+IsAskedBy files (book.Report said) (asks.Report printed) = report_of said ≡ Some printed
+IsAskedBy files (book.WhatIf form period file) (asks.WhatIf report text) =
+    (what_if_of form period ≡ Some report) × IfSome (files file.now) (λ held. string_bytes text ≡ held)
+IsAskedBy files request asked = ⊥
 
 -- it may change the books: a report may not, by whatever prices it is
 abbrev pub may_change : Asked → Bool
@@ -220,18 +222,19 @@ is_dated (ruling.Choose digest) = false
 is_dated ruling.Adopt = false
 
 -- A command asked what its words ask. No contract says what the file of a dump had.
-pub record Asking (request : BookRequest) (book : List ℕ) (old new : Shelf) (answered : Answered)
-    : Type 0 where
+pub record Asking (files : Files) (request : BookRequest) (book : List ℕ) (old new : Shelf)
+    (answered : Answered) : Type 0 where
   pub asked : Asked
-  pub words : IsAskedBy request asked
+  pub words : IsAskedBy files request asked
   pub had : Option (List ℕ)
   pub came : IsAnswered asked had book old new answered
   pub notice : IsNoticedBy request asked book old new answered
 
 -- What came of a command: the office was asked just what its words ask, once; or nothing was asked.
-abbrev pub ComesOf : BookRequest → List ℕ → Shelf → Shelf → Result Answered CommandFault → Type 0
-ComesOf request book old new (Ok answered) = Asking request book old new answered
-ComesOf request book old new (Err why) =
+abbrev pub ComesOf : Files → BookRequest → List ℕ → Shelf → Shelf → Result Answered CommandFault
+    → Type 0
+ComesOf files request book old new (Ok answered) = Asking files request book old new answered
+ComesOf files request book old new (Err why) =
     AsksNothing request (old.refuses book) why × IsUntouched book old new
 
 -- the first fault
@@ -268,8 +271,8 @@ Tells (Ok answered) held holds Failed ended = TellsAnswered answered held holds 
 Tells (Err why) held holds Failed ended = (holds ≡ held) × (ended ≡ without_log (Err why))
 
 -- A command that asks the office: what came of it, and what was told of that.
-pub record AsksAndTells (request : BookRequest) (book : List ℕ) (old new : Shelf)
+pub record AsksAndTells (files : Files) (request : BookRequest) (book : List ℕ) (old new : Shelf)
     (held holds : Option (List ℕ)) (Failed : Type 0) (ended : Ended) : Type 0 where
   pub answered : Result Answered CommandFault
-  pub comes : ComesOf request book old new answered
+  pub comes : ComesOf files request book old new answered
   pub tells : Tells answered held holds Failed ended

@@ -33,16 +33,17 @@ use Rattle.command_line.specs.declared.request.Ruling.{Ruling}
 use Rattle.without_books.specs.declared.command_fault.CommandFault.{CommandFault}
 use Rattle.without_books.specs.declared.ended.Ended.{Ended}
 use Rattle.without_books.specs.declared.notice.Notice.{Notice}
+use Rattle.without_books.specs.Inputs.{Files}
 use Rattle.chargectl.specs.declared.dated_rulings.DatedAnswer.{DatedAnswer}
 use Rattle.chargectl.specs.declared.answered.Answered.{Answered}
 use Rattle.chargectl.specs.Commands.{AsksNothing, IsAskedBy, Tells, answer_of, answer_told, notice_of}
 use Rattle.chargectl.specs.Far.{far_notice, notice_by}
 
 -- what the office is asked for a ruling is just what its words ask, or there was a fault before
-abbrev pub IsAskedFor : BookRequest → (RepositoryFault → Type 0) → Result Asked CommandFault
+abbrev pub IsAskedFor : Files → BookRequest → (RepositoryFault → Type 0) → Result Asked CommandFault
     → Type 0
-IsAskedFor request Refuses (Ok asked) = IsAskedBy request asked × IsAskableRuling asked
-IsAskedFor request Refuses (Err why) = AsksNothing request Refuses why
+IsAskedFor files request Refuses (Ok asked) = IsAskedBy files request asked × IsAskableRuling asked
+IsAskedFor files request Refuses (Err why) = AsksNothing request Refuses why
 
 -- A ruling, as its dry run names it: a tariff by its first day.
 abbrev pub IsNamedBy : Asked → TriedRuling → Type 0
@@ -160,22 +161,23 @@ pub record IsTriedOnce (asked : Asked) (book : List ℕ) (old new : Shelf) (answ
     pub change : answered.is_change ≡ false
 
 -- a command tried what its words ask
-pub record Trying (request : BookRequest) (book : List ℕ) (old new : Shelf) (answered : Answered)
-    : Type 0 where
+pub record Trying (files : Files) (request : BookRequest) (book : List ℕ) (old new : Shelf)
+    (answered : Answered) : Type 0 where
   pub asked : Asked
-  pub words : IsAskedBy request asked
+  pub words : IsAskedBy files request asked
   pub came : IsTriedOnce asked book old new answered
 
 -- What came of a dry run: just what the words ask was tried, once; or there was a fault before, which
 -- the command without a dry run would have found.
-abbrev pub ComesOfDryRun : BookRequest → List ℕ → Shelf → Shelf → Result Answered CommandFault → Type 0
-ComesOfDryRun request book old new (Ok answered) = Trying request book old new answered
-ComesOfDryRun request book old new (Err why) =
+abbrev pub ComesOfDryRun : Files → BookRequest → List ℕ → Shelf → Shelf → Result Answered CommandFault
+    → Type 0
+ComesOfDryRun files request book old new (Ok answered) = Trying files request book old new answered
+ComesOfDryRun files request book old new (Err why) =
     AsksNothing request (old.refuses book) why × IsUntouched book old new
 
 -- A dry run of a ruling: what came of it, and what was told of that.
-pub record TriesAndTells (ruling : Ruling) (book : List ℕ) (old new : Shelf)
+pub record TriesAndTells (files : Files) (ruling : Ruling) (book : List ℕ) (old new : Shelf)
     (held holds : Option (List ℕ)) (Failed : Type 0) (ended : Ended) : Type 0 where
   pub answered : Result Answered CommandFault
-  pub comes : ComesOfDryRun (to_books.Rule ruling) book old new answered
+  pub comes : ComesOfDryRun files (to_books.Rule ruling) book old new answered
   pub tells : Tells answered held holds Failed ended

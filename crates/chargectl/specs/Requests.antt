@@ -24,6 +24,7 @@ use Rattle.without_books.specs.declared.command_fault.CommandFault.TheVariants a
 use Rattle.without_books.specs.declared.ended.Ended.{Ended}
 use Rattle.without_books.specs.Faults.{IsFileFault, IsPrinted, came_lines, came_status, error_lines}
 use Rattle.without_books.specs.Faults.{settled_as, shelf_end, status_by, without_log}
+use Rattle.without_books.specs.Inputs.{Files}
 use Rattle.without_books.specs.Reading.{Checks, TellsOf, TriesAt, TriesUnder, kind_of}
 use Rattle.without_books.specs.ServedLines.{Gains, unfailed}
 use Rattle.chargectl.specs.Audits.{AuditsBooks, BacksUp}
@@ -90,26 +91,26 @@ pub record SettlesBy (Does : Result Ended CommandFault → Type 0) (ended : Ende
   pub ends : ended ≡ settled_as came
 
 -- Each command on books.
-abbrev pub Does : {S : Type 0} → (S → Shelf) → BookRequest → List ℕ → S → S → Option (List ℕ)
+abbrev pub Does : {S : Type 0} → Files → (S → Shelf) → BookRequest → List ℕ → S → S → Option (List ℕ)
     → Option (List ℕ) → Type 0 → Ended → Type 0
-Does shelf book.Init name old new held holds Failed ended =
+Does files shelf book.Init name old new held holds Failed ended =
     Makes name (shelf old) (shelf new) held holds ended
-Does shelf book.Upgrade name old new held holds Failed ended =
+Does files shelf book.Upgrade name old new held holds Failed ended =
     SettlesBy (UpgradesBy name (shelf old) (shelf new) held holds Failed) ended
-Does shelf (book.Audit quiet) name old new held holds Failed ended =
+Does files shelf (book.Audit quiet) name old new held holds Failed ended =
     SettlesBy (AuditsBooks name (shelf old) (shelf new) held holds Failed) ended
-Does shelf (book.BackUp copy quiet) name old new held holds Failed ended =
+Does files shelf (book.BackUp copy quiet) name old new held holds Failed ended =
     SettlesBy (BacksUp name copy.now (shelf old) (shelf new) held holds Failed) ended
-Does shelf (book.Serve port requests) name old new held holds Failed ended =
+Does files shelf (book.Serve port requests) name old new held holds Failed ended =
     SettlesBy (ServesBy shelf requests name old new held holds Failed) ended
-Does shelf (book.List asked) name old new held holds Failed ended =
+Does files shelf (book.List asked) name old new held holds Failed ended =
     SettlesBy (ListsAsked (list_of asked) name (shelf old) (shelf new) held holds Failed) ended
-Does shelf (book.ChooseListed file) name old new held holds Failed ended =
+Does files shelf (book.ChooseListed file) name old new held holds Failed ended =
     ChoosesListed name (shelf old) (shelf new) held holds Failed ended
-Does shelf (book.DryRun ruling) name old new held holds Failed ended =
-    TriesAndTells ruling name (shelf old) (shelf new) held holds Failed ended
-Does shelf asked name old new held holds Failed ended =
-    AsksAndTells asked name (shelf old) (shelf new) held holds Failed ended
+Does files shelf (book.DryRun ruling) name old new held holds Failed ended =
+    TriesAndTells files ruling name (shelf old) (shelf new) held holds Failed ended
+Does files shelf asked name old new held holds Failed ended =
+    AsksAndTells files asked name (shelf old) (shelf new) held holds Failed ended
 
 -- a command that opens no books and reads no dump
 pub record EndsAt (Does : Result (Unit {0}) CommandFault → Type 0) (ended : Ended) : Type 0 where
@@ -128,28 +129,28 @@ wait_for asked wait = wait
 
 -- It was set that openings wait for so many seconds, and nothing else was new; and then a command was
 -- done on the books of a name. What does it knows its place by traits that cannot set this again.
-pub record WaitsAndDoes {S : Type 0} (shelf : S → Shelf) (waits : S → ℕ → Type 0) (old new : S)
-    (seconds : ℕ) (asked : BookRequest) (name : List ℕ) (held holds : Option (List ℕ))
+pub record WaitsAndDoes {S : Type 0} (files : Files) (shelf : S → Shelf) (waits : S → ℕ → Type 0)
+    (old new : S) (seconds : ℕ) (asked : BookRequest) (name : List ℕ) (held holds : Option (List ℕ))
     (Failed : Type 0) (ended : Ended) : Type 0 where
   pub waiting : S
   pub set : waits waiting seconds
   pub same : IsSameShelf (shelf old) (shelf waiting)
-  pub does : Does shelf asked name waiting new held holds Failed ended
+  pub does : Does files shelf asked name waiting new held holds Failed ended
 
 -- The table of the commands.
-abbrev pub Runs : {S : Type 0} → (S → Shelf) → (S → ℕ → Type 0) → S → S → Request
+abbrev pub Runs : {S : Type 0} → Files → (S → Shelf) → (S → ℕ → Type 0) → S → S → Request
     → Option (List ℕ) → Option (List ℕ) → Option (List ℕ) → Type 0 → Ended → Type 0
-Runs shelf waits old new (request.Trial layout cpu excp fee) had held holds Failed ended =
+Runs files shelf waits old new (request.Trial layout cpu excp fee) had held holds Failed ended =
     (new ≡ old) × TriesAt layout cpu excp fee had held holds Failed ended
-Runs shelf waits old new (request.TrialUnder layout file) had held holds Failed ended =
+Runs files shelf waits old new (request.TrialUnder layout file) had held holds Failed ended =
     (new ≡ old) × TriesUnder layout had held holds Failed ended
-Runs shelf waits old new (request.Check dump) had held holds Failed ended =
+Runs files shelf waits old new (request.Check dump) had held holds Failed ended =
     (new ≡ old) × Checks dump.layout held holds Failed ended
-Runs shelf waits old new (request.Explain kind number) had held holds Failed ended =
+Runs files shelf waits old new (request.Explain kind number) had held holds Failed ended =
     (new ≡ old) × EndsAt (TellsOf (kind_of kind) number held holds Failed) ended
-Runs shelf waits old new (request.OfBooks name wait asked) had held holds Failed ended =
-    WaitsAndDoes shelf waits old new (wait_for asked wait) asked name.now held holds Failed ended
-Runs shelf waits old new (request.Unclear why) had held holds Failed ended =
+Runs files shelf waits old new (request.OfBooks name wait asked) had held holds Failed ended =
+    WaitsAndDoes files shelf waits old new (wait_for asked wait) asked name.now held holds Failed ended
+Runs files shelf waits old new (request.Unclear why) had held holds Failed ended =
     (new ≡ old) × (holds ≡ held) × (ended ≡ without_log (Err (fault.Unclear why)))
 
 -- help was written, or a prefix of it where the output failed, which is said as of any command
@@ -172,13 +173,13 @@ IsRefusedFor (words.Help text) held holds Failed Says ended =
     Helps (string_bytes text) held holds Failed Says ended
 
 -- What was asked was done; or nothing was asked.
-abbrev pub DoesOrRefuses : {S : Type 0} → (S → Shelf) → (S → ℕ → Type 0) → S → S
+abbrev pub DoesOrRefuses : {S : Type 0} → Files → (S → Shelf) → (S → ℕ → Type 0) → S → S
     → Result Request ArgumentFault → Option (List ℕ) → Option (List ℕ) → Option (List ℕ) → Type 0
     → (List (List ℕ) → Type 0) → Status → Type 0
-DoesOrRefuses shelf waits old new (Ok request) had held holds Failed Says status =
-    (ended : Ended) × Runs shelf waits old new request had held holds Failed ended
+DoesOrRefuses files shelf waits old new (Ok request) had held holds Failed Says status =
+    (ended : Ended) × Runs files shelf waits old new request had held holds Failed ended
     × (status ≡ status_by ended) × Says (error_lines ended)
-DoesOrRefuses shelf waits old new (Err fault) had held holds Failed Says status =
+DoesOrRefuses files shelf waits old new (Err fault) had held holds Failed Says status =
     (new ≡ old) × IsRefusedFor fault held holds Failed Says status
 
 -- what a write of some bytes to an output may answer, and which output it leaves then
@@ -187,11 +188,11 @@ Answering O = O → List ℕ → Result ℕ Error → O → Type 0
 
 -- The program: its words ask for something by the table of the commands, and that was done. These
 -- lines, and no others, were said on standard error; that the output failed is told only where it has.
-pub record CommandsBy {S O E : Type 0} (shelf : S → Shelf) (waits : S → ℕ → Type 0) (old new : S)
-    (words : List (String Global)) (had : Option (List ℕ)) (contents : O → Option (List ℕ))
-    (may_answer : Answering O) (held holds : O) (Says : List (List ℕ) → E → E → Type 0)
-    (quiet said : E) (status : Status) : Type 0 where
+pub record CommandsBy {S O E : Type 0} (files : Files) (shelf : S → Shelf) (waits : S → ℕ → Type 0)
+    (old new : S) (words : List (String Global)) (had : Option (List ℕ))
+    (contents : O → Option (List ℕ)) (may_answer : Answering O) (held holds : O)
+    (Says : List (List ℕ) → E → E → Type 0) (quiet said : E) (status : Status) : Type 0 where
   pub asked : Result Request ArgumentFault
   pub read : AreReadAs program_name most_rate (as_texts words) asked
-  pub done : DoesOrRefuses shelf waits old new asked had (contents held) (contents holds)
+  pub done : DoesOrRefuses files shelf waits old new asked had (contents held) (contents holds)
       (∥ HasFailed may_answer holds ∥₁) (λ lines. Says lines quiet said) status

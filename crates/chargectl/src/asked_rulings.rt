@@ -1,6 +1,7 @@
 //! What the office is asked for a ruling. Faults are found in this order: a date or a name, the
 //! books, the file.
 
+ghost use Rattle.without_books.specs.Inputs.{Files};
 ghost use Rattle.chargectl.specs.DryRuns.{IsAskedFor};
 
 use command_line::{BookRequest, Ruling};
@@ -8,23 +9,25 @@ use named_books::Repository;
 use office::Asked;
 use program_output::name_of_text;
 use smf_text::day_of_text;
-use without_books::{CommandFault, tariff_text};
+use std::alloc::Global;
+use without_books::{CommandFault, Inputs, tariff_text};
 
 /// The rule of identity that can be adopted: books begin under the other one.
 const LATER_RULE: u8 = 2;
 
 /// What is asked for a ruling on the books of a name.
-pub(crate) fn asked_ruling<S: Repository>(
-    rt: &HostRuntime,
+pub(crate) fn asked_ruling<S: Repository, F: Inputs>(
+    alloc: Global,
     repository: &S,
+    inputs: &F,
     book: &str,
     ruling: Ruling<'_>,
 ) -> Result<Asked, CommandFault>
-    ensures { IsAskedFor (BookRequest.Rule ruling.entry)
+    ensures { IsAskedFor (F.held inputs.now) (BookRequest.Rule ruling.entry)
         ((S.shelf repository.now).refuses book.now) result }
 {
     match ruling {
-        Ruling::Tariff { file } => asked_tariff(rt, repository, book, file),
+        Ruling::Tariff { file } => asked_tariff(alloc, repository, inputs, book, file),
         Ruling::Close { period, date } => asked_close(repository, book, period, date),
         Ruling::Choose { name } => asked_choice(repository, book, name),
         Ruling::Adopt => asked_adoption(repository, book),
@@ -32,17 +35,18 @@ pub(crate) fn asked_ruling<S: Repository>(
 }
 
 /// What is asked for a tariff, by its file.
-fn asked_tariff<S: Repository>(
-    rt: &HostRuntime,
+fn asked_tariff<S: Repository, F: Inputs>(
+    alloc: Global,
     repository: &S,
+    inputs: &F,
     book: &str,
     file: &str,
 ) -> Result<Asked, CommandFault>
-    ensures { IsAskedFor (BookRequest.Rule (Ruling.Tariff file.entry))
+    ensures { IsAskedFor (F.held inputs.now) (BookRequest.Rule (Ruling.Tariff file.entry))
         ((S.shelf repository.now).refuses book.now) result }
 {
     repository.expect(book)?;
-    let text = tariff_text(rt, file)?;
+    let text = tariff_text(alloc, inputs, file)?;
     Ok(Asked::Tariff(text))
 }
 
@@ -53,7 +57,7 @@ fn asked_close<S: Repository>(
     period: u16,
     date: &str,
 ) -> Result<Asked, CommandFault>
-    ensures { IsAskedFor (BookRequest.Rule (Ruling.Close period date.entry))
+    ensures { (files : Files) → IsAskedFor files (BookRequest.Rule (Ruling.Close period date.entry))
         ((S.shelf repository.now).refuses book.now) result }
 {
     let through = match day_of_text(date) {
@@ -70,7 +74,7 @@ fn asked_choice<S: Repository>(
     book: &str,
     name: &str,
 ) -> Result<Asked, CommandFault>
-    ensures { IsAskedFor (BookRequest.Rule (Ruling.Choose name.entry))
+    ensures { (files : Files) → IsAskedFor files (BookRequest.Rule (Ruling.Choose name.entry))
         ((S.shelf repository.now).refuses book.now) result }
 {
     let chosen = match name_of_text(name) {
@@ -83,7 +87,7 @@ fn asked_choice<S: Repository>(
 
 /// What is asked for the adoption of the later rule of identity.
 fn asked_adoption<S: Repository>(repository: &S, book: &str) -> Result<Asked, CommandFault>
-    ensures { IsAskedFor (BookRequest.Rule Ruling.Adopt)
+    ensures { (files : Files) → IsAskedFor files (BookRequest.Rule Ruling.Adopt)
         ((S.shelf repository.now).refuses book.now) result }
 {
     repository.expect(book)?;

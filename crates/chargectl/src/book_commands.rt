@@ -9,6 +9,7 @@ ghost use Rattle.office.specs.Answers.{answer_text};
 ghost use Rattle.office.specs.Requests.{IsAskableUnread, response_by, response_of};
 ghost use Rattle.office.proofs.AskLemmas.{askable_once};
 ghost use Rattle.without_books.specs.FirstBytes.{left_of};
+ghost use Rattle.without_books.specs.Inputs.{Files};
 ghost use Rattle.chargectl.specs.Commands as spec;
 ghost use Rattle.chargectl.specs.Commands.{AsksOnce, once_answered, ComesOf, IsAnswered, IsPrinted};
 ghost use Rattle.chargectl.specs.Commands.{IsTold, Tells, answer_of};
@@ -26,8 +27,8 @@ use std::io;
 use std::io::{IsTerminal, Read};
 use streams::Writer;
 use without_books::{
-    CommandFault, Ended, LookedAt, Notice, WatchedReader, clear_line, end_of, layout_notice,
-    let_out, look_at,
+    CommandFault, Ended, Inputs, LookedAt, Notice, WatchedReader, clear_line, end_of,
+    layout_notice, let_out, look_at,
 };
 
 /// A request to the office, with the reader of its dump.
@@ -215,16 +216,17 @@ fn is_dated(ruling: Ruling<'_>) -> bool
 
 /// Makes a ruling on the books of a name.
 #[tactic(auto, using(crate::proofs::FarLemmas::ruling_unread))]
-pub(crate) fn rule<S: Repository>(
+pub(crate) fn rule<S: Repository, F: Inputs>(
     rt: &HostRuntime,
     repository: &mut S,
+    inputs: &F,
     book: &str,
     ruling: Ruling<'_>,
 ) -> Result<Answered, CommandFault>
-    ensures { ComesOf (BookRequest.Rule ruling.entry) book.now
+    ensures { ComesOf (F.held inputs.now) (BookRequest.Rule ruling.entry) book.now
         (S.shelf repository.old) (S.shelf repository.new) result }
 {
-    let asked = asked_ruling(rt, repository, book, ruling)?;
+    let asked = asked_ruling(rt.alloc(), &*repository, inputs, book, ruling)?;
     if is_dated(ruling) {
         Ok(rule_on_day(rt.alloc(), repository, book, asked))
     } else {
@@ -239,7 +241,7 @@ pub(crate) fn import_dump<S: Repository>(
     book: &str,
     dump: DumpFile<'_>,
 ) -> Result<Answered, CommandFault>
-    ensures { ComesOf (BookRequest.Import dump.entry) book.now
+    ensures { (files : Files) → ComesOf files (BookRequest.Import dump.entry) book.now
         (S.shelf repository.old) (S.shelf repository.new) result }
 {
     repository.expect(book)?;

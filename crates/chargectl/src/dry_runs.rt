@@ -21,7 +21,7 @@ use named_books::{Opened, Repository, Visit};
 use office::{Answer, Asked, ask_without_reader};
 use report_texts::{Figures, TriedRuling, dry_run_text};
 use std::alloc::Global;
-use without_books::{CommandFault, Notice};
+use without_books::{CommandFault, Inputs, Notice};
 
 /// A ruling that is to be tried.
 #[derive(Drop)]
@@ -65,16 +65,17 @@ fn dated(shown: Result<(Vec<u8>, Option<Notice>), LedgerFault>) -> DatedAnswer
 
 /// Shows what a ruling would change. Faults are found in the order in which the ruling itself finds
 /// them.
-pub(crate) fn dry_run<S: Repository>(
+pub(crate) fn dry_run<S: Repository, F: Inputs>(
     rt: &HostRuntime,
     repository: &mut S,
+    inputs: &F,
     book: &str,
     ruling: Ruling<'_>,
 ) -> Result<Answered, CommandFault>
-    ensures { ComesOfDryRun (BookRequest.Rule ruling.entry) book.now
+    ensures { ComesOfDryRun (F.held inputs.now) (BookRequest.Rule ruling.entry) book.now
         (S.shelf repository.old) (S.shelf repository.new) result }
 {
-    let asked = asked_ruling(rt, repository, book, ruling)?;
+    let asked = asked_ruling(rt.alloc(), &*repository, inputs, book, ruling)?;
     Ok(try_books(rt.alloc(), repository, book, asked))
 }
 

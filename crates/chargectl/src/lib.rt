@@ -26,4 +26,4 @@ pub use port::{Connections, Peer, answer_peer};
 pub use program::command;
 pub use program_output::{Status, arguments_failed, check_list, trial};
 pub use serve::serve_each;
-pub use without_books::ServedLines;
+pub use without_books::{HostInputs, Inputs, ServedLines};

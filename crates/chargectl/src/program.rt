@@ -23,19 +23,20 @@ use std::io::Read;
 use streams::Writer;
 use tariff_rules::{MAX_RATE, Tariff};
 use without_books::{
-    CommandFault, Ended, Said, check, explain, help, print_text, run_trial, run_trial_under,
-    say_fault, settled,
+    CommandFault, Ended, Inputs, Said, check, explain, help, print_text, run_trial,
+    run_trial_under, say_fault, settled,
 };
 
 /// For how many seconds a client of a service is kept waiting for books that others have in use.
 const SERVICE_WAIT: u16 = 2;
 
 /// Does what the words ask for, the first of which is the program's name. Books are kept at a
-/// place. Why it was not done is said on standard error; where that is a terminal, a person is told
-/// more.
-pub fn command<S, I: Read + Drop, O: Writer + Drop, E: Writer>(
+/// place, and the files that words name are read from others. Why it was not done is said on
+/// standard error; where that is a terminal, a person is told more.
+pub fn command<S, F: Inputs, I: Read + Drop, O: Writer + Drop, E: Writer>(
     rt: &HostRuntime,
-    repository: &mut S,
+    place: &mut S,
+    files: &F,
     words: &[String],
     input: I,
     output: O,
@@ -43,13 +44,13 @@ pub fn command<S, I: Read + Drop, O: Writer + Drop, E: Writer>(
 ) -> (Status, O)
 where
     S: AuditedRepository + WaitingRepository,
-    ensures { CommandsBy S.shelf S.waits repository.old repository.new words.now
+    ensures { CommandsBy (F.held files.now) S.shelf S.waits place.old place.new words.now
         (I.remaining input) O.contents O.may_answer output result.1
         (AreSaid E.contents E.may_answer) errors.old errors.new result.0 }
 {
     match requested_by(rt.alloc(), PROGRAM, words, MAX_RATE as u32) {
         Ok(request) => {
-            let (ended, output) = run(rt, repository, request, input, output);
+            let (ended, output) = run(rt, place, files, request, input, output);
             let said = Said::by(&ended);
             let status = ended.write_to(errors);
             help(rt, request, said);
@@ -60,15 +61,19 @@ where
 }
 
 /// Does what is asked. Here alone it is set for how long openings wait.
-fn run<S: AuditedRepository + WaitingRepository, I: Read + Drop, O: Writer + Drop>(
+fn run<S, F: Inputs, I: Read + Drop, O: Writer + Drop>(
     rt: &HostRuntime,
     repository: &mut S,
+    inputs: &F,
     request: Request<'_>,
     input: I,
     mut output: O,
 ) -> (Ended, O)
-    ensures { Runs S.shelf S.waits repository.old repository.new request.entry (I.remaining input)
-        (O.contents output) (O.contents result.1) (∥ HasFailed O.may_answer result.1 ∥₁) result.0 }
+where
+    S: AuditedRepository + WaitingRepository,
+    ensures { Runs (F.held inputs.now) S.shelf S.waits repository.old repository.new request.entry
+        (I.remaining input) (O.contents output) (O.contents result.1)
+        (∥ HasFailed O.may_answer result.1 ∥₁) result.0 }
 {
     match request {
         Request::Trial {
@@ -88,7 +93,7 @@ fn run<S: AuditedRepository + WaitingRepository, I: Read + Drop, O: Writer + Dro
         }
         Request::OfBooks { book, wait, asked } => {
             repository.wait_up_to(wait_for(&asked, wait));
-            run_on_books(rt, repository, book, asked, output)
+            run_on_books(rt, repository, inputs, book, asked, output)
         }
         Request::Unclear(why) => (Ended::without_log(Err(CommandFault::Unclear(why))), output),
     }
@@ -106,29 +111,30 @@ fn wait_for(asked: &BookRequest<'_>, wait: u16) -> u16
 }
 
 /// Does what is asked of books.
-fn run_on_books<S: AuditedRepository, O: Writer + Drop>(
+fn run_on_books<S: AuditedRepository, F: Inputs, O: Writer + Drop>(
     rt: &HostRuntime,
     repository: &mut S,
+    inputs: &F,
     book: &str,
     asked: BookRequest<'_>,
     mut output: O,
 ) -> (Ended, O)
-    ensures { Does S.shelf asked.entry book.now repository.old repository.new
+    ensures { Does (F.held inputs.now) S.shelf asked.entry book.now repository.old repository.new
         (O.contents output) (O.contents result.1) (∥ HasFailed O.may_answer result.1 ∥₁) result.0 }
 {
     match asked {
         BookRequest::Init => (Ended::without_log(made(repository.make(book))), output),
-        BookRequest::Rule(ruling) => tell(rule(rt, repository, book, ruling), output),
+        BookRequest::Rule(ruling) => tell(rule(rt, repository, inputs, book, ruling), output),
         BookRequest::Import(dump) => tell(import_dump(rt, repository, book, dump), output),
         BookRequest::ChooseListed { file } => choose_listed(rt, repository, book, file, output),
-        BookRequest::DryRun(ruling) => tell(dry_run(rt, repository, book, ruling), output),
+        BookRequest::DryRun(ruling) => tell(dry_run(rt, repository, inputs, book, ruling), output),
         BookRequest::Report(words) => tell(report(rt, repository, book, words), output),
         BookRequest::List(words) => {
             let (listed, output) = list(rt, repository, book, words, output);
             (settled(listed), output)
         }
         BookRequest::WhatIf { form, period, file } => {
-            tell(what_if(rt, repository, book, form, period, file), output)
+            tell(what_if(rt, repository, inputs, book, form, period, file), output)
         }
         BookRequest::Upgrade => (settled(upgrade(repository, book, &mut output)), output),
         BookRequest::Audit { quiet } => {

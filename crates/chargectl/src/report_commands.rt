@@ -5,6 +5,7 @@ ghost use Rattle.std.specs.Prelude.{◌≡◌, option_map};
 ghost use Rattle.smf_text.specs.Day.{day_of_text_of};
 ghost use Rattle.book_reports.specs.declared.report.Report.TheVariants.{Record, TariffText};
 ghost use Rattle.program_output.specs.Names.{name_in};
+ghost use Rattle.without_books.specs.Inputs.{Files};
 ghost use Rattle.chargectl.specs.Commands as spec;
 ghost use Rattle.chargectl.specs.Commands.{ComesOf};
 
@@ -16,7 +17,7 @@ use office::{Asked, Report, StatementForm, WhatIf, centre_named};
 use program_output::name_of_text;
 use smf_text::{Name, day_of_text};
 use std::io;
-use without_books::{CommandFault, tariff_text};
+use without_books::{CommandFault, Inputs, tariff_text};
 
 /// Asks the books of a name for a report.
 pub(crate) fn report<S: Repository>(
@@ -25,7 +26,7 @@ pub(crate) fn report<S: Repository>(
     book: &str,
     words: ReportWords<'_>,
 ) -> Result<Answered, CommandFault>
-    ensures { ComesOf (BookRequest.Report words.entry) book.now
+    ensures { (files : Files) → ComesOf files (BookRequest.Report words.entry) book.now
         (S.shelf repository.old) (S.shelf repository.new) result }
 {
     let made = match report_of(words) {
@@ -97,15 +98,16 @@ pub(crate) fn asked_centre(centre: Option<&str>) -> Option<Option<Name>>
 
 /// Makes a period's statement by the prices of a tariff file, of one centre or of the whole office.
 /// The file is not put in force.
-pub(crate) fn what_if<S: Repository>(
+pub(crate) fn what_if<S: Repository, F: Inputs>(
     rt: &HostRuntime,
     repository: &mut S,
+    inputs: &F,
     book: &str,
     form: StatementForm,
     period: PeriodWords<'_>,
     file: &str,
 ) -> Result<Answered, CommandFault>
-    ensures { ComesOf (BookRequest.WhatIf form period.entry file.entry) book.now
+    ensures { ComesOf (F.held inputs.now) (BookRequest.WhatIf form period.entry file.entry) book.now
         (S.shelf repository.old) (S.shelf repository.new) result }
 {
     let report = match what_if_of(form, period) {
@@ -113,7 +115,7 @@ pub(crate) fn what_if<S: Repository>(
         None => return Err(CommandFault::Argument),
     };
     repository.expect(book)?;
-    let tariff = tariff_text(rt, file)?;
+    let tariff = tariff_text(rt.alloc(), inputs, file)?;
     let asked = Asked::WhatIf { report, tariff };
     Ok(ask_books(rt, repository, book, asked, io::empty()))
 }

@@ -5,13 +5,15 @@ use Rattle.book_model.specs.declared.fault.LedgerFault.{LedgerFault}
 use Rattle.book_model.specs.declared.fault.LedgerFault.TheVariants as ledger
 use Rattle.named_books.specs.Shelves.{IsMade, Shelf}
 use Rattle.named_books.specs.declared.repository.RepositoryFault.{RepositoryFault}
-use Rattle.named_books.specs.declared.repository.RepositoryFault.TheVariants.{Busy, Exists, Io, Ledger, Unseen}
+use Rattle.named_books.specs.declared.repository.RepositoryFault.TheVariants.{Busy, Exists, Io}
+use Rattle.named_books.specs.declared.repository.RepositoryFault.TheVariants.{Ledger, Unseen}
 use Rattle.command_line.specs.declared.request.BookRequest.TheVariants.{Init}
 use Rattle.command_line.specs.declared.request.Request.TheVariants.{OfBooks}
 use Rattle.program_output.specs.Statuses.{ledger_status}
 use Rattle.program_output.specs.declared.status.Status.{Status}
 use Rattle.program_output.specs.declared.status.Status.TheVariants.{Done}
 use Rattle.without_books.specs.Faults.{fault_status, shelf_end, shelf_fault, status_by, without_log}
+use Rattle.without_books.specs.Inputs.{Files}
 use Rattle.chargectl.specs.Requests.{DoesOrRefuses}
 
 -- no fault of a ledger is said to be done
@@ -40,12 +42,13 @@ made_done book old new (Ok done) it is free = it.made free
 made_done book old new (Err fault) it is free = absurd (place_undone fault is)
 
 -- so did a command that was told to
-pub begun : {S : Type 0} (shelf : S → Shelf) (waits : S → ℕ → Type 0) (old new : S)
+pub begun : {S : Type 0} (files : Files) (shelf : S → Shelf) (waits : S → ℕ → Type 0) (old new : S)
     (book : Bor (List ℕ)) (wait : ℕ) (had held holds : Option (List ℕ)) (Failed : Type 0)
     (Says : List (List ℕ) → Type 0) (status : Status)
-    → DoesOrRefuses shelf waits old new (Ok (OfBooks book wait Init)) had held holds Failed Says status
+    → DoesOrRefuses files shelf waits old new (Ok (OfBooks book wait Init)) had held holds Failed Says
+    status
     → status ≡ Done → (shelf old).is_free book.now → (shelf new).holds book.now []
-begun shelf waits old new book wait had held holds Failed Says status it is free =
+begun files shelf waits old new book wait had held holds Failed Says status it is free =
     let ran = it.1 in
     made_done book.now (shelf ran.waiting) (shelf new) ran.does.made ran.does.done
     (ap status_by (sym ran.does.ends) ∙ sym it.2 ∙ is) (ran.same.free book.now free)

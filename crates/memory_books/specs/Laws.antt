@@ -24,8 +24,8 @@ abbrev pub CommandsFromNothing : {L O E : Type 0} → (L → Seen) → Naming �
 CommandsFromNothing {L} {O} {E} seen names contents may_answer Says =
     (before : MemoryBooks L) (first : Commanded (MemoryBooks L) O E)
     (later : List (Commanded (MemoryBooks L) O E)) (book : Bor (List ℕ)) (wait : ℕ)
-    (one : CommandsBy (memory_shelf seen names) waits_in before first.after first.words first.had
-    contents may_answer first.held first.holds Says first.quiet first.said first.status)
+    (one : CommandsBy first.files (memory_shelf seen names) waits_in before first.after first.words
+    first.had contents may_answer first.held first.holds Says first.quiet first.said first.status)
     → one.asked ≡ Ok (OfBooks book wait Init) → first.status ≡ Done
     → books_at before.kept.items book.now ≡ None
     → AreCommanded (memory_shelf seen names) waits_in contents may_answer Says first.after later

@@ -1,4 +1,6 @@
--- A place in memory, and what is known of it.
+-- Read in this order: books in a list, each under its name; what is known of a place that keeps them so;
+-- files in memory; and the law of the commands there.
 pub mod Kept
-pub mod Laws
 pub mod MemoryShelf
+pub mod Files
+pub mod Laws

@@ -9,9 +9,9 @@ use std::alloc::{AllocError, Global};
 
 /// Books under a name.
 #[derive(Drop)]
-pub(crate) struct Kept<L: Drop> {
-    pub(crate) name: String,
-    pub(crate) books: L,
+pub struct Kept<L: Drop> {
+    pub name: String,
+    pub books: L,
 }
 
 /// The books of a name.

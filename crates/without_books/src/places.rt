@@ -5,6 +5,7 @@ use crate::causes::{
     cause_of_books, cause_of_new, cause_of_port, cause_of_read, in_place_of_log, is_file, is_there,
 };
 use crate::command_fault::CommandFault;
+use crate::inputs::HostInputs;
 use crate::tariff_texts::tariff_text;
 use book_core::LedgerFault;
 use book_import::Stop;
@@ -273,7 +274,7 @@ fn entry_in(rt: &HostRuntime, path: &str) -> Option<Entry> {
     if !is_file(rt, path) {
         return None;
     }
-    match tariff_text(rt, path) {
+    match tariff_text(rt.alloc(), &HostInputs::of(rt), path) {
         Ok(text) => Tariff::entry_at_fault(rt.alloc(), text.as_str()).ok()?,
         Err(_) => None,
     }

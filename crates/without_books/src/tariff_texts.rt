@@ -1,21 +1,26 @@
 //! The texts of tariff files.
 
-ghost use Rattle.std.specs.Prelude.{◌≡◌, ◌≤◌, None, IfErr, IfOk, OnOk, length, string_bytes};
+ghost use Rattle.std.specs.Prelude.{◌≡◌, ◌≤◌, IfErr, IfOk, OnOk, length, string_bytes};
 ghost use Rattle.tariff_rules.specs.Limits.{most_text};
 ghost use Rattle.without_books.specs.Faults.{IsNoText, IsTextOf};
 
 use crate::command_fault::CommandFault;
+use crate::inputs::Inputs;
 use book_core::LedgerFault;
 use std::alloc::Global;
-use std::fs;
 use std::io::Read;
 use tariff_rules::{MAX_TEXT, TariffFault};
 
-/// The text of a tariff file. No contract says what the file holds; but the text is not too long.
-pub fn tariff_text(rt: &HostRuntime, file: &str) -> Result<String, CommandFault>
-    ensures { IsTextOf None result }
+/// The text of a tariff file: what the file of that name holds, where that is known. It is not too
+/// long.
+pub fn tariff_text<F: Inputs>(
+    alloc: Global,
+    inputs: &F,
+    file: &str,
+) -> Result<String, CommandFault>
+    ensures { IsTextOf (F.held inputs.now file.now) result }
 {
-    read_text(rt.alloc(), fs::open(rt, file)?)
+    read_text(alloc, inputs.open(file)?)
 }
 
 /// The text that a reader gives, which is read to its end unless it is too long.

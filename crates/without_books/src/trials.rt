@@ -11,6 +11,7 @@ ghost use Rattle.without_books.specs.Reading.{IsTariffRead, TriesBy, TriesUnder,
 use crate::command_fault::CommandFault;
 use crate::ended::Ended;
 use crate::first_bytes::{LookedAt, look_at};
+use crate::inputs::HostInputs;
 use crate::tariff_texts::tariff_text;
 use book_core::{LedgerFault, Sink, Source};
 use book_import::{MAX_READS, Receipt};
@@ -78,7 +79,7 @@ pub fn run_trial_under<I: Read + Drop, O: Writer + Drop>(
 fn read_tariff(rt: &HostRuntime, file: &str) -> Result<Tariff, CommandFault>
     ensures { IsTariffRead result }
 {
-    let text = tariff_text(rt, file)?;
+    let text = tariff_text(rt.alloc(), &HostInputs::of(rt), file)?;
     lasting_tariff(rt.alloc(), &text)
 }
 

@@ -3,7 +3,7 @@ use Rattle.office.specs.declared.request.Asked.TheVariants as asks
 use Rattle.chargectl.proofs.book_commands.import_dump.Goals as goal
 
 pub returns : goal.returns
-returns g c =
+returns g c = λ files.
     let came = c.ask_books-answered.ensures.answered in
     record {
       asked = asks.Import c.args.dump.layout;

@@ -15,8 +15,8 @@ returns-clause-begin g c = λ before first later book wait one asked is none don
     let Says : List (List ℕ) → Type 0 =
     λ lines. AreSaid g.E.Write.contents g.E.Writer.may_answer lines first.quiet first.said in
     c.commands_follow_history.ensures book.now [] first.after later tt
-    (begun shelf waits_in before first.after book wait first.had (contents first.held)
+    (begun first.files shelf waits_in before first.after book wait first.had (contents first.held)
     (contents first.holds) Failed Says first.status
-    (subst (λ asked. DoesOrRefuses shelf waits_in before first.after asked first.had
+    (subst (λ asked. DoesOrRefuses first.files shelf waits_in before first.after asked first.had
     (contents first.held) (contents first.holds) Failed Says first.status) asked one.done) is none)
     done
