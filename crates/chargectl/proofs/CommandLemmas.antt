@@ -44,11 +44,11 @@ asked_once asked had answer books input begun it =
 -- nothing was asked, and this is why
 pub not_asked : (files : Files) (request : BookRequest) (book : List ℕ) (shelf : Shelf)
     (result : Result Answered CommandFault) (found : CommandFault) → IsErr result
-    → IsErrAnd result (λ why. why ≡ found) → AsksNothing request (shelf.refuses book) found
+    → IsErrAnd result (λ why. why ≡ found) → AsksNothing files request (shelf.refuses book) found
     → ComesOf files request book shelf shelf result
 not_asked files request book shelf (Ok answered) found bad is why = absurd is
 not_asked files request book shelf (Err fault) found bad is why =
-    (subst (AsksNothing request (shelf.refuses book)) (sym is) why, untouched book shelf)
+    (subst (AsksNothing files request (shelf.refuses book)) (sym is) why, untouched book shelf)
 
 -- ---- why the books were refused, where the reasons are among others
 
@@ -67,21 +67,23 @@ module _ (One Other : RepositoryFault → Type 0)
   word_as None Is So why goes it = it
   word_as (Some found) Is So why goes it = goes it
 
-  pub nothing_as : (request : BookRequest) (why : CommandFault) → AsksNothing request One why
-      → AsksNothing request Other why
-  nothing_as (to_books.Import dump) why it = either_as (IsFileFault why) why it
-  nothing_as (to_books.Rule (ruling.Tariff file)) why it = either_as (IsTextFault why) why it
-  nothing_as (to_books.Rule (ruling.Close period date)) why it =
+  pub nothing_as : (files : Files) (request : BookRequest) (why : CommandFault)
+      → AsksNothing files request One why → AsksNothing files request Other why
+  nothing_as files (to_books.Import dump) why it = either_as (IsFileFault why) why it
+  nothing_as files (to_books.Rule (ruling.Tariff file)) why it =
+      either_as (IsTextFault (files file.now) why) why it
+  nothing_as files (to_books.Rule (ruling.Close period date)) why it =
       word_as (day_of_text_of date.now) (IsShelfFault One) (IsShelfFault Other) why (shelf_as why)
       it
-  nothing_as (to_books.Rule (ruling.Choose name)) why it =
+  nothing_as files (to_books.Rule (ruling.Choose name)) why it =
       word_as (name_in name.now) (IsShelfFault One) (IsShelfFault Other) why (shelf_as why) it
-  nothing_as (to_books.Report said) why it =
+  nothing_as files (to_books.Report said) why it =
       word_as (report_of said) (IsShelfFault One) (IsShelfFault Other) why (shelf_as why) it
-  nothing_as (to_books.WhatIf form period file) why it =
-      word_as (what_if_of form period) (IsTariffFault One) (IsTariffFault Other) why
-      (either_as (IsTextFault why) why) it
-  nothing_as request why it = shelf_as why it
+  nothing_as files (to_books.WhatIf form period file) why it =
+      let had = files file.now in
+      word_as (what_if_of form period) (IsTariffFault had One) (IsTariffFault had Other) why
+      (either_as (IsTextFault had why) why) it
+  nothing_as files request why it = shelf_as why it
 
 -- a word that is there is no fault
 pub word_there : {A : Type 0} (read : Option A) (found : A) (IsLater : CommandFault → Type 0)

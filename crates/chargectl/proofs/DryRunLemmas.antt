@@ -41,7 +41,6 @@ use Rattle.office.proofs.LawLemmas.{asks_done}
 use Rattle.command_line.specs.declared.request.BookRequest.{BookRequest}
 use Rattle.without_books.specs.declared.command_fault.CommandFault.{CommandFault}
 use Rattle.without_books.specs.declared.notice.Notice.{Notice}
-use Rattle.without_books.specs.Faults.{IsTextFault, IsTextOf}
 use Rattle.without_books.specs.Inputs.{Files}
 use Rattle.chargectl.specs.declared.dated_rulings.DatedAnswer.{DatedAnswer}
 use Rattle.chargectl.specs.Commands.{AsksNothing}
@@ -67,17 +66,11 @@ no_text is = cc is
 -- nothing is asked for, and this is why
 pub none_asked : (files : Files) (request : BookRequest) (Refuses : RepositoryFault → Type 0)
     (result : Result Asked CommandFault) (found : CommandFault)
-    → IsErr result → IsErrAnd result (λ why. why ≡ found) → AsksNothing request Refuses found
+    → IsErr result → IsErrAnd result (λ why. why ≡ found) → AsksNothing files request Refuses found
     → IsAskedFor files request Refuses result
 none_asked files request Refuses (Ok asked) found bad is why = absurd is
 none_asked files request Refuses (Err fault) found bad is why =
-    subst (AsksNothing request Refuses) (sym is) why
-
--- what a file gave is no text of a tariff, whatever it is known to hold
-pub no_text_of : (had : Option (List ℕ)) (why : CommandFault) → IsTextOf had (Err why)
-    → IsTextFault why
-no_text_of had why (inl file) = inl file
-no_text_of had why (inr bytes) = inr (bytes.0, bytes.1, tt)
+    subst (AsksNothing files request Refuses) (sym is) why
 
 -- the fault that `?` hands on: of a refusal nothing is noticed
 pub handed_on : {old new : Seen} {naming : Naming} {asked : Asked} {fault : LedgerFault}

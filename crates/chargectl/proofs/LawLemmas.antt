@@ -291,9 +291,10 @@ module _ (history : List Event) (name : List ℕ) (old new : Shelf)
     (follow : (book : List ℕ) (fault : RepositoryFault) → old.refuses book fault
     → Refuses book fault) where
   -- why nothing is asked
-  nothing : (book : List ℕ) (request : BookRequest) (why : CommandFault)
-      → AsksNothing request (old.refuses book) why → AsksNothing request (Refuses book) why
-  nothing book = nothing_as (old.refuses book) (Refuses book) (follow book)
+  nothing : (files : Files) (book : List ℕ) (request : BookRequest) (why : CommandFault)
+      → AsksNothing files request (old.refuses book) why
+      → AsksNothing files request (Refuses book) why
+  nothing files book = nothing_as (old.refuses book) (Refuses book) (follow book) files
 
   -- a command that asks the office, or nothing
   comes_on : (files : Files) (book : List ℕ) (request : BookRequest)
@@ -317,7 +318,7 @@ module _ (history : List Event) (name : List ℕ) (old new : Shelf)
       (asked_on old.naming history name old new answered held book comes.asked comes.had)
       comes.came.told comes.came.done)
   comes_on files book request (Err why) comes =
-      step_as (λ made is. (λ _. (nothing book request why comes.0, is), λ _. is))
+      step_as (λ made is. (λ _. (nothing files book request why comes.0, is), λ _. is))
       (none_on old.naming history name old new answered held book comes.1)
 
   asks_on : (files : Files) (book : List ℕ) (request : BookRequest) (has holds : Option (List ℕ))
@@ -515,7 +516,7 @@ module _ (history : List Event) (name : List ℕ) (old new : Shelf)
           ))
           (tried_on book comes.asked comes.came.told comes.came.tried)
       by_came (Err why) comes =
-          step_as (λ made is. (λ _. nothing book (asks.Rule ruling) why comes.0, is))
+          step_as (λ made is. (λ _. nothing files book (asks.Rule ruling) why comes.0, is))
           (none_on old.naming history name old new answered held book comes.1)
 
   upgrades_on : (book : List ℕ) (has holds : Option (List ℕ)) (Failed : Type 0)

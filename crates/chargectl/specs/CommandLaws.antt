@@ -117,7 +117,7 @@ abbrev pub AskedBy : Files → Naming → List Event → (RepositoryFault → Ty
 AskedBy files naming history Refuses request (Ok answered) made =
     AskedOf files naming history Refuses request answered made
 AskedBy files naming history Refuses request (Err why) made =
-    AsksNothing request Refuses why × (made ≡ [])
+    AsksNothing files request Refuses why × (made ≡ [])
 
 -- and that was written
 pub record AsksOfHistory (files : Files) (naming : Naming) (history : List Event)
@@ -145,7 +145,7 @@ abbrev pub TriedBy : Files → Naming → List Event → (RepositoryFault → Ty
     → Result Answered CommandFault → Type 0
 TriedBy files naming history Refuses request (Ok answered) =
     TriedOn files naming history Refuses request answered
-TriedBy files naming history Refuses request (Err why) = AsksNothing request Refuses why
+TriedBy files naming history Refuses request (Err why) = AsksNothing files request Refuses why
 
 -- that was written, and no event was made
 pub record TriesOfHistory (files : Files) (naming : Naming) (history : List Event)

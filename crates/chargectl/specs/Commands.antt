@@ -167,8 +167,8 @@ IsRefusedBy book old new held holds why =
     IsShelfFault (old.refuses book) why × IsUntouched book old new × (holds ≡ held)
 
 -- that, or the file of a tariff failed, or what it has is no text, or too long a one
-abbrev pub IsTariffFault : (RepositoryFault → Type 0) → CommandFault → Type 0
-IsTariffFault Refuses why = IsShelfFault Refuses why ⊎ IsTextFault why
+abbrev pub IsTariffFault : Option (List ℕ) → (RepositoryFault → Type 0) → CommandFault → Type 0
+IsTariffFault had Refuses why = IsShelfFault Refuses why ⊎ IsTextFault had why
 
 -- a word is not what it has to be, before anything else; or else there is a fault of this kind
 abbrev pub IsWordFault : {A : Type 0} → Option A → (CommandFault → Type 0) → CommandFault → Type 0
@@ -176,18 +176,19 @@ IsWordFault None IsLater why = why ≡ fault.Argument
 IsWordFault (Some read) IsLater why = IsLater why
 
 -- why a command asks nothing, of books that are refused for these reasons
-abbrev pub AsksNothing : BookRequest → (RepositoryFault → Type 0) → CommandFault → Type 0
-AsksNothing (book.Import dump) Refuses why = IsShelfFault Refuses why ⊎ IsFileFault why
-AsksNothing (book.Rule (ruling.Tariff file)) Refuses why = IsTariffFault Refuses why
-AsksNothing (book.Rule (ruling.Close period date)) Refuses why =
+abbrev pub AsksNothing : Files → BookRequest → (RepositoryFault → Type 0) → CommandFault → Type 0
+AsksNothing files (book.Import dump) Refuses why = IsShelfFault Refuses why ⊎ IsFileFault why
+AsksNothing files (book.Rule (ruling.Tariff file)) Refuses why =
+    IsTariffFault (files file.now) Refuses why
+AsksNothing files (book.Rule (ruling.Close period date)) Refuses why =
     IsWordFault (day_of_text_of date.now) (IsShelfFault Refuses) why
-AsksNothing (book.Rule (ruling.Choose name)) Refuses why =
+AsksNothing files (book.Rule (ruling.Choose name)) Refuses why =
     IsWordFault (name_in name.now) (IsShelfFault Refuses) why
-AsksNothing (book.Report said) Refuses why =
+AsksNothing files (book.Report said) Refuses why =
     IsWordFault (report_of said) (IsShelfFault Refuses) why
-AsksNothing (book.WhatIf form period file) Refuses why =
-    IsWordFault (what_if_of form period) (IsTariffFault Refuses) why
-AsksNothing request Refuses why = IsShelfFault Refuses why
+AsksNothing files (book.WhatIf form period file) Refuses why =
+    IsWordFault (what_if_of form period) (IsTariffFault (files file.now) Refuses) why
+AsksNothing files request Refuses why = IsShelfFault Refuses why
 
 -- what an import notices of a dump that looked misread or not
 abbrev pub answer_notice : Bool → Result Answer CommandFault → Option Notice
@@ -235,7 +236,7 @@ abbrev pub ComesOf : Files → BookRequest → List ℕ → Shelf → Shelf → 
     → Type 0
 ComesOf files request book old new (Ok answered) = Asking files request book old new answered
 ComesOf files request book old new (Err why) =
-    AsksNothing request (old.refuses book) why × IsUntouched book old new
+    AsksNothing files request (old.refuses book) why × IsUntouched book old new
 
 -- the first fault
 abbrev pub first_fault : Result (Unit {0}) CommandFault → Result (Unit {0}) CommandFault

@@ -43,7 +43,7 @@ use Rattle.chargectl.specs.Far.{far_notice, notice_by}
 abbrev pub IsAskedFor : Files → BookRequest → (RepositoryFault → Type 0) → Result Asked CommandFault
     → Type 0
 IsAskedFor files request Refuses (Ok asked) = IsAskedBy files request asked × IsAskableRuling asked
-IsAskedFor files request Refuses (Err why) = AsksNothing request Refuses why
+IsAskedFor files request Refuses (Err why) = AsksNothing files request Refuses why
 
 -- A ruling, as its dry run names it: a tariff by its first day.
 abbrev pub IsNamedBy : Asked → TriedRuling → Type 0
@@ -173,7 +173,7 @@ abbrev pub ComesOfDryRun : Files → BookRequest → List ℕ → Shelf → Shel
     → Type 0
 ComesOfDryRun files request book old new (Ok answered) = Trying files request book old new answered
 ComesOfDryRun files request book old new (Err why) =
-    AsksNothing request (old.refuses book) why × IsUntouched book old new
+    AsksNothing files request (old.refuses book) why × IsUntouched book old new
 
 -- A dry run of a ruling: what came of it, and what was told of that.
 pub record TriesAndTells (files : Files) (ruling : Ruling) (book : List ℕ) (old new : Shelf)

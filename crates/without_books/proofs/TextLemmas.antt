@@ -41,9 +41,9 @@ text_read had first start bytes result empty cut came is short none =
 
 -- a file that gave no text gave no tariff
 pub no_tariff : (result : Result Terms CommandFault) (found : CommandFault) → IsErr result
-    → IsErrAnd result (λ why. why ≡ found) → IsTextFault found → IsTariffRead result
+    → IsErrAnd result (λ why. why ≡ found) → IsTextFault None found → IsTariffRead result
 no_tariff (Ok terms) found bad is why = absurd is
-no_tariff (Err fault) found bad is why = inl (subst (λ why. IsTextFault why) (sym is) why)
+no_tariff (Err fault) found bad is why = inl (subst (IsTextFault None) (sym is) why)
 
 -- the tariff of a text, or why it is none
 pub tariff_is : (text : List ℕ) (result : Result Terms CommandFault)

@@ -173,9 +173,9 @@ IsTextOf had (Ok text) = (length (string_bytes text) ≤ most_text)
 IsTextOf had (Err why) = IsFileFault why ⊎ ((bytes : List ℕ) × IsNoText bytes why
     × IfSome had (λ all. bytes ≡ take (most_text + 1) all))
 
--- so it is with a file, of which no contract says what it holds
-abbrev pub IsTextFault : CommandFault → Type 0
-IsTextFault why = IsTextOf None (Err why)
+-- why there is none
+abbrev pub IsTextFault : Option (List ℕ) → CommandFault → Type 0
+IsTextFault had why = IsTextOf had (Err why)
 
 -- a list of names has too many, or a line that is none; or there was no memory for them
 abbrev pub names_fault : NamesFault → CommandFault

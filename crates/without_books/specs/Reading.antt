@@ -83,7 +83,7 @@ lasting (Err refused) = Err (fault.Ledger (ledger.TariffRefused refused))
 -- no tariff, for this reason
 abbrev pub IsTariffRead : Result Terms CommandFault → Type 0
 IsTariffRead (Ok terms) = (text : List ℕ) × (lasting (terms_in text) ≡ Ok terms)
-IsTariffRead (Err why) = IsTextFault why ⊎ ((text : List ℕ) × (lasting (terms_in text) ≡ Err why))
+IsTariffRead (Err why) = IsTextFault None why ⊎ ((text : List ℕ) × (lasting (terms_in text) ≡ Err why))
 
 -- none is made where there is no tariff
 abbrev pub TriesWith : Layout → Result Terms CommandFault → Option (List ℕ) → Option (List ℕ)
