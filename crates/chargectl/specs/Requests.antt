@@ -143,7 +143,7 @@ abbrev pub Runs : {S : Type 0} → Files → (S → Shelf) → (S → ℕ → Ty
 Runs files shelf waits old new (request.Trial layout cpu excp fee) had held holds Failed ended =
     (new ≡ old) × TriesAt layout cpu excp fee had held holds Failed ended
 Runs files shelf waits old new (request.TrialUnder layout file) had held holds Failed ended =
-    (new ≡ old) × TriesUnder layout had held holds Failed ended
+    (new ≡ old) × TriesUnder (files file.now) layout had held holds Failed ended
 Runs files shelf waits old new (request.Check dump) had held holds Failed ended =
     (new ≡ old) × Checks dump.layout held holds Failed ended
 Runs files shelf waits old new (request.Explain kind number) had held holds Failed ended =

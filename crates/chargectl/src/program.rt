@@ -85,7 +85,9 @@ where
             let tariff = Tariff::flat(rt.alloc(), cpu, excp, record);
             run_trial(rt.alloc(), layout, tariff, input, output)
         }
-        Request::TrialUnder { layout, file } => run_trial_under(rt, layout, file, input, output),
+        Request::TrialUnder { layout, file } => {
+            run_trial_under(rt.alloc(), inputs, layout, file, input, output)
+        }
         Request::Check(dump) => check(rt, dump, output),
         Request::Explain { kind, number } => {
             let came = explain(rt.alloc(), kind, number, &mut output);

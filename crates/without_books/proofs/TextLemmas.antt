@@ -10,7 +10,7 @@ use Rattle.tariff_rules.specs.TariffFile.{terms_in}
 use Rattle.book_model.specs.Words.{Terms}
 use Rattle.without_books.specs.declared.command_fault.CommandFault.{CommandFault}
 use Rattle.without_books.specs.Faults.{IsFaultIn, IsNoText, IsTextFault, IsTextOf}
-use Rattle.without_books.specs.Reading.{IsTariffRead, lasting}
+use Rattle.without_books.specs.Reading.{IsTariffRead, IsTextIn, lasting}
 
 -- what a reader gave was its text, or is no text of a tariff
 pub text_read : (had first : Option (List ℕ)) (start bytes : List ℕ)
@@ -40,15 +40,16 @@ text_read had first start bytes result empty cut came is short none =
     go (Some all) (Err why) given is short none = inr (bytes, none, given)
 
 -- a file that gave no text gave no tariff
-pub no_tariff : (result : Result Terms CommandFault) (found : CommandFault) → IsErr result
-    → IsErrAnd result (λ why. why ≡ found) → IsTextFault None found → IsTariffRead result
-no_tariff (Ok terms) found bad is why = absurd is
-no_tariff (Err fault) found bad is why = inl (subst (IsTextFault None) (sym is) why)
+pub no_tariff : (had : Option (List ℕ)) (result : Result Terms CommandFault) (found : CommandFault)
+    → IsErr result → IsErrAnd result (λ why. why ≡ found) → IsTextFault had found
+    → IsTariffRead had result
+no_tariff had (Ok terms) found bad is why = absurd is
+no_tariff had (Err fault) found bad is why = inl (subst (IsTextFault had) (sym is) why)
 
 -- the tariff of a text, or why it is none
-pub tariff_is : (text : List ℕ) (result : Result Terms CommandFault)
-    → IfOk result (λ terms. lasting (terms_in text) ≡ Ok terms)
-    → IfErr result (IsFaultIn (lasting (terms_in text))) → IsTariffRead result
-tariff_is text (Ok terms) is why = (text, is)
-tariff_is text (Err fault) is (inl memory) = inl (inl (OutOfMemory, memory))
-tariff_is text (Err fault) is (inr refused) = inr (text, refused)
+pub tariff_is : (had : Option (List ℕ)) (text : List ℕ) (result : Result Terms CommandFault)
+    → IsTextIn had text → IfOk result (λ terms. lasting (terms_in text) ≡ Ok terms)
+    → IfErr result (IsFaultIn (lasting (terms_in text))) → IsTariffRead had result
+tariff_is had text (Ok terms) of_file is why = (text, of_file, is)
+tariff_is had text (Err fault) of_file is (inl memory) = inl (inl (OutOfMemory, memory))
+tariff_is had text (Err fault) of_file is (inr refused) = inr (text, of_file, refused)

@@ -79,11 +79,17 @@ abbrev pub lasting : Result Terms TariffFault → Result Terms CommandFault
 lasting (Ok terms) = Ok (on_every_day terms)
 lasting (Err refused) = Err (fault.Ledger (ledger.TariffRefused refused))
 
--- the tariff is that of a text that its file gave; or the file failed or has no such text, or the text is
--- no tariff, for this reason
-abbrev pub IsTariffRead : Result Terms CommandFault → Type 0
-IsTariffRead (Ok terms) = (text : List ℕ) × (lasting (terms_in text) ≡ Ok terms)
-IsTariffRead (Err why) = IsTextFault None why ⊎ ((text : List ℕ) × (lasting (terms_in text) ≡ Err why))
+-- the text that a file gave which had these bytes, where that is known: all of them
+abbrev pub IsTextIn : Option (List ℕ) → List ℕ → Type 0
+IsTextIn had text = IfSome had (λ all. text ≡ all)
+
+-- the tariff is that of the text of its file; or the file failed or has no such text, or the text is no
+-- tariff, for this reason
+abbrev pub IsTariffRead : Option (List ℕ) → Result Terms CommandFault → Type 0
+IsTariffRead had (Ok terms) =
+    (text : List ℕ) × IsTextIn had text × (lasting (terms_in text) ≡ Ok terms)
+IsTariffRead had (Err why) = IsTextFault had why
+    ⊎ ((text : List ℕ) × IsTextIn had text × (lasting (terms_in text) ≡ Err why))
 
 -- none is made where there is no tariff
 abbrev pub TriesWith : Layout → Result Terms CommandFault → Option (List ℕ) → Option (List ℕ)
@@ -93,11 +99,11 @@ TriesWith layout (Ok terms) had held holds Failed ended =
 TriesWith layout (Err why) had held holds Failed ended =
     (holds ≡ held) × (ended ≡ without_log (Err why))
 
--- a trial under the tariff of a file
-pub record TriesUnder (layout : Layout) (had held holds : Option (List ℕ)) (Failed : Type 0)
-    (ended : Ended) : Type 0 where
+-- a trial under the tariff of a file that had these bytes
+pub record TriesUnder (file : Option (List ℕ)) (layout : Layout) (had held holds : Option (List ℕ))
+    (Failed : Type 0) (ended : Ended) : Type 0 where
   pub tariff : Result Terms CommandFault
-  pub read : IsTariffRead tariff
+  pub read : IsTariffRead file tariff
   pub tries : TriesWith layout tariff had held holds Failed ended
 
 -- A check of what a reader had, with as many reads as an import has, once its first bytes were looked at.

@@ -11,7 +11,7 @@ ghost use Rattle.without_books.specs.Reading.{IsTariffRead, TriesBy, TriesUnder,
 use crate::command_fault::CommandFault;
 use crate::ended::Ended;
 use crate::first_bytes::{LookedAt, look_at};
-use crate::inputs::HostInputs;
+use crate::inputs::Inputs;
 use crate::tariff_texts::tariff_text;
 use book_core::{LedgerFault, Sink, Source};
 use book_import::{MAX_READS, Receipt};
@@ -59,28 +59,29 @@ fn end_trial<O: Writer + Drop>(
 }
 
 /// Prices the records of the input under the tariff of a file, whatever its first day is.
-pub fn run_trial_under<I: Read + Drop, O: Writer + Drop>(
-    rt: &HostRuntime,
+pub fn run_trial_under<F: Inputs, I: Read + Drop, O: Writer + Drop>(
+    alloc: Global,
+    inputs: &F,
     layout: Layout,
     file: &str,
     input: I,
     output: O,
 ) -> (Ended, O)
-    ensures { TriesUnder layout (I.remaining input) (O.contents output) (O.contents result.1)
-        (∥ HasFailed O.may_answer result.1 ∥₁) result.0 }
+    ensures { TriesUnder (F.held inputs.now file.now) layout (I.remaining input)
+        (O.contents output) (O.contents result.1) (∥ HasFailed O.may_answer result.1 ∥₁) result.0 }
 {
-    match read_tariff(rt, file) {
-        Ok(tariff) => run_trial(rt.alloc(), layout, Some(tariff), input, output),
+    match read_tariff(alloc, inputs, file) {
+        Ok(tariff) => run_trial(alloc, layout, Some(tariff), input, output),
         Err(fault) => (Ended::without_log(Err(fault)), output),
     }
 }
 
 /// The tariff of a file, in force on every day.
-fn read_tariff(rt: &HostRuntime, file: &str) -> Result<Tariff, CommandFault>
-    ensures { IsTariffRead result }
+fn read_tariff<F: Inputs>(alloc: Global, inputs: &F, file: &str) -> Result<Tariff, CommandFault>
+    ensures { IsTariffRead (F.held inputs.now file.now) result }
 {
-    let text = tariff_text(rt.alloc(), &HostInputs::of(rt), file)?;
-    lasting_tariff(rt.alloc(), &text)
+    let text = tariff_text(alloc, inputs, file)?;
+    lasting_tariff(alloc, text.as_str())
 }
 
 /// The tariff of a text, in force on every day.
