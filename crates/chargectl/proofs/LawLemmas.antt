@@ -333,15 +333,16 @@ module _ (history : List Event) (name : List ℕ) (old new : Shelf)
       )) (comes_on files book request it.answered it.comes)
 
   -- a list of choices
-  list_comes_on : (book : List ℕ) (came : Result ListAnswered CommandFault)
-      → ComesOfList book old new came
+  list_comes_on : (had : Option (List ℕ)) (book : List ℕ) (came : Result ListAnswered CommandFault)
+      → ComesOfList had book old new came
       → Step old.naming history name old new
-      (Where book name (ListBy old.naming history (Refuses book) came))
-  list_comes_on book (Ok told) comes =
+      (Where book name (ListBy had old.naming history (Refuses book) came))
+  list_comes_on had book (Ok told) comes =
       step_as (λ made so. (
         λ same. record {
           names = comes.names;
           listed = comes.listed;
+          all = comes.all;
           told = comes.came.told;
           follows = so.0 same;
           says = comes.came.says;
@@ -352,7 +353,7 @@ module _ (history : List Event) (name : List ℕ) (old new : Shelf)
       (ChoosesBy old.naming comes.names) (ChoicesFollow old.naming history comes.names)
       (chosen_on old.naming history name old new answered held book comes.names) comes.came.told
       comes.came.done)
-  list_comes_on book (Err why) comes =
+  list_comes_on had book (Err why) comes =
       step_as (λ made is. (
         λ _. (
           either_as (old.refuses book) (Refuses book) (follow book) (IsListFault why) why comes.0,
@@ -362,15 +363,15 @@ module _ (history : List Event) (name : List ℕ) (old new : Shelf)
       ))
       (none_on old.naming history name old new answered held book comes.1)
 
-  list_on : (book : List ℕ) (has holds : Option (List ℕ)) (Failed : Type 0) (ended : Ended)
-      → ChoosesListed book old new has holds Failed ended
+  list_on : (had : Option (List ℕ)) (book : List ℕ) (has holds : Option (List ℕ)) (Failed : Type 0)
+      (ended : Ended) → ChoosesListed had book old new has holds Failed ended
       → Step old.naming history name old new
-      (Where book name (ListOfHistory old.naming history (Refuses book) has holds Failed ended))
-  list_on book has holds Failed ended it =
+      (Where book name (ListOfHistory had old.naming history (Refuses book) has holds Failed ended))
+  list_on had book has holds Failed ended it =
       step_as (λ made so. (
         λ same. record { came = it.answered; listed = so.0 same; tells = it.tells },
         so.1,
-      )) (list_comes_on book it.answered it.comes)
+      )) (list_comes_on had book it.answered it.comes)
 
   -- books that are untouched, whatever else a command does
   still_on : (book touched : List ℕ) → IsUntouched touched old new
@@ -612,8 +613,8 @@ module _ {S : Type 0} (shelf : S → Shelf) (history : List Event) (name : List 
       list_asked history name (shelf before) (shelf after) answered held Refuses follow (list_of asked)
       book has holds Failed ended does
   does_on files book (asks.ChooseListed file) has holds Failed ended does =
-      list_on history name (shelf before) (shelf after) answered held Refuses follow book has holds
-      Failed ended does
+      list_on history name (shelf before) (shelf after) answered held Refuses follow (files file.now)
+      book has holds Failed ended does
   does_on files book (asks.DryRun ruling) has holds Failed ended does =
       tries_on history name (shelf before) (shelf after) answered held Refuses follow files book ruling
       has holds Failed ended does

@@ -1,13 +1,18 @@
 -- Lists of names that a reader gives, and choices by them.
-use Rattle.std.proofs.Common.{◌≡◌, List, [], ◌∷◌, ◌++◌, ℕ, Option, Some, Result, Ok, Err}
-use Rattle.std.proofs.Common.{inl, inr, refl, subst, sym, true≢false}
+use Rattle.std.proofs.Common.{◌≡◌, ◌∙◌, List, [], ◌∷◌, ◌++◌, ℕ, Option, Some, None, Result, Ok, Err}
+use Rattle.std.proofs.Common.{ap, inl, inr, refl, subst, sym, take, true≢false}
 use Rattle.std.proofs.KnownBytes.{Consumes-trans}
+use Rattle.std.specs.Io.Buffered.{reader_buffer, reader_capacity, reader_inner, reader_remaining}
 use Rattle.std.specs.Io.Iter.{YieldsKnownByte}
-use Rattle.std.specs.Io.KnownBytes.{Consumes}
-use Rattle.std.specs.Prelude.{IfOk, IsErr, IsErrAnd, OnErr}
+use Rattle.std.specs.Io.KnownBytes.{Consumes, prepend_known}
+use Rattle.std.specs.Io.Take.{take_inner, take_limit, take_remaining}
+use Rattle.std.specs.Option.{option_map}
+use Rattle.std.specs.Prelude.{◌==◌, if◌then◌else◌, IfOk, IsErr, IsErrAnd, OnErr}
 use Rattle.std.specs.declared.alloc.AllocError.{AllocError}
 use Rattle.std.specs.declared.io.Error.{Error}
 use Rattle.std.specs.declared.io.ErrorKind.TheVariants.{OutOfMemory}
+use Rattle.std.specs.declared.io.buffered.BufReader.{BufReader}
+use Rattle.std.specs.declared.io.traits.Take.{Take}
 use Rattle.book_core.specs.Ledgers.{Seen}
 use Rattle.book_core.specs.Transition.{IsTransition, NoEvent}
 use Rattle.book_core.proofs.TransitionLemmas.{no_work}
@@ -21,7 +26,8 @@ use Rattle.program_output.specs.Names.{IsNamesFault, names_in}
 use Rattle.without_books.specs.declared.command_fault.CommandFault.{CommandFault}
 use Rattle.without_books.specs.Faults.{names_fault}
 use Rattle.chargectl.specs.declared.choices.ListAnswered.{ListAnswered}
-use Rattle.chargectl.specs.Choices.{ChoosesBy, ChoosesNothing, ComesOfList, IsListFault}
+use Rattle.chargectl.specs.Choices.{ChoosesBy, ChoosesNothing, ComesOfList, IsListFault, front_of}
+use Rattle.chargectl.specs.Choices.{most_read}
 
 -- one more byte of a reader came
 pub byte_came : (had old new : Option (List ℕ)) (text : List ℕ) (item : Option (Result ℕ Error))
@@ -30,6 +36,25 @@ pub byte_came : (had old new : Option (List ℕ)) (text : List ℕ) (item : Opti
 byte_came had old new text item byte so_far next is =
     Consumes-trans had old new text (byte ∷ []) so_far
     (subst (λ item. YieldsKnownByte old item new) is next)
+
+-- an empty buffer shows what the reader behind it has
+behind_none : (had : Option (List ℕ)) → prepend_known [] had ≡ had
+behind_none None = refl
+behind_none (Some bytes) = refl
+
+-- what a reader shows through a buffer, up to a limit
+pub front_shown : {R A : Type 0} (remaining : R → Option (List ℕ)) (reader : R)
+    (buffered : BufReader R A) (front : Take (BufReader R A)) → reader_inner buffered ≡ reader
+    → reader_buffer buffered ≡ [] → reader_capacity buffered ≡ 8192
+    → take_limit front ≡ most_read → take_inner front ≡ buffered
+    → take_remaining (reader_remaining remaining) front ≡ front_of (remaining reader)
+front_shown remaining reader buffered front behind empty size limit inner =
+    let cut : take_remaining (reader_remaining remaining) front
+    ≡ option_map (take most_read) (reader_remaining remaining buffered) =
+    λ i. option_map (take (limit i)) (reader_remaining remaining (inner i)) in
+    let seen : reader_remaining remaining buffered ≡ prepend_known [] (remaining reader) =
+    λ i. if size i == 0 then None else prepend_known (empty i) (remaining (behind i)) in
+    cut ∙ ap (option_map (take most_read)) (seen ∙ behind_none (remaining reader))
 
 -- why a text is no list of names
 pub no_list : (text : List ℕ) (found : NamesFault) → IsNamesFault (names_in text) found
@@ -52,9 +77,10 @@ choices_made seen old new names (Err fault) made none =
     subst (λ now. IsTransition (seen old) (seen now) NoEvent) (sym none) (no_work (seen old))
 
 -- nothing was chosen, and this is why
-pub not_listed : (book : List ℕ) (shelf : Shelf) (result : Result ListAnswered CommandFault)
-    (found : CommandFault) → IsErr result → IsErrAnd result (λ why. why ≡ found)
-    → ChoosesNothing (shelf.refuses book) found → ComesOfList book shelf shelf result
-not_listed book shelf (Ok answered) found bad is why = absurd (true≢false (sym bad))
-not_listed book shelf (Err fault) found bad is why =
+pub not_listed : (had : Option (List ℕ)) (book : List ℕ) (shelf : Shelf)
+    (result : Result ListAnswered CommandFault) (found : CommandFault) → IsErr result
+    → IsErrAnd result (λ why. why ≡ found) → ChoosesNothing (shelf.refuses book) found
+    → ComesOfList had book shelf shelf result
+not_listed had book shelf (Ok answered) found bad is why = absurd (true≢false (sym bad))
+not_listed had book shelf (Err fault) found bad is why =
     (subst (ChoosesNothing (shelf.refuses book)) (sym is) why, untouched book shelf)

@@ -1,7 +1,8 @@
 -- Choices by the names of a list in a file: what the list has to be, what the books are asked, what is
 -- written, and how the command ends.
-use Rattle.std.specs.Prelude.{◌≡◌, ◌⊎◌, ◌+◌, true, ℕ, List, length}
+use Rattle.std.specs.Prelude.{◌≡◌, ◌⊎◌, ◌+◌, true, ℕ, List, length, take}
 use Rattle.std.specs.Prelude.{Option, Some, None, IfSome, Result, Ok, Err}
+use Rattle.std.specs.Option.{option_map}
 use Rattle.std.specs.declared.alloc.AllocError.{AllocError}
 use Rattle.book_model.specs.declared.fault.LedgerFault.{LedgerFault}
 use Rattle.book_model.specs.declared.fault.LedgerFault.TheVariants as ledger
@@ -30,6 +31,15 @@ AreListed names = (text : List ℕ) × (names_in text ≡ Ok names)
 -- where it is known what a reader had to give, they are the names of all of that
 abbrev pub AreAllOf : Option (List ℕ) → List (List ℕ) → Type 0
 AreAllOf had names = IfSome had (λ bytes. names_in bytes ≡ Ok names)
+
+-- So many bytes of a list are read: one more than the longest has, with 64 digits for each name and two
+-- bytes after them. Of a list that has more, these have a line that is no name, or one too many.
+abbrev pub most_read : ℕ
+most_read = 66_000_001
+
+-- what is read of a list that has these bytes, where that is known
+abbrev pub front_of : Option (List ℕ) → Option (List ℕ)
+front_of had = option_map (take most_read) had
 
 -- its text is no list of names
 pub record IsNoList (why : CommandFault) : Type 0 where
@@ -72,10 +82,12 @@ pub record IsListAnswered (names : List (List ℕ)) (book : List ℕ) (old new :
   pub says : answered.chosen ≡ chosen_of told
   pub log : new.has_log book answered.has_log
 
--- so with the names of a list
-pub record AnswersList (book : List ℕ) (old new : Shelf) (answered : ListAnswered) : Type 0 where
+-- so with the names of a list in a file that had these bytes
+pub record AnswersList (had : Option (List ℕ)) (book : List ℕ) (old new : Shelf)
+    (answered : ListAnswered) : Type 0 where
   pub names : List (List ℕ)
   pub listed : AreListed names
+  pub all : AreAllOf (front_of had) names
   pub came : IsListAnswered names book old new answered
 
 -- why nothing is chosen, of books that are refused for these reasons
@@ -83,9 +95,10 @@ abbrev pub ChoosesNothing : (RepositoryFault → Type 0) → CommandFault → Ty
 ChoosesNothing Refuses why = IsShelfFault Refuses why ⊎ IsListFault why
 
 -- what came of a list
-abbrev pub ComesOfList : List ℕ → Shelf → Shelf → Result ListAnswered CommandFault → Type 0
-ComesOfList book old new (Ok answered) = AnswersList book old new answered
-ComesOfList book old new (Err why) =
+abbrev pub ComesOfList : Option (List ℕ) → List ℕ → Shelf → Shelf → Result ListAnswered CommandFault
+    → Type 0
+ComesOfList had book old new (Ok answered) = AnswersList had book old new answered
+ComesOfList had book old new (Err why) =
     ChoosesNothing (old.refuses book) why × IsUntouched book old new
 
 -- the refusal of the choice on the line of this number, if it was refused
@@ -127,8 +140,8 @@ TellsList (Ok answered) held holds Failed ended = TellsListAnswered answered hel
 TellsList (Err why) held holds Failed ended = (holds ≡ held) × (ended ≡ without_log (Err why))
 
 -- The command: what came of the list, and what was told of that.
-pub record ChoosesListed (book : List ℕ) (old new : Shelf) (held holds : Option (List ℕ))
-    (Failed : Type 0) (ended : Ended) : Type 0 where
+pub record ChoosesListed (had : Option (List ℕ)) (book : List ℕ) (old new : Shelf)
+    (held holds : Option (List ℕ)) (Failed : Type 0) (ended : Ended) : Type 0 where
   pub answered : Result ListAnswered CommandFault
-  pub comes : ComesOfList book old new answered
+  pub comes : ComesOfList had book old new answered
   pub tells : TellsList answered held holds Failed ended

@@ -41,7 +41,8 @@ use Rattle.chargectl.specs.declared.choices.ListAnswered.{ListAnswered}
 use Rattle.chargectl.specs.declared.dated_rulings.DatedAnswer.{DatedAnswer}
 use Rattle.chargectl.specs.declared.answered.Answered.{Answered}
 use Rattle.chargectl.specs.declared.streamed_lists.StreamedList.{StreamedList}
-use Rattle.chargectl.specs.Choices.{AreListed, ChoosesNothing, TellsList, chosen_of}
+use Rattle.chargectl.specs.Choices.{AreAllOf, AreListed, ChoosesNothing, TellsList, chosen_of}
+use Rattle.chargectl.specs.Choices.{front_of}
 use Rattle.chargectl.specs.Commands.{AsksNothing, IsAskedBy, IsShelfFault, Tells, answer_of}
 use Rattle.chargectl.specs.Commands.{answer_told, first_fault, may_change, notice_of}
 use Rattle.chargectl.specs.DryRuns.{ShowsDry}
@@ -178,27 +179,29 @@ abbrev pub ChoicesFollow : Naming → List Event → List (List ℕ) → Result 
 ChoicesFollow naming history names (Ok chosen) made = ChoicesMade naming history names chosen made
 ChoicesFollow naming history names (Err none) made = made ≡ []
 
--- the names of a list were chosen, and so it was told
-pub record ListOf (naming : Naming) (history : List Event) (Refuses : RepositoryFault → Type 0)
-    (answered : ListAnswered) (made : List Event) : Type 0 where
+-- the names of a list, in a file that had these bytes, were chosen, and so it was told
+pub record ListOf (had : Option (List ℕ)) (naming : Naming) (history : List Event)
+    (Refuses : RepositoryFault → Type 0) (answered : ListAnswered) (made : List Event) : Type 0 where
   pub names : List (List ℕ)
   pub listed : AreListed names
+  pub all : AreAllOf (front_of had) names
   pub told : Result (Result Chosen AllocError) RepositoryFault
   pub follows : OpenedSo Refuses (ChoicesFollow naming history names) told made
   pub says : answered.chosen ≡ chosen_of told
 
 -- or none were
-abbrev pub ListBy : Naming → List Event → (RepositoryFault → Type 0)
+abbrev pub ListBy : Option (List ℕ) → Naming → List Event → (RepositoryFault → Type 0)
     → Result ListAnswered CommandFault → List Event → Type 0
-ListBy naming history Refuses (Ok answered) made = ListOf naming history Refuses answered made
-ListBy naming history Refuses (Err why) made = ChoosesNothing Refuses why × (made ≡ [])
+ListBy had naming history Refuses (Ok answered) made =
+    ListOf had naming history Refuses answered made
+ListBy had naming history Refuses (Err why) made = ChoosesNothing Refuses why × (made ≡ [])
 
 -- and that was written
-pub record ListOfHistory (naming : Naming) (history : List Event)
+pub record ListOfHistory (had : Option (List ℕ)) (naming : Naming) (history : List Event)
     (Refuses : RepositoryFault → Type 0) (held holds : Option (List ℕ)) (Failed : Type 0)
     (ended : Ended) (made : List Event) : Type 0 where
   pub came : Result ListAnswered CommandFault
-  pub listed : ListBy naming history Refuses came made
+  pub listed : ListBy had naming history Refuses came made
   pub tells : TellsList came held holds Failed ended
 
 -- One client was replied to, and these events were made; or the place refused the books, for any reason.
@@ -311,7 +314,7 @@ DoesToHistory files naming history Refuses (book.Serve port requests) held holds
 DoesToHistory files naming history Refuses (book.List asked) held holds Failed ended made =
     ListsAskedOfHistory (list_of asked) naming history Refuses held holds ended made
 DoesToHistory files naming history Refuses (book.ChooseListed file) held holds Failed ended made =
-    ListOfHistory naming history Refuses held holds Failed ended made
+    ListOfHistory (files file.now) naming history Refuses held holds Failed ended made
 DoesToHistory files naming history Refuses (book.DryRun ruling) held holds Failed ended made =
     TriesOfHistory files naming history Refuses ruling held holds Failed ended made
 DoesToHistory files naming history Refuses asked held holds Failed ended made =

@@ -106,7 +106,7 @@ Does files shelf (book.Serve port requests) name old new held holds Failed ended
 Does files shelf (book.List asked) name old new held holds Failed ended =
     SettlesBy (ListsAsked (list_of asked) name (shelf old) (shelf new) held holds Failed) ended
 Does files shelf (book.ChooseListed file) name old new held holds Failed ended =
-    ChoosesListed name (shelf old) (shelf new) held holds Failed ended
+    ChoosesListed (files file.now) name (shelf old) (shelf new) held holds Failed ended
 Does files shelf (book.DryRun ruling) name old new held holds Failed ended =
     TriesAndTells files ruling name (shelf old) (shelf new) held holds Failed ended
 Does files shelf asked name old new held holds Failed ended =

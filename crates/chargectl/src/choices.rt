@@ -7,7 +7,8 @@ ghost use Rattle.office.specs.Choices as choices;
 ghost use Rattle.chargectl.specs.Choices as spec;
 ghost use Rattle.chargectl.specs.Choices.{AreAllOf, AreListed, ChoosesBy, ChoosesListed};
 ghost use Rattle.chargectl.specs.Choices.{ComesOfList, EndsChoices, IsListAnswered, IsListFault};
-ghost use Rattle.chargectl.specs.Choices.{TellsChoices, TellsList, chosen_of, list_answered};
+ghost use Rattle.chargectl.specs.Choices.{TellsChoices, TellsList, chosen_of, front_of};
+ghost use Rattle.chargectl.specs.Choices.{list_answered};
 ghost use Rattle.chargectl.specs.Commands.{IsPrinted};
 
 use crate::book_commands::print;
@@ -16,10 +17,9 @@ use named_books::{Opened, Repository, RepositoryFault, Visit};
 use office::{Answer, Chosen, answer_lines, choose_each};
 use program_output::{MAX_NAMES, NameList};
 use std::alloc::{AllocError, Global};
-use std::fs;
 use std::io::{BufReader, Read};
 use streams::Writer;
-use without_books::{CommandFault, Ended};
+use without_books::{CommandFault, Ended, Inputs};
 
 /// How many bytes of a list are read: one more than a list has that is as long as it may be, for each
 /// name its digits and the two bytes after them. So many have a line that is no name, or one too many.
@@ -58,41 +58,62 @@ pub(crate) struct ListAnswered {
 
 /// Chooses the records that a list names, one after the other up to the first refusal, and writes
 /// the answers.
-pub(crate) fn choose_listed<S: Repository, O: Writer + Drop>(
-    rt: &HostRuntime,
+pub(crate) fn choose_listed<S: Repository, F: Inputs, O: Writer + Drop>(
+    alloc: Global,
     repository: &mut S,
+    inputs: &F,
     book: &str,
     file: &str,
     output: O,
 ) -> (Ended, O)
-    ensures { ChoosesListed book.now (S.shelf repository.old) (S.shelf repository.new)
-        (O.contents output) (O.contents result.1) (∥ HasFailed O.may_answer result.1 ∥₁) result.0 }
+    ensures { ChoosesListed (F.held inputs.now file.now) book.now (S.shelf repository.old)
+        (S.shelf repository.new) (O.contents output) (O.contents result.1)
+        (∥ HasFailed O.may_answer result.1 ∥₁) result.0 }
 {
-    let answered = ask_listed(rt, repository, book, file);
-    tell_list(rt.alloc(), answered, output)
+    let answered = ask_listed(alloc, repository, inputs, book, file);
+    tell_list(alloc, answered, output)
 }
 
 /// What comes of a list.
-fn ask_listed<S: Repository>(
-    rt: &HostRuntime,
+fn ask_listed<S: Repository, F: Inputs>(
+    alloc: Global,
     repository: &mut S,
+    inputs: &F,
     book: &str,
     file: &str,
 ) -> Result<ListAnswered, CommandFault>
-    ensures { ComesOfList book.now (S.shelf repository.old) (S.shelf repository.new) result }
+    ensures { ComesOfList (F.held inputs.now file.now) book.now (S.shelf repository.old)
+        (S.shelf repository.new) result }
 {
     repository.expect(book)?;
-    let names = read_list(rt, file)?;
-    Ok(choose_names(rt.alloc(), repository, book, names))
+    let names = read_list(alloc, inputs, file)?;
+    Ok(choose_names(alloc, repository, book, names))
 }
 
-/// The names of a list in a file. All its lines are looked at before a record is chosen.
-fn read_list(rt: &HostRuntime, file: &str) -> Result<Vec<[u8; 32]>, CommandFault>
+/// The names of a list in a file.
+fn read_list<F: Inputs>(
+    alloc: Global,
+    inputs: &F,
+    file: &str,
+) -> Result<Vec<[u8; 32]>, CommandFault>
     ensures listed { IfOk result (λ names. AreListed names.items) }
+    ensures all { IfOk result (λ names. AreAllOf (front_of (F.held inputs.now file.now))
+        names.items) }
     ensures refused { IfErr result IsListFault }
 {
-    let reader = BufReader::new(rt.alloc(), fs::open(rt, file)?)?;
-    read_names(rt.alloc(), reader.take(MOST_BYTES))
+    let input = inputs.open(file)?;
+    read_front(alloc, input)
+}
+
+/// The names of a list that a reader gives, of which no more is read than a list may have. All its
+/// lines are looked at before a record is chosen.
+fn read_front<R: Read + Drop>(alloc: Global, reader: R) -> Result<Vec<[u8; 32]>, CommandFault>
+    ensures listed { IfOk result (λ names. AreListed names.items) }
+    ensures all { IfOk result (λ names. AreAllOf (front_of (R.remaining reader)) names.items) }
+    ensures refused { IfErr result IsListFault }
+{
+    let buffered = BufReader::new(alloc, reader)?;
+    read_names(alloc, buffered.take(MOST_BYTES))
 }
 
 /// The names of a list that a reader gives, which is read to its end.

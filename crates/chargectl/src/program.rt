@@ -128,7 +128,9 @@ fn run_on_books<S: AuditedRepository, F: Inputs, O: Writer + Drop>(
         BookRequest::Init => (Ended::without_log(made(repository.make(book))), output),
         BookRequest::Rule(ruling) => tell(rule(rt, repository, inputs, book, ruling), output),
         BookRequest::Import(dump) => tell(import_dump(rt, repository, book, dump), output),
-        BookRequest::ChooseListed { file } => choose_listed(rt, repository, book, file, output),
+        BookRequest::ChooseListed { file } => {
+            choose_listed(rt.alloc(), repository, inputs, book, file, output)
+        }
         BookRequest::DryRun(ruling) => tell(dry_run(rt, repository, inputs, book, ruling), output),
         BookRequest::Report(words) => tell(report(rt, repository, book, words), output),
         BookRequest::List(words) => {
