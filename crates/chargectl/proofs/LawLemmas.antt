@@ -198,14 +198,14 @@ module _ (naming : Naming) (history : List Event) (name : List ℕ) (old new : S
   -- the office was asked once
   asked_on : (book : List ℕ) (asked : Asked) (had : Option (List ℕ)) (told : Result Answer LedgerFault)
       → IsDoneTo book (AsksOnceBy naming asked had told) old new
-      → Step naming history name old new (Where book name (Follows naming history asked told))
+      → Step naming history name old new (Where book name (Follows naming history asked had told))
   asked_on book asked had told done =
       step_as (λ made so. (λ same. follows_of made (so.0 same), so.1))
       (work_on book (AsksOnceBy naming asked had told)
       (once_answered naming asked had (response_by told)) done)
     where
       follows_of : (made : List Event) → Makes (AsksOnceBy naming asked had told) history made
-          → Follows naming history asked told made
+          → Follows naming history asked had told made
       follows_of made it =
           let once = it.made_so in
           let work = subst
@@ -214,6 +214,7 @@ module _ (naming : Naming) (history : List Event) (name : List ℕ) (old new : S
           record {
             dump = once.dump;
             input = once.input;
+            begun = once.begun;
             given = once.given;
             left = it.is;
             work = work;
@@ -307,6 +308,8 @@ module _ (history : List Event) (name : List ℕ) (old new : Shelf)
         λ same. record {
           asked = comes.asked;
           words = comes.words;
+          had = comes.had;
+          dump = comes.dump;
           told = comes.came.told;
           follows = so.0 same;
           says = comes.came.says;
@@ -314,7 +317,8 @@ module _ (history : List Event) (name : List ℕ) (old new : Shelf)
         so.1,
       ))
       (opened_on old.naming history name old new answered held book (Refuses book) (follow book)
-      (AsksOnceBy old.naming comes.asked comes.had) (Follows old.naming history comes.asked)
+      (AsksOnceBy old.naming comes.asked comes.had)
+      (Follows old.naming history comes.asked comes.had)
       (asked_on old.naming history name old new answered held book comes.asked comes.had)
       comes.came.told comes.came.done)
   comes_on files book request (Err why) comes =

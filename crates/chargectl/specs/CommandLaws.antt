@@ -43,7 +43,7 @@ use Rattle.chargectl.specs.declared.answered.Answered.{Answered}
 use Rattle.chargectl.specs.declared.streamed_lists.StreamedList.{StreamedList}
 use Rattle.chargectl.specs.Choices.{AreAllOf, AreListed, ChoosesNothing, TellsList, chosen_of}
 use Rattle.chargectl.specs.Choices.{front_of}
-use Rattle.chargectl.specs.Commands.{AsksNothing, IsAskedBy, IsShelfFault, Tells, answer_of}
+use Rattle.chargectl.specs.Commands.{AsksNothing, HasDump, IsAskedBy, IsShelfFault, Tells, answer_of}
 use Rattle.chargectl.specs.Commands.{answer_told, first_fault, may_change, notice_of}
 use Rattle.chargectl.specs.DryRuns.{ShowsDry}
 use Rattle.chargectl.specs.Requests.{Answering, CommandsBy, IsServiceFault, WritesEarly, WritesLines}
@@ -77,14 +77,16 @@ AreCommanded shelf waits contents may_answer Says before (command ∷ later) =
     may_answer command.held command.holds Says command.quiet command.said command.status
     × AreCommanded shelf waits contents may_answer Says command.after later
 
--- After a history this was asked and told, and it made these events, the newest first. A refusal made
--- none, and neither did a lack of memory: a fault of the store alone leaves it open whether the events
--- of the answer were made. What only reads made none, whatever it told. Unless a lack of memory or the
--- store hindered it, all of this is what the definitions say of the history, looked at as a whole.
-pub record Follows (naming : Naming) (history : List Event) (asked : Asked)
+-- After a history this was asked and told, with a reader of these bytes, and it made these events, the
+-- newest first. A refusal made none, and neither did a lack of memory: a fault of the store alone leaves
+-- it open whether the events of the answer were made. What only reads made none, whatever it told. Unless
+-- a lack of memory or the store hindered it, all of this is what the definitions say of the history,
+-- looked at as a whole.
+pub record Follows (naming : Naming) (history : List Event) (asked : Asked) (had : Option (List ℕ))
     (told : Result Answer LedgerFault) (made : List Event) : Type 0 where
   pub dump : Dump
   pub input : Input
+  pub begun : input.old.left ≡ had
   pub given : Gives asked dump (response_by told) input
   pub left : Bool
   pub work : Asks naming asked dump (response_by told) false (book_of history) made left
@@ -108,8 +110,10 @@ pub record AskedOf (files : Files) (naming : Naming) (history : List Event)
     (made : List Event) : Type 0 where
   pub asked : Asked
   pub words : IsAskedBy files request asked
+  pub had : Option (List ℕ)
+  pub dump : HasDump files request had
   pub told : Result (Result Answer LedgerFault) RepositoryFault
-  pub follows : OpenedSo Refuses (Follows naming history asked) told made
+  pub follows : OpenedSo Refuses (Follows naming history asked had) told made
   pub says : answered.answer ≡ answer_of told
 
 -- or nothing was asked

@@ -1,7 +1,8 @@
 -- What each command on books asks of the office, what is written, and how it ends.
-use Rattle.std.specs.Prelude.{◌≡◌, ◌⊎◌, Bool, true, false, ℕ, List, [], Option, Some, None, Result}
+use Rattle.std.specs.Prelude.{◌≡◌, ◌⊎◌, ⊤, Bool, true, false, ℕ, List, [], Option, Some, None, Result}
 use Rattle.std.specs.Prelude.{Ok, Err, IfSome, string_bytes}
 use Rattle.std.specs.Borrow.{Bor}
+use Rattle.std.specs.Io.KnownBytes.{Keeps}
 use Rattle.std.specs.Option.{option_map}
 use Rattle.smf_text.specs.Day.{day_of_text_of}
 use Rattle.streams.specs.InputOutput.{Input}
@@ -205,15 +206,21 @@ pub record IsDated (asked : Asked) (book : List ℕ) (old new : Shelf) (answered
     pub notice : answered.notice ≡ notice_of told
 
 -- What a command noticed beside its answer: of a tariff and a close whether the day is far, of an import
--- the layout, of others nothing. No contract says what the file of a dump holds.
-abbrev pub IsNoticedBy : BookRequest → Asked → List ℕ → Shelf → Shelf → Answered → Type 0
-IsNoticedBy (book.Rule (ruling.Tariff file)) asked name old new answered =
+-- the layout, of others nothing.
+abbrev pub IsNoticedBy : Files → BookRequest → Asked → List ℕ → Shelf → Shelf → Answered → Type 0
+IsNoticedBy files (book.Rule (ruling.Tariff file)) asked name old new answered =
     IsDated asked name old new answered
-IsNoticedBy (book.Rule (ruling.Close period date)) asked name old new answered =
+IsNoticedBy files (book.Rule (ruling.Close period date)) asked name old new answered =
     IsDated asked name old new answered
-IsNoticedBy (book.Import dump) asked name old new answered = (looked : Bool)
-    × IsLookedAt dump.layout None looked × (answered.notice ≡ answer_notice looked answered.answer)
-IsNoticedBy request asked name old new answered = answered.notice ≡ None
+IsNoticedBy files (book.Import dump) asked name old new answered =
+    (looked : Bool) × IsLookedAt dump.layout (files dump.file.now) looked
+    × (answered.notice ≡ answer_notice looked answered.answer)
+IsNoticedBy files request asked name old new answered = answered.notice ≡ None
+
+-- what the reader of a request had: of an import, what the file of its dump holds
+abbrev pub HasDump : Files → BookRequest → Option (List ℕ) → Type 0
+HasDump files (book.Import dump) had = Keeps (files dump.file.now) had
+HasDump files request had = ⊤
 
 -- a ruling has a day, which may be far from the records
 abbrev pub is_dated : Ruling → Bool
@@ -222,14 +229,15 @@ is_dated (ruling.Close period date) = true
 is_dated (ruling.Choose digest) = false
 is_dated ruling.Adopt = false
 
--- A command asked what its words ask. No contract says what the file of a dump had.
+-- A command asked what its words ask.
 pub record Asking (files : Files) (request : BookRequest) (book : List ℕ) (old new : Shelf)
     (answered : Answered) : Type 0 where
   pub asked : Asked
   pub words : IsAskedBy files request asked
   pub had : Option (List ℕ)
   pub came : IsAnswered asked had book old new answered
-  pub notice : IsNoticedBy request asked book old new answered
+  pub dump : HasDump files request had
+  pub notice : IsNoticedBy files request asked book old new answered
 
 -- What came of a command: the office was asked just what its words ask, once; or nothing was asked.
 abbrev pub ComesOf : Files → BookRequest → List ℕ → Shelf → Shelf → Result Answered CommandFault

@@ -145,7 +145,7 @@ Runs files shelf waits old new (request.Trial layout cpu excp fee) had held hold
 Runs files shelf waits old new (request.TrialUnder layout file) had held holds Failed ended =
     (new ≡ old) × TriesUnder (files file.now) layout had held holds Failed ended
 Runs files shelf waits old new (request.Check dump) had held holds Failed ended =
-    (new ≡ old) × Checks dump.layout held holds Failed ended
+    (new ≡ old) × Checks (files dump.file.now) dump.layout held holds Failed ended
 Runs files shelf waits old new (request.Explain kind number) had held holds Failed ended =
     (new ≡ old) × EndsAt (TellsOf (kind_of kind) number held holds Failed) ended
 Runs files shelf waits old new (request.OfBooks name wait asked) had held holds Failed ended =

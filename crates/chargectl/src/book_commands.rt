@@ -9,7 +9,6 @@ ghost use Rattle.office.specs.Answers.{answer_text};
 ghost use Rattle.office.specs.Requests.{IsAskableUnread, response_by, response_of};
 ghost use Rattle.office.proofs.AskLemmas.{askable_once};
 ghost use Rattle.without_books.specs.FirstBytes.{left_of};
-ghost use Rattle.without_books.specs.Inputs.{Files};
 ghost use Rattle.chargectl.specs.Commands as spec;
 ghost use Rattle.chargectl.specs.Commands.{AsksOnce, once_answered, ComesOf, IsAnswered, IsPrinted};
 ghost use Rattle.chargectl.specs.Commands.{IsTold, Tells, answer_of};
@@ -27,8 +26,8 @@ use std::io;
 use std::io::{IsTerminal, Read};
 use streams::Writer;
 use without_books::{
-    CommandFault, Ended, Inputs, LookedAt, Notice, WatchedReader, clear_line, end_of,
-    layout_notice, let_out, look_at,
+    CommandFault, Ended, Inputs, LookedAt, Notice, clear_line, end_of, layout_notice, let_out,
+    look_at, open_watched,
 };
 
 /// A request to the office, with the reader of its dump.
@@ -235,19 +234,20 @@ pub(crate) fn rule<S: Repository, F: Inputs>(
 }
 
 /// Reads a dump into the books, whatever stops the import.
-pub(crate) fn import_dump<S: Repository>(
+pub(crate) fn import_dump<S: Repository, F: Inputs>(
     rt: &HostRuntime,
     repository: &mut S,
+    inputs: &F,
     book: &str,
     dump: DumpFile<'_>,
 ) -> Result<Answered, CommandFault>
-    ensures { (files : Files) → ComesOf files (BookRequest.Import dump.entry) book.now
+    ensures { ComesOf (F.held inputs.now) (BookRequest.Import dump.entry) book.now
         (S.shelf repository.old) (S.shelf repository.new) result }
 {
     repository.expect(book)?;
     let asked = Asked::Import(dump.layout);
     let is_shown = !dump.quiet && rt.stderr().is_terminal();
-    let input = WatchedReader::open(rt, dump.file, is_shown)?;
+    let input = open_watched(rt, inputs, dump.file, is_shown)?;
     let LookedAt { reader, is_misread } = look_at(rt.alloc(), dump.layout, input);
     let mut answered = ask_books(rt, repository, book, asked, reader);
     clear_line(rt, is_shown);

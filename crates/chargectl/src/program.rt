@@ -88,7 +88,7 @@ where
         Request::TrialUnder { layout, file } => {
             run_trial_under(rt.alloc(), inputs, layout, file, input, output)
         }
-        Request::Check(dump) => check(rt, dump, output),
+        Request::Check(dump) => check(rt, inputs, dump, output),
         Request::Explain { kind, number } => {
             let came = explain(rt.alloc(), kind, number, &mut output);
             (Ended::without_log(came), output)
@@ -127,7 +127,9 @@ fn run_on_books<S: AuditedRepository, F: Inputs, O: Writer + Drop>(
     match asked {
         BookRequest::Init => (Ended::without_log(made(repository.make(book))), output),
         BookRequest::Rule(ruling) => tell(rule(rt, repository, inputs, book, ruling), output),
-        BookRequest::Import(dump) => tell(import_dump(rt, repository, book, dump), output),
+        BookRequest::Import(dump) => {
+            tell(import_dump(rt, repository, inputs, book, dump), output)
+        }
         BookRequest::ChooseListed { file } => {
             choose_listed(rt.alloc(), repository, inputs, book, file, output)
         }

@@ -125,10 +125,11 @@ pub record IsUnopened (held holds : Option (List ℕ)) (ended : Ended) : Type 0 
   pub none : holds ≡ held
   pub ends : ended ≡ without_log (Err (io_fault why))
 
--- A check of a file. No contract says what the file holds.
-abbrev pub Checks : Layout → Option (List ℕ) → Option (List ℕ) → Type 0 → Ended → Type 0
-Checks layout held holds Failed ended =
-    Lists layout None held holds Failed ended ⊎ IsUnopened held holds ended
+-- a check of a file that had these bytes, where that is known
+abbrev pub Checks : Option (List ℕ) → Layout → Option (List ℕ) → Option (List ℕ) → Type 0 → Ended
+    → Type 0
+Checks had layout held holds Failed ended =
+    Lists layout had held holds Failed ended ⊎ IsUnopened held holds ended
 
 -- what a number stands for, by its word, or a word that has none
 abbrev pub kind_of : NumberKind → FaultKind

@@ -9,7 +9,8 @@ ghost use Rattle.without_books.specs.Reading.{Checks, Lists, check_end};
 use crate::command_fault::CommandFault;
 use crate::ended::Ended;
 use crate::first_bytes::{LookedAt, look_at};
-use crate::progress::{WatchedReader, clear_line};
+use crate::inputs::Inputs;
+use crate::progress::{clear_line, open_watched};
 use book_core::{Sink, Source};
 use book_import::{MAX_READS, Stop};
 use book_reports::ReportFault;
@@ -22,19 +23,25 @@ use streams::Writer;
 
 /// Says what each record of a file is. Where the list goes to a terminal, the list itself shows how
 /// far it is.
-pub fn check<O: Writer + Drop>(rt: &HostRuntime, dump: DumpFile<'_>, output: O) -> (Ended, O)
-    ensures { Checks dump.entry.layout (O.contents output) (O.contents result.1)
-        (∥ HasFailed O.may_answer result.1 ∥₁) result.0 }
+pub fn check<F: Inputs, O: Writer + Drop>(
+    rt: &HostRuntime,
+    inputs: &F,
+    dump: DumpFile<'_>,
+    output: O,
+) -> (Ended, O)
+    ensures { Checks (F.held inputs.now dump.entry.file.now) dump.entry.layout (O.contents output)
+        (O.contents result.1) (∥ HasFailed O.may_answer result.1 ∥₁) result.0 }
 {
     let layout = dump.layout;
     let is_shown = !dump.quiet && rt.stderr().is_terminal() && !rt.stdout().is_terminal();
-    let reader = match WatchedReader::open(rt, dump.file, is_shown) {
-        Ok(reader) => reader,
-        Err(error) => return (Ended::without_log(Err(CommandFault::from(error))), output),
-    };
-    let (ended, output) = list_dump(rt.alloc(), layout, reader, output);
-    clear_line(rt, is_shown);
-    (ended, output)
+    match open_watched(rt, inputs, dump.file, is_shown) {
+        Ok(reader) => {
+            let listed = list_dump(rt.alloc(), layout, reader, output);
+            clear_line(rt, is_shown);
+            listed
+        }
+        Err(error) => (Ended::without_log(Err(CommandFault::from(error))), output),
+    }
 }
 
 /// Says what each record is that a reader gives.

@@ -19,6 +19,11 @@ pub trait Inputs {
     /// Opens the file of a name, which is read from its begin.
     fn open(&self, name: &str) -> io::Result<Self::Input>
         ensures { IfOk result (λ input. Self.Input.remaining input ≡ held self.now name.now) };
+
+    /// How many bytes a file has, where it has a fixed size. It is only shown.
+    fn size_of(&self, _input: &Self::Input) -> Option<u64> {
+        None
+    }
 }
 
 /// The files that this machine has.
@@ -43,5 +48,14 @@ impl Inputs for HostInputs<'_> {
 
     fn open(&self, name: &str) -> io::Result<File> {
         fs::open(self.rt, name)
+    }
+
+    fn size_of(&self, input: &File) -> Option<u64> {
+        let metadata = input.metadata().ok()?;
+        if metadata.is_file() {
+            Some(metadata.len())
+        } else {
+            None
+        }
     }
 }

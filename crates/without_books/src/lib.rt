@@ -29,7 +29,7 @@ pub use inputs::{HostInputs, Inputs};
 pub use notice::{Notice, layout_notice};
 pub use ports::listen_here;
 pub use printed_text::{let_out, print_text};
-pub use progress::{ProgressLine, WatchedReader, clear_line};
+pub use progress::{ProgressLine, WatchedReader, clear_line, open_watched};
 pub use served_lines::ServedLines;
 pub use tariff_texts::tariff_text;
 pub use trials::{run_trial, run_trial_under};

@@ -1,12 +1,13 @@
 //! How far a long command is, on one line of standard error, where that is a terminal. How wide it is
 //! can't be asked; a line has at most 39 characters, so that none is wrapped, and left behind, at 40.
 
-ghost use Rattle.std.specs.Prelude.{◌≤◌};
+ghost use Rattle.std.specs.Prelude.{◌≡◌, ◌≤◌, IfOk};
+ghost use Rattle.without_books.specs.Inputs.{watched_remaining};
 
-use std::fs::File;
+use crate::inputs::Inputs;
+use std::io;
 use std::io::{Read, Write};
 use std::time::{Duration, Instant};
-use std::{fs, io};
 
 /// How long a line stays at least, in milliseconds.
 const LEAST_SHOWN: u64 = 500;
@@ -121,16 +122,6 @@ fn megabytes_of(bytes: u64) -> u64 {
     bytes.div_ceil(MEGABYTE)
 }
 
-/// The bytes of a file, where it has a fixed size.
-fn size_of(file: &File) -> Option<u64> {
-    let metadata = file.metadata().ok()?;
-    if metadata.is_file() {
-        Some(metadata.len())
-    } else {
-        None
-    }
-}
-
 /// A reader that shows how far it was read, up to its end or a failure.
 #[derive(Drop)]
 pub struct WatchedReader<'a, R: Read + Drop> {
@@ -138,25 +129,27 @@ pub struct WatchedReader<'a, R: Read + Drop> {
     progress: Option<Progress<'a>>,
 }
 
-impl<'a> WatchedReader<'a, File> {
-    /// Opens the file of a dump, whose progress is shown where that is asked for.
-    pub fn open(
-        rt: &'a HostRuntime,
-        file: &str,
-        is_shown: bool,
-    ) -> io::Result<WatchedReader<'a, File>> {
-        let inner = fs::open(rt, file)?;
-        let progress = if is_shown {
-            Progress::started(rt, size_of(&inner))
-        } else {
-            None
-        };
-        Ok(WatchedReader { inner, progress })
-    }
+/// Opens the file of a dump, whose progress is shown where that is asked for.
+pub fn open_watched<'a, F: Inputs>(
+    rt: &'a HostRuntime,
+    inputs: &F,
+    file: &str,
+    is_shown: bool,
+) -> io::Result<WatchedReader<'a, F::Input>>
+    ensures { IfOk result (λ watched. watched_remaining F.Input.remaining watched
+        ≡ F.held inputs.now file.now) }
+{
+    let inner = inputs.open(file)?;
+    let progress = if is_shown {
+        Progress::started(rt, inputs.size_of(&inner))
+    } else {
+        None
+    };
+    Ok(WatchedReader { inner, progress })
 }
 
 impl<R: Read + Drop> Read for WatchedReader<'_, R> {
-    ghost remaining = { λ watched. R.remaining watched.inner };
+    ghost remaining = { watched_remaining R.remaining };
 
     fn read(&mut self, buffer: &mut [u8]) -> io::Result<usize> {
         let answer = self.inner.read(buffer);

@@ -1,11 +1,6 @@
 use Rattle.std.proofs.Common.{rules}
 use Rattle.chargectl.proofs.program.run_on_books.Goals as goal
 
-pub returns-in-Import : goal.returns-in-Import
-returns-in-Import g c =
-    let comes = c.import_dump.ensures (g.F.Inputs.held c.args.inputs.now) in
-    search rules
-
 pub returns-in-Report : goal.returns-in-Report
 returns-in-Report g c =
     let comes = c.report.ensures (g.F.Inputs.held c.args.inputs.now) in
