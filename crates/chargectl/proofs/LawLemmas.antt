@@ -13,6 +13,9 @@ use Rattle.book_core.specs.Calls.{Calls, listed}
 use Rattle.book_model.proofs.StepLemmas.{books_follow_history}
 use Rattle.book_core.specs.Follow.{MakesAnswered}
 use Rattle.book_core.specs.Transition.{Transition, NoEvent}
+use Rattle.book_audit.specs.Copies.{IsAudited}
+use Rattle.book_audit.specs.declared.audited.Audited.{Audited}
+use Rattle.book_audit.specs.declared.audited.Audited.TheVariants.{Sound, Unsound}
 use Rattle.book_reports.specs.declared.fault.ReportFault.{ReportFault}
 use Rattle.book_reports.specs.StreamedAnswers.{WritesAnswerUntil, WritesUntilOrRefuses}
 use Rattle.book_core.proofs.FollowLemmas.{none_answered}
@@ -47,7 +50,8 @@ use Rattle.chargectl.specs.Choices.{list_answered}
 use Rattle.chargectl.specs.Commands.{AsksAndTells, AsksNothing, AsksOnceBy, ComesOf, IsFileFault}
 use Rattle.chargectl.specs.Commands.{may_change, once_answered}
 use Rattle.chargectl.specs.Audits.{AuditsBooks, BacksUp}
-use Rattle.chargectl.specs.CommandLaws.{AreCommanded, AskedBy, AsksOfHistory, Commanded}
+use Rattle.chargectl.specs.CommandLaws.{AreCommanded, AskedBy, AsksOfHistory, AuditsHistoryBy}
+use Rattle.chargectl.specs.CommandLaws.{AuditsOf, Commanded}
 use Rattle.chargectl.specs.CommandLaws.{ChoicesFollow, CommandsFollowHistory, DoesToHistory, Follows}
 use Rattle.chargectl.specs.CommandLaws.{IsListed, LeaveHistory, ListBy, ListOfHistory, ListsHistoryBy}
 use Rattle.chargectl.specs.CommandLaws.{ListsAskedOfHistory, ListsOfHistory, OpenedSo, RunsOn}
@@ -530,11 +534,39 @@ module _ (history : List Event) (name : List ℕ) (old new : Shelf)
   upgrades_on book has holds Failed (Ok ended) it = still_on book book it.done
   upgrades_on book has holds Failed (Err why) it = still_on book book it.1
 
+  -- what an audit told of the history that the books hold
+  audit_told : (book : List ℕ) (audited : Result Audited RepositoryFault) → book ≡ name
+      → IsAudited book old audited → AuditsOf history (Refuses book) audited
+  audit_told book (Ok (Sound counts)) same it =
+      it.1 history (subst (λ name. old.holds name history) (sym same) held)
+  audit_told book (Ok (Unsound finding)) same it = tt
+  audit_told book (Err fault) same it = follow book fault it
+
   audits_on : (book : List ℕ) (has holds : Option (List ℕ)) (Failed : Type 0)
       (came : Result Ended CommandFault) → AuditsBooks book old new has holds Failed came
-      → Step old.naming history name old new (Where book name (λ made. made ≡ []))
-  audits_on book has holds Failed (Ok ended) it = still_on book book it.done.0
-  audits_on book has holds Failed (Err why) it = still_on book book it.1
+      → Step old.naming history name old new
+      (Where book name (AuditsHistoryBy history (Refuses book) has holds Failed came))
+  audits_on book has holds Failed (Ok ended) it =
+      step_as (λ made so. (
+        λ same. record {
+          audited = it.audited;
+          says = audit_told book it.audited same it.done.1;
+          tells = it.ends;
+          none = so.0 same;
+        },
+        so.1,
+      ))
+      (still_on book book it.done.0)
+  audits_on book has holds Failed (Err why) it =
+      step_as (λ made so. (
+        λ same. (
+          shelf_as (old.refuses book) (Refuses book) (follow book) why it.0,
+          it.2,
+          so.0 same,
+        ),
+        so.1,
+      ))
+      (still_on book book it.1)
 
   backs_up_on : (book copy : List ℕ) (has holds : Option (List ℕ)) (Failed : Type 0)
       (came : Result Ended CommandFault) → BacksUp book copy old new has holds Failed came
@@ -602,8 +634,12 @@ module _ {S : Type 0} (shelf : S → Shelf) (history : List Event) (name : List 
       upgrades_on history name (shelf before) (shelf after) answered held Refuses follow book has holds
       Failed does.came does.does
   does_on files book (asks.Audit quiet) has holds Failed ended does =
-      audits_on history name (shelf before) (shelf after) answered held Refuses follow book has holds
-      Failed does.came does.does
+      step_as (λ made so. (
+        λ same. record { came = does.came; audits = so.0 same; ends = does.ends },
+        so.1,
+      ))
+      (audits_on history name (shelf before) (shelf after) answered held Refuses follow book has holds
+      Failed does.came does.does)
   does_on files book (asks.BackUp copy quiet) has holds Failed ended does =
       backs_up_on history name (shelf before) (shelf after) answered held Refuses follow book copy.now
       has holds Failed does.came does.does

@@ -1,6 +1,6 @@
 -- Commands, one after the other, on books that are kept by their names: each tells what the definitions
 -- give for the whole history before it.
-use Rattle.std.specs.Prelude.{◌≡◌, ◌≢◌, Bool, false, ℕ, List, [], ◌∷◌, ◌++◌, Option, None, Some}
+use Rattle.std.specs.Prelude.{◌≡◌, ◌≢◌, ⊤, Bool, false, ℕ, List, [], ◌∷◌, ◌++◌, Option, None, Some}
 use Rattle.std.specs.Prelude.{IfErr, IfOk, OnErr, OnOk, Result, Ok, Err, String, length, true}
 use Rattle.std.specs.Global.{Global}
 use Rattle.std.specs.declared.alloc.AllocError.{AllocError}
@@ -11,6 +11,9 @@ use Rattle.book_model.specs.declared.fault.LedgerFault.{LedgerFault}
 use Rattle.book_model.specs.declared.fault.LedgerFault.TheVariants.{Store}
 use Rattle.book_model.specs.Words.{Book, Event, IsMadeByCalls, Naming, book_after, book_of}
 use Rattle.book_core.specs.Transition.{Transition, NoEvent, Then}
+use Rattle.book_audit.specs.Counts.{AreCountsOf}
+use Rattle.book_audit.specs.declared.audited.Audited.{Audited}
+use Rattle.book_audit.specs.declared.audited.Audited.TheVariants.{Sound, Unsound}
 use Rattle.book_http.specs.declared.served.Served.{Served}
 use Rattle.book_http.specs.declared.served.Served.TheVariants as served
 use Rattle.book_reports.specs.declared.fault.ReportFault.{ReportFault}
@@ -41,6 +44,7 @@ use Rattle.chargectl.specs.declared.choices.ListAnswered.{ListAnswered}
 use Rattle.chargectl.specs.declared.dated_rulings.DatedAnswer.{DatedAnswer}
 use Rattle.chargectl.specs.declared.answered.Answered.{Answered}
 use Rattle.chargectl.specs.declared.streamed_lists.StreamedList.{StreamedList}
+use Rattle.chargectl.specs.Audits.{EndsAudit}
 use Rattle.chargectl.specs.Choices.{AreAllOf, AreListed, ChoosesNothing, TellsList, chosen_of}
 use Rattle.chargectl.specs.Choices.{front_of}
 use Rattle.chargectl.specs.Commands.{AsksNothing, HasDump, IsAskedBy, IsShelfFault, Tells, answer_of}
@@ -259,6 +263,36 @@ pub record ServesOfHistory (naming : Naming) (history : List Event)
   pub serves : ServesHistoryBy naming history Refuses requests held holds Failed came made
   pub ends : ended ≡ settled_as came
 
+-- Of sound books of a history an audit has the counts of the history. Of those that it calls unsound no
+-- more is said; others were refused.
+abbrev pub AuditsOf : List Event → (RepositoryFault → Type 0) → Result Audited RepositoryFault → Type 0
+AuditsOf history Refuses (Ok (Sound counts)) = AreCountsOf (book_of history) counts
+AuditsOf history Refuses (Ok (Unsound finding)) = ⊤
+AuditsOf history Refuses (Err fault) = Refuses fault
+
+-- so it was told, and no event was made
+pub record AuditsHistory (history : List Event) (Refuses : RepositoryFault → Type 0)
+    (held holds : Option (List ℕ)) (Failed : Type 0) (ended : Ended) (made : List Event) : Type 0 where
+  pub audited : Result Audited RepositoryFault
+  pub says : AuditsOf history Refuses audited
+  pub tells : EndsAudit audited held holds Failed ended.came
+  pub none : made ≡ []
+
+-- or the place refused the books before
+abbrev pub AuditsHistoryBy : List Event → (RepositoryFault → Type 0) → Option (List ℕ)
+    → Option (List ℕ) → Type 0 → Result Ended CommandFault → List Event → Type 0
+AuditsHistoryBy history Refuses held holds Failed (Ok ended) made =
+    AuditsHistory history Refuses held holds Failed ended made
+AuditsHistoryBy history Refuses held holds Failed (Err why) made =
+    IsShelfFault Refuses why × (holds ≡ held) × (made ≡ [])
+
+-- and that was told
+pub record AuditOfHistory (history : List Event) (Refuses : RepositoryFault → Type 0)
+    (held holds : Option (List ℕ)) (Failed : Type 0) (ended : Ended) (made : List Event) : Type 0 where
+  pub came : Result Ended CommandFault
+  pub audits : AuditsHistoryBy history Refuses held holds Failed came made
+  pub ends : ended ≡ settled_as came
+
 -- This text was written whole, or, before a fault, a prefix of it that is not the whole; or it was
 -- refused. Where the place refused the books none was; where it was not seen that their closed files
 -- hold them, it may be the list of other books.
@@ -311,7 +345,8 @@ abbrev pub DoesToHistory : Files → Naming → List Event → (RepositoryFault 
     → Option (List ℕ) → Option (List ℕ) → Type 0 → Ended → List Event → Type 0
 DoesToHistory files naming history Refuses book.Init held holds Failed ended made = made ≡ []
 DoesToHistory files naming history Refuses book.Upgrade held holds Failed ended made = made ≡ []
-DoesToHistory files naming history Refuses (book.Audit quiet) held holds Failed ended made = made ≡ []
+DoesToHistory files naming history Refuses (book.Audit quiet) held holds Failed ended made =
+    AuditOfHistory history Refuses held holds Failed ended made
 DoesToHistory files naming history Refuses (book.BackUp copy quiet) held holds Failed ended made = made ≡ []
 DoesToHistory files naming history Refuses (book.Serve port requests) held holds Failed ended made =
     ServesOfHistory naming history Refuses requests held holds Failed ended made
