@@ -1,6 +1,5 @@
 -- What an audit says of files.
-use Rattle.std.proofs.Common.{◌≡◌, ◌∙◌, ℕ, List, ◌++◌, Option, None, Some, IsTrue, refl, subst, sym}
-use Rattle.std.proofs.Common.{◌<◌, length, true≢false}
+use Rattle.std.proofs.Common.{◌≡◌, ◌∙◌, Option, None, Some, IsTrue, refl, subst, sym, true≢false}
 use Rattle.std.proofs.Math.Logic.{∥∥₁_elim, ∥∥₁_map, ∥∥₁_prop}
 use Rattle.std.specs.Prelude.{IfOk, IfSome, IsOk, IsSome, MatchOption}
 use Rattle.sqlite_disk.specs.declared.Disk.{Ghosts}
@@ -11,41 +10,24 @@ use Rattle.sqlite_trees.specs.Tree.{Trees}
 use Rattle.sqlite_trees.specs.View.{IsClean}
 use Rattle.sqlite_wal.specs.Reads.{AreClean}
 use Rattle.sqlite_wal.specs.Recovery.{Image}
-use Rattle.book_model.specs.Words.{Event, Naming, book_after}
-use Rattle.book_core.specs.Transition.{NoEvent, Transition}
+use Rattle.book_model.specs.Words.{Naming}
+use Rattle.book_core.specs.Transition.{NoEvent}
 use Rattle.table_ledger.specs.Commits.{IsAtRest}
 use Rattle.table_ledger.specs.Ready.{IsStoredIn}
-use Rattle.book_audit.specs.Own.{AreOwn, too_many_rows}
-use Rattle.book_audit.specs.declared.audited.Audited.{Audited}
 use Rattle.book_trees.specs.Forms.{HoldsThisForm}
 use Rattle.book_trees.specs.LedgerFiles.{HoldsBooks, trees_held}
-use Rattle.book_trees.specs.Looks.{IsLookRefusedFor, IsUnopenedLook}
-use Rattle.book_trees.specs.Refusals.{IsAsFound, MayLeave}
+use Rattle.book_trees.specs.Looks.{IsUnopenedLook, look_opening}
+use Rattle.book_trees.specs.Refusals.{IsAsFound, IsRefusedWithout, MayLeave}
 use Rattle.book_trees.specs.Schema.{books_schema}
 use Rattle.book_trees.specs.declared.integrity.LookFault.{LookFault}
 use Rattle.book_trees.specs.declared.integrity.LookFault.TheVariants.{Pages, Open}
-use Rattle.book_restarts.specs.FileBooks.{GoesOn, HoldsHistory, file_names}
-use Rattle.book_restarts.proofs.SessionLemmas.{sessions_follow, still_held}
-use Rattle.book_files.specs.Audits.{HoldSameTrees, IsUnsoundBy, OwnFilesAreNotUnsound, SoundAreOurs}
-use Rattle.book_files.specs.Audits.{HaveFewRows, ShowsOwn, WhyUnsound}
+use Rattle.book_restarts.specs.FileBooks.{GoesOn}
+use Rattle.book_restarts.proofs.SessionLemmas.{still_held}
+use Rattle.book_files.specs.Audits.{HoldSameTrees, SoundAreOurs}
 use Rattle.book_files.specs.Faults.{look_answer}
 use Rattle.book_files.specs.Sessions.{MayFollow}
-use Rattle.book_files.specs.declared.session.Ended.{Ended}
-use Rattle.book_files.specs.declared.session.Ended.TheVariants.{Closed, Refused}
+use Rattle.book_files.specs.declared.session.Ended.TheVariants.{Refused}
 use Rattle.book_files.proofs.SessionParts.{found_clean, opened_rests, refused_tables}
-
--- nor unsound, where they hold a book that calls made
-pub never_unsound : {D : Type 0} (g : Ghosts D) (found : Image) (AtLimit : Files D → Type 0)
-    (fault : LookFault) (files : Option (Files D))
-    → MatchOption files (IsUnopenedLook fault)
-    (IsLookRefusedFor g (HoldsThisForm found) AtLimit fault)
-    → (fault ≡ Pages
-    → IfSome files (λ files. AreClean g files.log files.db → HoldsBooks found → ⊥))
-    → IfOk (look_answer fault) (WhyUnsound g found (Refused files))
-never_unsound g found AtLimit Pages None cause wrong = absurd cause
-never_unsound g found AtLimit Pages (Some files) cause wrong = λ history ours honest finding is.
-    ∥∥₁_elim ours.held (λ one other. absurd one) λ kept. wrong refl honest kept.0
-never_unsound g found AtLimit (Open fault) files cause wrong = tt
 
 -- a store that an audit leaves as it was leaves the trees that its files held
 pub audited_same : {D : Type 0} {g : Ghosts D} (first image : Image) (store : FileStore D g)
@@ -76,34 +58,6 @@ same_goes_on names first image same =
     ∥∥₁_elim held ∥∥₁_prop λ kept.
     ∥∥₁_map (same kept.0) λ left. (left.0, subst (IsStoredIn names book) (sym left.1) kept.1))
 
--- files that were looked through show an audit such a book
-pub own_trees : (found : Image) (history : List Event) → HoldsHistory file_names history found
-    → (held : HoldsBooks found) → IsStoredIn file_names (book_after history) (trees_held held)
-    → AreOwn (trees_held held)
-own_trees found history ours held kept = record {
-  book = book_after history;
-  history = history;
-  answered = ours.answered;
-  left = refl;
-  readable = kept.readable;
-  holds = kept.holds;
-}
-
--- in a store that was whole, if their trees have few rows
-pub opened_own : {D : Type 0} {g : Ghosts D} (found : Image) (history : List Event)
-    → HoldsHistory file_names history found → HaveFewRows found → (store : FileStore D g)
-    → IsReady store → IsClean (view store) → (held : HoldsBooks found)
-    → IsStoredIn file_names (book_after history) (trees_held held)
-    → (view store).trees ≡ trees_held held → ShowsOwn (view store)
-opened_own found history ours few store ready clean held kept shown = record {
-  whole = record {
-    unbroken = ready.sound clean;
-    few = λ tree. subst (λ (trees : Trees). length (trees tree) < too_many_rows) (sym shown)
-        (few held tree);
-  };
-  own = subst AreOwn (sym shown) (own_trees found history ours held kept);
-}
-
 -- and their pages are called wrong only where they list the tables of books
 pub looked_listed : {D : Type 0} (g : Ghosts D) (Lists : Type 0) (fault : LookFault)
     (files : Option (Files D))
@@ -116,35 +70,16 @@ looked_listed g Lists Pages (Some files) lists =
 looked_listed g Lists (Open fault) files lists = tt
 
 -- and files that were not looked through have an answer only where they are in hand
-pub looked_in_hand : {D : Type 0} (g : Ghosts D) (found : Image) (AtLimit : Files D → Type 0)
-    (fault : LookFault) (files : Option (Files D))
+pub looked_in_hand : {D : Type 0} (g : Ghosts D) (found : Image) (fault : LookFault)
+    (files : Option (Files D))
     → MatchOption files (IsUnopenedLook fault)
-    (IsLookRefusedFor g (HoldsThisForm found) AtLimit fault)
+    (IsRefusedWithout g (HoldsThisForm found) (look_opening fault))
     → IsOk (look_answer fault) → IsSome files
-looked_in_hand g found AtLimit Pages None cause answered = absurd cause
-looked_in_hand g found AtLimit Pages (Some files) cause answered = refl
-looked_in_hand g found AtLimit (Open fault) files cause answered =
-    absurd (true≢false (sym answered))
+looked_in_hand g found Pages None cause answered = absurd cause
+looked_in_hand g found Pages (Some files) cause answered = refl
+looked_in_hand g found (Open fault) files cause answered = absurd (true≢false (sym answered))
 
--- why files are called unsound, where it is known that they hold such a book
-own_unsound : {D : Type 0} (g : Ghosts D) (found : Image) (ended : Ended D) (audited : Audited)
-    → ∥ ((history : List Event) × HoldsHistory file_names history found) ∥₁
-    → WhyUnsound g found ended audited → IsUnsoundBy g ended audited
-own_unsound g found (Refused None) audited ours why = λ finding is.
-    ∥∥₁_elim ours (λ one other. absurd one) λ own. why own.0 own.1 finding is
-own_unsound g found (Refused (Some files)) audited ours why = λ honest finding is.
-    ∥∥₁_elim ours (λ one other. absurd one) λ own. why own.0 own.1 honest finding is
-own_unsound g found (Closed closed) audited ours why = λ honest finding is.
-    ∥∥₁_elim ours ∥∥₁_prop λ own. why own.0 own.1 honest finding is
-
--- the laws
-pub own_are_not_unsound : {D : Type 0} (g : Ghosts D) (work : ℕ → Naming → Transition)
-    (files : ℕ → Image) → OwnFilesAreNotUnsound g work files
-own_are_not_unsound g work files start sessions ended audited held each =
-    own_unsound g (files sessions) ended audited
-    (∥∥₁_map (sessions_follow work files file_names start sessions held each)
-    λ all. (all.events ++ start, all.left))
-
+-- the law
 pub sound_are_ours : SoundAreOurs
 sound_are_ours counts image sound =
     ∥∥₁_map sound λ found.

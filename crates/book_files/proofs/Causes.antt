@@ -1,29 +1,24 @@
 -- Why a session has no answer.
-use Rattle.std.proofs.Common.{◌≡◌, ◌∙◌, ℕ, Bool, Result, Ok, Err, Option, None, Some, inl, inr, refl}
-use Rattle.std.proofs.Common.{◌⊎◌, ◌≢◌, arith, false, subst, sym, IsTrue}
-use Rattle.std.proofs.Math.Logic.{∥∥₁_elim, ∥∥₁_map, ∥∥₁_prop}
+use Rattle.std.proofs.Common.{◌≡◌, Bool, Result, Ok, Err, Option, None, Some, inl, inr, refl}
+use Rattle.std.proofs.Common.{◌≢◌, false, subst, sym, IsTrue}
 use Rattle.std.specs.Prelude.{IfErr, IfOk, IfSome, IsErrAnd, MatchOption, MatchResult}
-use Rattle.sqlite_disk.specs.Disk.{MoreFaults}
 use Rattle.sqlite_disk.specs.declared.Disk.{Ghosts}
 use Rattle.sqlite_disk.specs.declared.files.Files.{Files}
-use Rattle.sqlite_store.specs.FileStore.{state, view, IsReady}
+use Rattle.sqlite_store.specs.FileStore.{state, view}
 use Rattle.sqlite_store.specs.declared.store.FileStore.{FileStore}
 use Rattle.sqlite_trees.proofs.Doubt.{clean_of}
 use Rattle.sqlite_trees.specs.Tree.{Trees}
 use Rattle.sqlite_trees.specs.View.{IsClean}
 use Rattle.sqlite_wal.specs.Reads.{AreClean}
 use Rattle.sqlite_wal.specs.Recovery.{Image}
-use Rattle.book_model.specs.Words.{Book, Naming}
 use Rattle.book_model.specs.declared.fault.LedgerFault.{LedgerFault}
 use Rattle.book_model.specs.declared.fault.LedgerFault.TheVariants as ledger
-pub use Rattle.book_trees.proofs.CopyLemmas.{err_so}
-use Rattle.book_trees.specs.Copies.{IsCopyRefusedFor}
-use Rattle.book_trees.specs.FirstForm.{HoldsFirstForm, IsFirstRefusedFor, IsToldThis}
-use Rattle.book_trees.specs.FirstForm.{IsUnopenedFirst}
+use Rattle.book_trees.specs.Copies.{IsCopyRefusedWithout}
+use Rattle.book_trees.specs.FirstForm.{HoldsFirstForm, IsToldThis, IsUnopenedFirst, first_opening}
 use Rattle.book_trees.specs.Forms.{HoldsThisForm}
 use Rattle.book_trees.specs.LedgerFiles.{image_of, HoldsBooks, trees_held}
 use Rattle.book_trees.specs.Looks.{IsUnopenedLook}
-use Rattle.book_trees.specs.Refusals.{AreFull, IsRefusedFor, IsUnopened}
+use Rattle.book_trees.specs.Refusals.{IsRefusedWithout, IsUnopened}
 use Rattle.book_trees.specs.declared.closing.Closed.{Closed}
 use Rattle.book_trees.specs.declared.faults.OpenFault.{OpenFault}
 use Rattle.book_trees.specs.declared.faults.OpenFault.TheVariants as opening
@@ -31,42 +26,34 @@ use Rattle.book_trees.specs.declared.first_form.FirstFault.{FirstFault}
 use Rattle.book_trees.specs.declared.first_form.FirstFault.TheVariants as form
 use Rattle.book_trees.specs.declared.integrity.LookFault.{LookFault}
 use Rattle.book_trees.specs.declared.integrity.LookFault.TheVariants.{Pages, Open}
-use Rattle.book_files.specs.Causes.{HasFaultCause, HasNoAnswerFor, HaveNoBookRow, HoldsOurBooks}
-use Rattle.book_files.specs.Causes.{HoldsOurs, IsResumedBy, IsToldOfThis, IsWithoutFiles}
-use Rattle.book_files.specs.Causes.{ShowsOurBooks, ShowsOurs}
-use Rattle.book_files.specs.Causes.{WhyNotCopied}
+use Rattle.book_files.specs.Causes.{HasFaultCause, HasNoAnswerFor, HaveNoBookRow, IsToldOfThis}
+use Rattle.book_files.specs.Causes.{IsWithoutFiles, WhyNotCopied}
 use Rattle.book_files.specs.Faults.{first_answer, not_copied, open_fault}
 use Rattle.book_files.specs.Upgrades.{upgrade_answer}
 use Rattle.book_files.specs.declared.session.Ended.TheVariants.{Refused}
 use Rattle.book_files.specs.declared.session.Ended.TheVariants as ended
-use Rattle.book_files.proofs.NewParts.{opened_empty}
-use Rattle.book_files.proofs.SessionParts.{found_clean, opened_stands}
+use Rattle.book_files.proofs.SessionParts.{found_clean}
 use Rattle.named_books.specs.declared.repository.RepositoryFault.{RepositoryFault}
 use Rattle.named_books.specs.declared.repository.RepositoryFault.TheVariants.{Io, Exists, Busy, Ledger}
-use Rattle.table_model.specs.Readable.{IsReadable}
-use Rattle.table_ledger.specs.Commits.{Stores}
-use Rattle.table_ledger.specs.Loaded.{IsOpenCause, IsOpenFault, IsToldBy}
-use Rattle.table_model.specs.TablesOf.{tables_of}
-use Rattle.tree_tables.proofs.TheBook.{book_absent}
+use Rattle.table_ledger.specs.Loaded.{IsOpenFault}
 use Rattle.tree_tables.specs.Holds.{has_book}
-use Rattle.tree_tables.specs.States.{State}
 
--- what is said of an answer may be said in other words
+-- what is said of an answer, or of an error, may be said in other words
 pub ok_so : {A E : Type 0} {One Other : A → Type 0} (result : Result A E) → IfOk result One
     → ((answer : A) → One answer → Other answer) → IfOk result Other
 ok_so (Ok answer) one so = so answer one
 ok_so (Err fault) one so = tt
 
--- what holds of each answer, or of each error, holds of the one that there may be
+pub err_so : {A E : Type 0} {One Other : E → Type 0} (result : Result A E) → IfErr result One
+    → ((fault : E) → One fault → Other fault) → IfErr result Other
+err_so (Ok answer) one so = tt
+err_so (Err fault) one so = so fault one
+
+-- what holds of each answer holds of the one that there may be
 pub ok_each : {A E : Type 0} {Says : A → Type 0} (result : Result A E)
     → ((answer : A) → Says answer) → IfOk result Says
 ok_each (Ok answer) each = each answer
 ok_each (Err fault) each = tt
-
-pub err_each : {A E : Type 0} {Says : E → Type 0} (result : Result A E)
-    → ((fault : E) → Says fault) → IfErr result Says
-err_each (Ok answer) each = tt
-err_each (Err fault) each = each fault
 
 -- and so may what is said of an error that is taken for another
 pub mapped_err : {A E F : Type 0} {One : E → Type 0} (Other : F → Type 0) (to : E → F)
@@ -88,108 +75,46 @@ mapped_ok Says to (Ok answer) mapped is one = subst (λ mapped. IfOk mapped Says
 mapped_ok Says to (Err fault) (Ok answer) is one = absurd is
 mapped_ok Says to (Err fault) (Err other) is one = tt
 
--- a count that rose is not 0
-pub since_none : (old new : ℕ) → MoreFaults old new → MoreFaults 0 new
-since_none old new more = omega arith
-
 -- a cause, where what it says is said in other words
-pub cause_so : (Absent Absent' There There' Failed Failed' : Type 0) → (Absent → Absent')
-    → (There → There') → (Failed → Failed') → (fault : RepositoryFault)
-    → HasFaultCause Absent There Failed fault → HasFaultCause Absent' There' Failed' fault
-cause_so Absent Absent' There There' Failed Failed' absent there failed (Ledger ledger.NotBooks) cause =
-    absent cause
-cause_so Absent Absent' There There' Failed Failed' absent there failed (Ledger ledger.OldForm) cause =
-    absent cause
-cause_so Absent Absent' There There' Failed Failed' absent there failed (Ledger ledger.NewForm) cause =
-    absent cause
-cause_so Absent Absent' There There' Failed Failed' absent there failed (Ledger ledger.Memory) cause =
-    tt
-cause_so Absent Absent' There There' Failed Failed' absent there failed (Ledger ledger.Store) cause =
-    failed cause
-cause_so Absent Absent' There There' Failed Failed' absent there failed Exists cause = there cause
-cause_so Absent Absent' There There' Failed Failed' absent there failed other cause = cause
+pub cause_so : (Absent Absent' There There' : Type 0) → (Absent → Absent') → (There → There')
+    → (fault : RepositoryFault) → HasFaultCause Absent There fault
+    → HasFaultCause Absent' There' fault
+cause_so Absent Absent' There There' absent there (Ledger ledger.NotBooks) cause = absent cause
+cause_so Absent Absent' There There' absent there (Ledger ledger.OldForm) cause = absent cause
+cause_so Absent Absent' There There' absent there (Ledger ledger.NewForm) cause = absent cause
+cause_so Absent Absent' There There' absent there (Ledger ledger.Memory) cause = tt
+cause_so Absent Absent' There There' absent there (Ledger ledger.Store) cause = tt
+cause_so Absent Absent' There There' absent there Exists cause = there cause
+cause_so Absent Absent' There There' absent there other cause = cause
 
--- so may what is said where books were to be continued
-pub resumed_so : {A : Type 0} (One Other : Type 0) (unused : Bool) → (One → Other)
-    → (result : Result A RepositoryFault) → IsResumedBy One unused result
-    → IsResumedBy Other unused result
-resumed_so One Other unused so (Ok made) told = told
-resumed_so One Other unused so (Err fault) told =
-    cause_so ⊥ ⊥ (unused ≡ false) (unused ≡ false) One Other (λ never. never) (λ there. there) so
-    fault told
+-- the fault of books that were not opened has one
+pub opened_cause : (Absent There : Type 0) (fault : LedgerFault) → (fault ≡ ledger.NotBooks → Absent)
+    → IsOpenFault fault → HasFaultCause Absent There (Ledger fault)
+opened_cause Absent There fault none (inl is) =
+    subst (λ fault. HasFaultCause Absent There (Ledger fault)) (sym is) (none is)
+opened_cause Absent There fault none (inr (inl memory)) =
+    subst (λ fault. HasFaultCause Absent There (Ledger fault)) (sym memory) tt
+opened_cause Absent There fault none (inr (inr store)) =
+    subst (λ fault. HasFaultCause Absent There (Ledger fault)) (sym store) tt
 
--- and so has the fault of books that were not opened
-pub opened_cause : (Absent There Failed : Type 0) (fault : LedgerFault)
-    → (fault ≡ ledger.NotBooks → Absent) → (fault ≡ ledger.Store → Failed) → IsOpenFault fault
-    → HasFaultCause Absent There Failed (Ledger fault)
-opened_cause Absent There Failed fault none failed (inl is) =
-    subst (λ fault. HasFaultCause Absent There Failed (Ledger fault)) (sym is) (none is)
-opened_cause Absent There Failed fault none failed (inr (inl memory)) =
-    subst (λ fault. HasFaultCause Absent There Failed (Ledger fault)) (sym memory) tt
-opened_cause Absent There Failed fault none failed (inr (inr store)) =
-    subst (λ fault. HasFaultCause Absent There Failed (Ledger fault)) (sym store) (failed store)
-
--- a fault of the store that has a cause is that its disk failed
-store_failed : (old new : State) (fault : LedgerFault) → fault ≡ ledger.Store
-    → IsOpenCause old new fault → MoreFaults old.faults new.faults
-store_failed old new fault is (inl memory) = absurd (let both = sym is ∙ memory in cc)
-store_failed old new fault is (inr failed) = failed.1
-
--- it has one where books are opened that a ledger left
-pub ours_failed : (names : Naming) (old new : State) (fault : LedgerFault) → fault ≡ ledger.Store
-    → IsToldBy (has_book old.view.trees) old new fault
-    → ((book : Book) → IsReadable names book → Stores old.view (tables_of names book)
-    → IsOpenCause old new fault)
-    → ShowsOurs names old.view → MoreFaults old.faults new.faults
-ours_failed names old new fault is told own (inl ours) =
-    store_failed old new fault is (own ours.book ours.at.kept.readable
-    (record { holds = ours.at.kept.holds; rest = ours.at.rest }))
-ours_failed names old new fault is told own (inr empty) =
-    elim (told.absent (book_absent old.view.trees empty.none) empty.rest) [
-      | inl none ↦ absurd (let both = sym is ∙ none in cc)
-      | inr cause ↦ store_failed old new fault is cause
-    ]
-
--- A store that was opened on files is at rest with what a ledger left of them.
-module _ {D : Type 0} {g : Ghosts D} (names : Naming) (first : Image) (store : FileStore D g)
-    (ready : IsReady store)
+-- A store that was opened on files says of them whether their row is there.
+module _ {D : Type 0} {g : Ghosts D} (first : Image) (store : FileStore D g)
     (found : IsTrue (state store).is_clean → (held : HoldsBooks first)
     → (view store).trees ≡ trees_held held)
     (clean : IsClean (view store))
   where
-    shows_ours : HoldsOurBooks names first → ∥ ShowsOurBooks names (view store) ∥₁
-    shows_ours ours =
-        ∥∥₁_map ours.held λ kept. record {
-          book = ours.book;
-          at = opened_stands names ours.book first store ready found kept.0 kept.1 clean;
-        }
-
-    books_failed : (Failed : Type 0) → (ShowsOurBooks names (view store) → ∥ Failed ∥₁)
-        → HoldsOurBooks names first → ∥ Failed ∥₁
-    books_failed Failed failed ours =
-        ∥∥₁_elim (shows_ours ours) ∥∥₁_prop λ shown. failed shown
-
-    left_failed : (Failed : Type 0) → (ShowsOurs names (view store) → ∥ Failed ∥₁)
-        → HoldsOurs names first → ∥ Failed ∥₁
-    left_failed Failed failed (inl ours) =
-        books_failed Failed (λ shown. failed (inl shown)) ours
-    left_failed Failed failed (inr begun) =
-        failed (inr (opened_empty first store ready found begun clean))
-
     pub told_by_row : (there : Bool) → has_book (view store).trees ≡ there → (held : HoldsBooks first)
         → has_book (trees_held held) ≡ there
     told_by_row there told held =
         subst (λ (trees : Trees). has_book trees ≡ there) (found (clean_of _ clean) held) told
 
     -- so what is said of a visit of the store is said of the files
-    pub visited_cause : (Failed : Type 0) (fault : RepositoryFault)
-        → HasFaultCause (has_book (view store).trees ≡ false) ⊥
-        (ShowsOurs names (view store) → ∥ Failed ∥₁) fault
-        → HasFaultCause (HaveNoBookRow first) ⊥ (HoldsOurs names first → ∥ Failed ∥₁) fault
-    visited_cause Failed fault cause =
-        cause_so (has_book (view store).trees ≡ false) (HaveNoBookRow first) ⊥ ⊥
-        (ShowsOurs names (view store) → ∥ Failed ∥₁) (HoldsOurs names first → ∥ Failed ∥₁)
-        (told_by_row false) (λ never. never) (left_failed Failed) fault cause
+    pub visited_cause : (fault : RepositoryFault)
+        → HasFaultCause (has_book (view store).trees ≡ false) ⊥ fault
+        → HasFaultCause (HaveNoBookRow first) ⊥ fault
+    visited_cause fault cause =
+        cause_so (has_book (view store).trees ≡ false) (HaveNoBookRow first) ⊥ ⊥ (told_by_row false)
+        (λ never. never) fault cause
 
 -- no files are in hand where none were opened
 pub without_files : (meaning : OpenFault → RepositoryFault) → meaning opening.Memory ≡ Ledger ledger.Memory
@@ -202,37 +127,29 @@ without_files meaning memory busy path fault (inr (inl is)) =
 without_files meaning memory busy path fault (inr (inr is)) =
     inr (inr (subst (λ fault. meaning fault ≡ Io) (sym is) path))
 
-module _ {D : Type 0} (g : Ghosts D) (Held : Type 0) (AtLimit : Files D → Type 0)
-    (Opened : Type 0 → RepositoryFault → Type 0) where
+module _ {D : Type 0} (g : Ghosts D) (Held : Type 0) (Opened : RepositoryFault → Type 0) where
   -- files that were refused have the cause of the opening
   pub refused_cause : (fault : OpenFault) (files : Option (Files D))
-      → MatchOption files (IsUnopened fault) (IsRefusedFor g Held AtLimit fault)
-      → HasNoAnswerFor g AtLimit (HasFaultCause (¬ Held) ⊥) Opened (open_fault fault) (Refused files)
+      → MatchOption files (IsUnopened fault) (IsRefusedWithout g Held fault)
+      → HasNoAnswerFor g (HasFaultCause (¬ Held) ⊥) Opened (open_fault fault) (Refused files)
   refused_cause fault None cause = without_files open_fault refl refl refl fault cause
   refused_cause opening.NotBooks (Some files) cause = cause
   refused_cause opening.OldForm (Some files) cause = cause
   refused_cause opening.NewForm (Some files) cause = cause
   refused_cause opening.Memory (Some files) cause = λ clean. tt
-  refused_cause opening.Store (Some files) cause = cause
+  refused_cause opening.Store (Some files) cause = λ clean. tt
   refused_cause opening.Busy (Some files) cause = cause
   refused_cause opening.Path (Some files) cause = cause
 
   -- and so have those that were to be brought to this form
   pub first_cause : (why : FirstFault) (files : Option (Files D))
-      → MatchOption files (IsUnopenedFirst why) (IsFirstRefusedFor g Held AtLimit why)
-      → IfErr (first_answer why) (λ fault. HasNoAnswerFor g AtLimit
-      (λ Failed. HasFaultCause (¬ Held) ⊥ (Failed ⊎ (¬ Held))) Opened fault (Refused files))
+      → MatchOption files (IsUnopenedFirst why) (IsRefusedWithout g Held (first_opening why))
+      → IfErr (first_answer why)
+      (λ fault. HasNoAnswerFor g (HasFaultCause (¬ Held) ⊥) Opened fault (Refused files))
   first_cause form.Already files cause = tt
   first_cause form.Pages None cause = absurd cause
-  first_cause form.Pages (Some files) cause = λ clean. inr (cause clean)
-  first_cause (form.Open fault) None cause = without_files open_fault refl refl refl fault cause
-  first_cause (form.Open opening.NotBooks) (Some files) cause = cause
-  first_cause (form.Open opening.OldForm) (Some files) cause = cause
-  first_cause (form.Open opening.NewForm) (Some files) cause = cause
-  first_cause (form.Open opening.Memory) (Some files) cause = λ clean. tt
-  first_cause (form.Open opening.Store) (Some files) cause = λ clean. inl (cause clean)
-  first_cause (form.Open opening.Busy) (Some files) cause = cause
-  first_cause (form.Open opening.Path) (Some files) cause = cause
+  first_cause form.Pages (Some files) cause = λ clean. tt
+  first_cause (form.Open fault) files cause = refused_cause fault files cause
 
 -- files that were opened hold no books of this form
 pub opened_not_this : {D : Type 0} (g : Ghosts D) (closed : Closed D)
@@ -252,14 +169,13 @@ not_this why other (inr is) = other (cc)
 pub refused_this : {D : Type 0} (g : Ghosts D) (found : Image) → HoldsBooks found → (why : FirstFault)
     (files : Option (Files D))
     → MatchOption files (IsUnopenedFirst why)
-    (IsFirstRefusedFor g (HoldsFirstForm found) (AreFull g) why)
+    (IsRefusedWithout g (HoldsFirstForm found) (first_opening why))
     → ((IsToldThis why → ⊥)
-    → IfSome files (IsFirstRefusedFor g (HoldsBooks found) (AreFull g) why))
+    → IfSome files (IsRefusedWithout g (HoldsBooks found) (first_opening why)))
     → IsToldOfThis g (first_answer why) (Refused files)
 refused_this g found held form.Already files cause this = tt
 refused_this g found held form.Pages None cause this = absurd cause
-refused_this g found held form.Pages (Some files) cause this = λ clean.
-    absurd (this (λ told. elim told [ inl is ↦ absurd (cc) | inr is ↦ absurd (cc) ]) clean held)
+refused_this g found held form.Pages (Some files) cause this = λ clean. inr tt
 refused_this g found held (form.Open why) None cause this =
     without_files open_fault refl refl refl why cause
 refused_this g found held (form.Open opening.NotBooks) (Some files) cause this = λ clean.
@@ -268,8 +184,7 @@ refused_this g found held (form.Open opening.OldForm) (Some files) cause this = 
     absurd (this (not_this opening.OldForm (λ is. absurd (cc))) clean held)
 refused_this g found held (form.Open opening.NewForm) (Some files) cause this = λ clean. inl refl
 refused_this g found held (form.Open opening.Memory) (Some files) cause this = λ clean. inr tt
-refused_this g found held (form.Open opening.Store) (Some files) cause this = λ clean.
-    inr (this (not_this opening.Store (λ is. absurd (cc))) clean)
+refused_this g found held (form.Open opening.Store) (Some files) cause this = λ clean. inr tt
 refused_this g found held (form.Open opening.Busy) (Some files) cause this = λ clean.
     absurd (cause clean)
 refused_this g found held (form.Open opening.Path) (Some files) cause this = λ clean.
@@ -279,7 +194,7 @@ refused_this g found held (form.Open opening.Path) (Some files) cause this = λ 
 pub uncopied_cause : {A B : Type 0} (one : Ghosts A) (two : Ghosts B) (found : Image)
     (first original : Files A) → image_of one first ≡ found → (fault : LookFault)
     (copy : Option (Files B))
-    → MatchOption copy (IsUnopenedLook fault) (IsCopyRefusedFor one two first original fault)
+    → MatchOption copy (IsUnopenedLook fault) (IsCopyRefusedWithout one two first original fault)
     → WhyNotCopied one two found (Some original) (Refused copy) (not_copied fault)
 uncopied_cause one two found first original same Pages None cause = cause
 uncopied_cause one two found first original same (Open fault) None cause =
@@ -295,10 +210,7 @@ uncopied_cause one two found first original same (Open opening.NewForm) (Some co
 uncopied_cause one two found first original same (Open opening.Memory) (Some copy) cause =
     λ honest clean. tt
 uncopied_cause one two found first original same (Open opening.Store) (Some copy) cause =
-    λ honest clean. elim (cause honest clean) [
-      | inl more ↦ inl (since_none _ _ more)
-      | inr full ↦ inr full
-    ]
+    λ honest clean. tt
 uncopied_cause one two found first original same (Open opening.Busy) (Some copy) cause =
     λ honest clean. cause honest clean
 uncopied_cause one two found first original same (Open opening.Path) (Some copy) cause =

@@ -1,12 +1,11 @@
 -- New books are continued: a look whether anything was submitted to them, and what is left.
 use Rattle.std.proofs.Common.{◌≡◌, ◌∙◌, Bool, true, false, List, Option, None, Some, Result, Ok}
-use Rattle.std.proofs.Common.{Err, IsTrue, length, ap, inl, inr, is_some, refl, subst, sym}
+use Rattle.std.proofs.Common.{Err, IsTrue, length, ap, inl, inr, is_some, subst, sym}
 use Rattle.std.proofs.Common.{true≢false}
 use Rattle.std.proofs.lemmas.List.{length-map}
 use Rattle.std.proofs.Math.Logic.{∥∥₁_elim}
-use Rattle.std.specs.Prelude.{IfErr, IfOk, ⊤}
+use Rattle.std.specs.Prelude.{IfErr, IfOk}
 use Rattle.std.specs.Option.{option_map}
-use Rattle.sqlite_disk.specs.Disk.{MoreFaults}
 use Rattle.sqlite_trees.specs.Tree.{Trees}
 use Rattle.sqlite_trees.specs.View.{View, IsClean}
 use Rattle.sqlite_trees.specs.declared.error.StoreError.{StoreError}
@@ -20,11 +19,9 @@ use Rattle.named_books.specs.declared.repository.RepositoryFault.TheVariants.{Ex
 use Rattle.tree_tables.proofs.Looking.{looks_also, was_clean}
 use Rattle.tree_tables.proofs.TheBook.{book_absent, book_held}
 use Rattle.tree_tables.specs.Answers.{FindsBook, ListsCloses, ListsTariffs}
-use Rattle.table_ledger.proofs.OwnBooks.{can_be_listed}
-use Rattle.table_ledger.specs.Loaded.{CanBeListed}
-use Rattle.tree_tables.specs.Holds.{has_book, Holds}
+use Rattle.tree_tables.specs.Holds.{has_book}
 use Rattle.tree_tables.specs.States.{State, HasCleanDisk, Survives}
-use Rattle.tree_tables.specs.Steps.{FailsByStore, IsCaused, Looks, Sees}
+use Rattle.tree_tables.specs.Steps.{Looks, Sees}
 use Rattle.tree_tables.specs.Stored.{book_entry, close_entry, tariff_of}
 use Rattle.tree_tables.specs.declared.book_row.StoredBook.{StoredBook}
 use Rattle.tree_tables.specs.declared.closed_rows.Close.{Close}
@@ -88,16 +85,15 @@ pub never_gone : {X : Type 0} (names : Naming) (book : Book) (view : View) → R
 never_gone names book view at gone =
     absurd (true≢false (sym (row_of_book names book view at) ∙ sym gone))
 
--- a look into a store that was whole failed for such a reason
-vain : (old new : State) (There : Type 0) (error : StoreError) → old.view.is_broken ≡ false
-    → IsCaused old new error
-    → HasFaultCause ⊥ There (MoreFaults old.faults new.faults) (store_fault error)
-vain old new There store.OutOfMemory sound cause = tt
-vain old new There store.Io sound cause = cause
-vain old new There store.Corrupt sound cause = cause
-vain old new There store.Full sound cause = cause
-vain old new There store.Broken sound cause = absurd (true≢false (sym cause ∙ sound))
-vain old new There store.Unstorable sound cause = absurd cause
+-- a fault of the store says nothing of the books
+pub told_in_vain : (Absent There : Type 0) (error : StoreError)
+    → HasFaultCause Absent There (store_fault error)
+told_in_vain Absent There store.OutOfMemory = tt
+told_in_vain Absent There store.Io = tt
+told_in_vain Absent There store.Corrupt = tt
+told_in_vain Absent There store.Full = tt
+told_in_vain Absent There store.Broken = tt
+told_in_vain Absent There store.Unstorable = tt
 
 -- What was looked for in a store was found, or not.
 module _ (old new : State) (found : Result (Option Bool) StoreError)
@@ -136,20 +132,6 @@ module _ (old new : State) (found : Result (Option Bool) StoreError)
         never_there old.view (empty (was_clean looks.survives clean))
         (told_row (Some unused) is clean)
 
-    -- or, where it stood at a book, the store failed
-    pub told_in_vain : (There : Type 0) (error : StoreError) → found ≡ Err error
-        → FailsByStore found old new CanBeListed → (book : Book)
-        → StandsAt file_names book old.view → HasCleanDisk new
-        → HasFaultCause ⊥ There (MoreFaults old.faults new.faults) (store_fault error)
-    told_in_vain There error is fails book stands clean =
-        let at = stands (was_clean looks.survives clean) in
-        let why : HasCleanDisk new → (tables : Tables) → Holds old.view.trees tables
-        → CanBeListed tables → IsCaused old new error =
-        subst (λ (found : Result (Option Bool) StoreError). FailsByStore found old new CanBeListed)
-        is fails in
-        vain old new There error at.rest.sound (why clean (tables_of file_names book) at.kept.holds
-        (can_be_listed file_names book at.kept.readable))
-
     -- and where there is none, it is not there
     pub told_absent : {X : Type 0} → found ≡ Ok None → has_book old.view.trees ≡ true
         → HasCleanDisk new → X
@@ -163,33 +145,28 @@ module _ (old new : State) (found : Result (Option Bool) StoreError)
         (told_row None is clean)
 
 -- that all went well is answered where nothing was submitted
-pub resumed_unused : {A : Type 0} (Failed : Type 0) (unused : Bool)
-    (result : Result A RepositoryFault) → IsResumedBy Failed unused result
-    → IfOk result (λ made. unused ≡ true)
-resumed_unused Failed unused (Ok made) told = told
-resumed_unused Failed unused (Err fault) told = tt
+pub resumed_unused : {A : Type 0} (unused : Bool) (result : Result A RepositoryFault)
+    → IsResumedBy unused result → IfOk result (λ made. unused ≡ true)
+resumed_unused unused (Ok made) told = told
+resumed_unused unused (Err fault) told = tt
 
 -- and that books are there is answered of none that are new
-not_new : (Row Kept Failed Why : Type 0) (fault : RepositoryFault) → HasFaultCause ⊥ Row ⊤ fault
-    → (Kept → IsResumedBy {A = Unit {0}} Failed true (Err fault))
-    → (fault ≡ Ledger ledger.Store → Why)
-    → HasFaultCause ⊥ (Row × (∥ Kept ∥₁ → ⊥)) Why fault
-not_new Row Kept Failed Why (Ledger ledger.NotBooks) cause told why = cause
-not_new Row Kept Failed Why (Ledger ledger.OldForm) cause told why = cause
-not_new Row Kept Failed Why (Ledger ledger.NewForm) cause told why = cause
-not_new Row Kept Failed Why (Ledger ledger.Memory) cause told why = tt
-not_new Row Kept Failed Why (Ledger ledger.Store) cause told why = why refl
-not_new Row Kept Failed Why Exists cause told why =
+not_new : (Row Kept : Type 0) (fault : RepositoryFault) → HasFaultCause ⊥ Row fault
+    → (Kept → IsResumedBy {A = Unit {0}} true (Err fault))
+    → HasFaultCause ⊥ (Row × (∥ Kept ∥₁ → ⊥)) fault
+not_new Row Kept (Ledger ledger.NotBooks) cause told = cause
+not_new Row Kept (Ledger ledger.OldForm) cause told = cause
+not_new Row Kept (Ledger ledger.NewForm) cause told = cause
+not_new Row Kept (Ledger ledger.Memory) cause told = tt
+not_new Row Kept (Ledger ledger.Store) cause told = tt
+not_new Row Kept Exists cause told =
     (cause, λ new. ∥∥₁_elim new (λ one other. absurd one) λ kept. true≢false (told kept))
-not_new Row Kept Failed Why other cause told why = cause
+not_new Row Kept other cause told = cause
 
-pub why_unresumed : (Clean Row Kept Failed Why : Type 0)
-    (result : Result (Unit {0}) RepositoryFault)
-    → IfErr result (λ fault. Clean → HasFaultCause ⊥ Row ⊤ fault)
-    → (Kept → Clean → IsResumedBy Failed true result)
-    → (result ≡ Err (Ledger ledger.Store) → Clean → Why)
-    → IfErr result (λ fault. Clean → HasFaultCause ⊥ (Row × (∥ Kept ∥₁ → ⊥)) Why fault)
-why_unresumed Clean Row Kept Failed Why (Ok made) cause told why = tt
-why_unresumed Clean Row Kept Failed Why (Err fault) cause told why = λ clean.
-    not_new Row Kept Failed Why fault (cause clean) (λ kept. told kept clean)
-    (λ is. why (ap Err is) clean)
+pub why_unresumed : (Clean Row Kept : Type 0) (result : Result (Unit {0}) RepositoryFault)
+    → IfErr result (λ fault. Clean → HasFaultCause ⊥ Row fault)
+    → (Kept → Clean → IsResumedBy true result)
+    → IfErr result (λ fault. Clean → HasFaultCause ⊥ (Row × (∥ Kept ∥₁ → ⊥)) fault)
+why_unresumed Clean Row Kept (Ok made) cause told = tt
+why_unresumed Clean Row Kept (Err fault) cause told = λ clean.
+    not_new Row Kept fault (cause clean) (λ kept. told kept clean)

@@ -30,12 +30,12 @@ use Rattle.table_ledger.specs.FirstForm.{IsStoredInFirst, RestsAtFirst, StandsAt
 use Rattle.table_ledger.specs.FirstForm.{with_details}
 use Rattle.table_ledger.specs.Ready.{IsStoredIn}
 use Rattle.book_trees.proofs.FirstTrees.{more_listed}
-use Rattle.book_trees.specs.FirstForm.{AddsDetails, HasFirstTrees, HoldsFirstForm, IsFirstRefusedFor}
-use Rattle.book_trees.specs.FirstForm.{IsUnopenedFirst, ListMore}
+use Rattle.book_trees.specs.FirstForm.{AddsDetails, HasFirstTrees, HoldsFirstForm, IsUnopenedFirst}
+use Rattle.book_trees.specs.FirstForm.{ListMore, first_opening}
 use Rattle.book_trees.specs.Forms.{HoldNoNewer, IsSaid}
 use Rattle.book_trees.specs.LedgerFiles.{HoldsBooks, HoldsFile, HoldsFirstBooks, rows_held}
 use Rattle.book_trees.specs.LedgerFiles.{trees_held}
-use Rattle.book_trees.specs.Refusals.{IsAsFound, MayLeave}
+use Rattle.book_trees.specs.Refusals.{IsAsFound, IsRefusedWithout, MayLeave}
 use Rattle.book_trees.specs.Schema.{first_schema}
 use Rattle.book_trees.specs.StoreView.{ListsBooks}
 use Rattle.book_trees.specs.declared.closing.Closed.{Closed}
@@ -247,20 +247,20 @@ module _ {D : Type 0} (g : Ghosts D) (stays : (file : D) → g.may_leave file (g
   }
 
   -- and books of the first form are not said to be of this one
-  pub refused_brings : (history : List Event) (image : Image) (AtLimit : Files D → Type 0)
-      (why : FirstFault) (files : Option (Files D))
+  pub refused_brings : (history : List Event) (image : Image) (why : FirstFault)
+      (files : Option (Files D))
       → MatchOption files (IsUnopenedFirst why)
-      (IsFirstRefusedFor g (HoldsFirstForm first) AtLimit why)
+      (IsRefusedWithout g (HoldsFirstForm first) (first_opening why))
       → IfSome files (λ files. (left : Image) → MayLeave g files left → IsAsFound first left)
       → HoldsFirstForm first → MayFollow g (Refused files) image
       → HoldsFirstHistory names history first
       → BringsOver names history (first_answer why) image
-  refused_brings history image AtLimit why None cause kept form may held = absurd may
-  refused_brings history image AtLimit fault.Already (Some files) cause kept form may held =
+  refused_brings history image why None cause kept form may held = absurd may
+  refused_brings history image fault.Already (Some files) cause kept form may held =
       absurd (cause (found_clean g files image may) form)
-  refused_brings history image AtLimit fault.Pages (Some files) cause kept form may held =
+  refused_brings history image fault.Pages (Some files) cause kept form may held =
       ∣ inl (first_still history files kept image may held) ∣₁
-  refused_brings history image AtLimit (fault.Open why) (Some files) cause kept form may held =
+  refused_brings history image (fault.Open why) (Some files) cause kept form may held =
       ∣ inl (first_still history files kept image may held) ∣₁
 
 -- why books were not brought over is what is answered
@@ -282,15 +282,14 @@ first_tells fault.Pages = tt
 first_tells (fault.Open why) = tt
 
 -- and none at all where no files are in hand
-pub first_in_hand : {D : Type 0} (g : Ghosts D) (Held : Type 0) (AtLimit : Files D → Type 0)
-    (why : FirstFault) (files : Option (Files D))
-    → MatchOption files (IsUnopenedFirst why) (IsFirstRefusedFor g Held AtLimit why)
+pub first_in_hand : {D : Type 0} (g : Ghosts D) (Held : Type 0) (why : FirstFault)
+    (files : Option (Files D))
+    → MatchOption files (IsUnopenedFirst why) (IsRefusedWithout g Held (first_opening why))
     → IsOk (first_answer why) → IsSome files
-first_in_hand g Held AtLimit fault.Already None cause answered = absurd cause
-first_in_hand g Held AtLimit fault.Already (Some files) cause answered = refl
-first_in_hand g Held AtLimit fault.Pages files cause answered = absurd (true≢false (sym answered))
-first_in_hand g Held AtLimit (fault.Open why) files cause answered =
-    absurd (true≢false (sym answered))
+first_in_hand g Held fault.Already None cause answered = absurd cause
+first_in_hand g Held fault.Already (Some files) cause answered = refl
+first_in_hand g Held fault.Pages files cause answered = absurd (true≢false (sym answered))
+first_in_hand g Held (fault.Open why) files cause answered = absurd (true≢false (sym answered))
 
 -- What is told of files that were opened, and of those that were not, stands in them.
 module _ {D : Type 0} (g : Ghosts D) (found : Image) where

@@ -1,24 +1,19 @@
 -- Why a session has no answer, by what the files held and by what is in hand of them.
-use Rattle.std.specs.Prelude.{◌≡◌, ◌⊎◌, ◌+◌, Bool, true, false, Option, None, Some, Result, Ok, Err, ⊤}
-use Rattle.sqlite_disk.specs.Disk.{MoreFaults}
+use Rattle.std.specs.Prelude.{◌≡◌, ◌⊎◌, Bool, true, false, Option, None, Some, Result, Ok, Err, ⊤}
 use Rattle.sqlite_disk.specs.declared.Disk.{Ghosts}
 use Rattle.sqlite_disk.specs.declared.files.Files.{Files}
-use Rattle.sqlite_trees.specs.View.{View}
 use Rattle.sqlite_wal.specs.Reads.{AreClean}
 use Rattle.sqlite_wal.specs.Recovery.{Image}
 use Rattle.book_model.specs.Words.{Book, Naming, new_book}
 use Rattle.book_model.specs.declared.fault.LedgerFault.TheVariants as ledger
-use Rattle.book_trees.specs.Closing.{HaveFailed}
 use Rattle.book_trees.specs.FirstForm.{HoldsFirstForm}
 use Rattle.book_trees.specs.Forms.{HoldNoNewer, HoldsThisForm}
-use Rattle.book_trees.specs.LedgerFiles.{HoldsBooks, HoldsEmptyBooks, HoldsFirstBooks, HoldsNothing}
+use Rattle.book_trees.specs.LedgerFiles.{HoldsBooks, HoldsFirstBooks, HoldsNothing}
 use Rattle.book_trees.specs.LedgerFiles.{trees_held}
-use Rattle.book_trees.specs.Refusals.{faults_in, AreFull, StopCreating}
 use Rattle.book_trees.specs.Schema.{books_schema}
 use Rattle.table_model.specs.TablesOf.{tables_of}
 use Rattle.tree_tables.specs.Holds.{has_book}
-use Rattle.book_restarts.specs.FileBooks.{HoldsBook, RestsAt, file_names}
-use Rattle.book_files.specs.NewBooks.{IsEmpty}
+use Rattle.book_restarts.specs.FileBooks.{HoldsBook, file_names}
 use Rattle.book_files.specs.Sessions.{AreHonest, MayFollow, files_in_hand}
 use Rattle.book_files.specs.Unused.{are_unused}
 use Rattle.book_files.specs.declared.copies.CopyFault.{CopyFault}
@@ -34,19 +29,6 @@ use Rattle.named_books.specs.declared.repository.Upgraded.TheVariants.{Already, 
 pub record HoldsOurBooks (naming : Naming) (image : Image) : Type 0 where
   pub book : Book
   pub held : HoldsBook naming book image
-
--- a store is at rest with such a book
-pub record ShowsOurBooks (naming : Naming) (view : View) : Type 0 where
-  pub book : Book
-  pub at : RestsAt naming book view
-
--- the files hold what a ledger leaves: such a book, or tables with no row
-abbrev pub HoldsOurs : Naming → Image → Type 0
-HoldsOurs naming image = HoldsOurBooks naming image ⊎ HoldsEmptyBooks image
-
--- a store is at rest with it
-abbrev pub ShowsOurs : Naming → View → Type 0
-ShowsOurs naming view = ShowsOurBooks naming view ⊎ IsEmpty view
 
 -- whatever books the files hold, the row of the book is there
 abbrev pub HaveBookRow : Image → Type 0
@@ -77,108 +59,84 @@ HaveNoFirstRow found = (held : HoldsFirstBooks found) → has_book (trees_held h
 abbrev pub IsWithoutFiles : RepositoryFault → Type 0
 IsWithoutFiles fault = (fault ≡ Ledger ledger.Memory) ⊎ ((fault ≡ Busy) ⊎ (fault ≡ Io))
 
--- Files are in hand, and a fault has its cause: that there are no books of this form, that books are
--- there, or that a store failed. Memory may run out at any time. No other fault comes then.
-abbrev pub HasFaultCause : Type 0 → Type 0 → Type 0 → RepositoryFault → Type 0
-HasFaultCause Absent There Failed (Ledger ledger.NotBooks) = Absent
-HasFaultCause Absent There Failed (Ledger ledger.OldForm) = Absent
-HasFaultCause Absent There Failed (Ledger ledger.NewForm) = Absent
-HasFaultCause Absent There Failed (Ledger ledger.Memory) = ⊤
-HasFaultCause Absent There Failed (Ledger ledger.Store) = Failed
-HasFaultCause Absent There Failed Exists = There
-HasFaultCause Absent There Failed _ = ⊥
+-- Files are in hand, and a fault has its cause in them: that there are no books of this form, or that
+-- books are there. One of memory or of the store may be told of any files. No other fault comes then.
+abbrev pub HasFaultCause : Type 0 → Type 0 → RepositoryFault → Type 0
+HasFaultCause Absent There (Ledger ledger.NotBooks) = Absent
+HasFaultCause Absent There (Ledger ledger.OldForm) = Absent
+HasFaultCause Absent There (Ledger ledger.NewForm) = Absent
+HasFaultCause Absent There (Ledger ledger.Memory) = ⊤
+HasFaultCause Absent There (Ledger ledger.Store) = ⊤
+HasFaultCause Absent There Exists = There
+HasFaultCause Absent There _ = ⊥
 
 -- Books were to be continued, and this says whether anything was submitted to them: they are new
--- where it was answered that all went well; that books are there is answered only where they are
--- not; and a fault of the store only where one failed.
-abbrev pub IsResumedBy : {A : Type 0} → Type 0 → Bool → Result A RepositoryFault → Type 0
-IsResumedBy Failed unused (Ok made) = unused ≡ true
-IsResumedBy Failed unused (Err fault) = HasFaultCause ⊥ (unused ≡ false) Failed fault
+-- where it was answered that all went well; and that books are there is answered only where they are
+-- not.
+abbrev pub IsResumedBy : {A : Type 0} → Bool → Result A RepositoryFault → Type 0
+IsResumedBy unused (Ok made) = unused ≡ true
+IsResumedBy unused (Err fault) = HasFaultCause ⊥ (unused ≡ false) fault
 
 -- the same of this book, which a store held
-abbrev pub IsResumed : {A : Type 0} → Type 0 → Book → Result A RepositoryFault → Type 0
-IsResumed Failed book result =
-    IsResumedBy Failed (are_unused (tables_of file_names book)) result
+abbrev pub IsResumed : {A : Type 0} → Book → Result A RepositoryFault → Type 0
+IsResumed book result = IsResumedBy (are_unused (tables_of file_names book)) result
 
--- Why a session has no answer, by what is in hand of its files: what is said of a fault where they
--- were not opened, by a failure of their disk or a limit of the format; and where they were.
-abbrev pub HasNoAnswerFor : {D : Type 0} (g : Ghosts D) → (Files D → Type 0)
-    → (Type 0 → RepositoryFault → Type 0) → (Type 0 → RepositoryFault → Type 0) → RepositoryFault
-    → Ended D → Type 0
-HasNoAnswerFor g AtLimit Unopened Opened fault (Refused None) = IsWithoutFiles fault
-HasNoAnswerFor g AtLimit Unopened Opened fault (Refused (Some files)) =
-    AreClean g files.log files.db → Unopened (MoreFaults 0 (faults_in g files) ⊎ AtLimit files) fault
-HasNoAnswerFor g AtLimit Unopened Opened fault (Closed closed) =
-    AreClean g closed.files.log closed.files.db → Opened (HaveFailed g closed.files) fault
+-- Why a session has no answer, by what is in hand of its files, where no disk lied: what is said of a
+-- fault where they were not opened, and where they were.
+abbrev pub HasNoAnswerFor : {D : Type 0} (g : Ghosts D) → (RepositoryFault → Type 0)
+    → (RepositoryFault → Type 0) → RepositoryFault → Ended D → Type 0
+HasNoAnswerFor g Unopened Opened fault (Refused None) = IsWithoutFiles fault
+HasNoAnswerFor g Unopened Opened fault (Refused (Some files)) =
+    AreClean g files.log files.db → Unopened fault
+HasNoAnswerFor g Unopened Opened fault (Closed closed) =
+    AreClean g closed.files.log closed.files.db → Opened fault
 
--- Books that are open are not visited: their row is not there; or, of what a ledger left, a store
--- failed.
-abbrev pub IsUnvisitedFor : View → Type 0 → RepositoryFault → Type 0
-IsUnvisitedFor found Failed =
-    HasFaultCause (has_book found.trees ≡ false) ⊥ (ShowsOurs file_names found → Failed)
-
--- Books in files that were opened are not visited: their row is not there; or, of what a ledger left, a
--- call on the files failed, or met a limit of the format.
-abbrev pub AreUnvisitedFor : Image → Type 0 → RepositoryFault → Type 0
-AreUnvisitedFor found Failed =
-    HasFaultCause (HaveNoBookRow found) ⊥ (HoldsOurs file_names found → Failed)
-
--- Why a session had no answer, by what the files held when it found them, and by what is in hand of them.
+-- Why a session had no answer, by what the files held when it found them, and by what is in hand of
+-- them. Memory may run out, and a store may fail, of any files.
 module _ {D : Type 0} (g : Ghosts D) (found : Image) (ended : Ended D) where
-  -- Why books were not visited: the files hold none of this form, or not their row; or, of what a
-  -- ledger left, a call on the files failed, or met a limit of the format; or memory ran out.
+  -- why books were not visited: the files hold none of this form, or not their row
   abbrev pub WhyNotVisited : RepositoryFault → Type 0
   WhyNotVisited fault =
-      HasNoAnswerFor g (AreFull g) (HasFaultCause (¬ HoldsThisForm found) ⊥) (AreUnvisitedFor found)
-      fault ended
+      HasNoAnswerFor g (HasFaultCause (¬ HoldsThisForm found) ⊥)
+      (HasFaultCause (HaveNoBookRow found) ⊥) fault ended
 
-  -- Why new books were not made: the files held something; or a call on them failed, or met a limit of
-  -- the format; or memory ran out.
+  -- why new books were not made: the files held something
   abbrev pub WhyNotMade : RepositoryFault → Type 0
   WhyNotMade fault =
-      HasNoAnswerFor g (StopCreating g) (HasFaultCause (¬ HoldsNothing found) ⊥)
-      (λ Failed. HasFaultCause ⊥ ⊥ ⊤) fault ended
+      HasNoAnswerFor g (HasFaultCause (¬ HoldsNothing found) ⊥) (HasFaultCause ⊥ ⊥) fault ended
 
-  -- Why new books were not continued: the files hold none of this form, or a book that is not new;
-  -- or a call on them failed, or met a limit of the format; or memory ran out. Of files from
-  -- which no book can be read back no more is said of a fault of the store.
+  -- why new books were not continued: the files hold none of this form, or a book that is not new
   abbrev pub WhyNotContinued : RepositoryFault → Type 0
   WhyNotContinued fault =
-      HasNoAnswerFor g (AreFull g) (HasFaultCause ⊥ (¬ HoldsThisForm found))
-      (λ Failed. HasFaultCause ⊥ (HaveUsedBook found) (HoldsOurBooks file_names found → Failed))
-      fault ended
+      HasNoAnswerFor g (HasFaultCause ⊥ (¬ HoldsThisForm found))
+      (HasFaultCause ⊥ (HaveUsedBook found)) fault ended
 
-  -- Why books were not looked through: the files hold none of this form; or a call on them failed, or
-  -- met a limit of the format; or memory ran out. Of files that were looked through this says nothing.
+  -- Why books were not looked through: the files hold none of this form. Of files that were looked
+  -- through this says nothing.
   abbrev pub WhyNotAudited : RepositoryFault → Type 0
   WhyNotAudited fault =
-      HasNoAnswerFor g (AreFull g) (HasFaultCause (¬ HoldsThisForm found) ⊥) (λ Failed other. ⊤)
-      fault ended
+      HasNoAnswerFor g (HasFaultCause (¬ HoldsThisForm found) ⊥) (λ other. ⊤) fault ended
 
-  -- Why books were not brought to this form: the files hold none of the first form, or not their row; or
-  -- a call on them failed, or met a limit of the format; or memory ran out.
+  -- why books were not brought to this form: the files hold none of the first form, or not their row
   abbrev pub WhyNotUpgraded : RepositoryFault → Type 0
   WhyNotUpgraded fault =
-      HasNoAnswerFor g (AreFull g)
-      (λ Failed. HasFaultCause (¬ HoldsFirstForm found) ⊥ (Failed ⊎ (¬ HoldsFirstForm found)))
-      (λ Failed. HasFaultCause (HaveNoFirstRow found) ⊥ ⊤) fault ended
+      HasNoAnswerFor g (HasFaultCause (¬ HoldsFirstForm found) ⊥)
+      (HasFaultCause (HaveNoFirstRow found) ⊥) fault ended
 
 -- What is answered of files that hold books of this form: that they are of it; or that they are of a
--- newer one; or that they were not opened, as a call on them failed, or met a limit of the format, or
--- memory ran out. No such files are opened.
+-- newer one; or that memory ran out, or that the store failed. No such files are opened.
 abbrev pub IsToldOfThis : {D : Type 0} (g : Ghosts D) → Result Upgraded RepositoryFault → Ended D
     → Type 0
 IsToldOfThis g (Ok Already) ended = ⊤
 IsToldOfThis g (Ok (To form)) ended = (image : Image) → MayFollow g ended image → ⊥
 IsToldOfThis g (Err fault) ended =
-    HasNoAnswerFor g (AreFull g)
-    (λ Failed other. (other ≡ Ledger ledger.NewForm) ⊎ HasFaultCause ⊥ ⊥ Failed other)
-    (λ Failed other. ⊥) fault ended
+    HasNoAnswerFor g (λ other. (other ≡ Ledger ledger.NewForm) ⊎ HasFaultCause ⊥ ⊥ other)
+    (λ other. ⊥) fault ended
 
 -- a fault of a copy has its cause: that its pages are wrong, or that of another fault
-abbrev pub HasCopyCause : Type 0 → Type 0 → Type 0 → CopyFault → Type 0
-HasCopyCause Wrong Absent Failed copies.Pages = Wrong
-HasCopyCause Wrong Absent Failed (copies.Refused fault) = HasFaultCause Absent ⊥ Failed fault
+abbrev pub HasCopyCause : Type 0 → Type 0 → CopyFault → Type 0
+HasCopyCause Wrong Absent copies.Pages = Wrong
+HasCopyCause Wrong Absent (copies.Refused fault) = HasFaultCause Absent ⊥ fault
 
 -- one of the two pairs of files is not in hand
 abbrev pub IsCopyWithoutFiles : CopyFault → Type 0
@@ -193,9 +151,7 @@ WhyNotCopied one two found None copy fault = IsCopyWithoutFiles fault
 WhyNotCopied one two found (Some files) (Refused None) fault = IsCopyWithoutFiles fault
 WhyNotCopied one two found (Some files) (Refused (Some copy)) fault =
     AreClean one files.log files.db → AreClean two copy.log copy.db
-    → HasCopyCause (¬ HoldsThisForm found) (¬ HoldsThisForm found)
-    (MoreFaults 0 (faults_in one files + faults_in two copy) ⊎ AreFull two copy) fault
+    → HasCopyCause (¬ HoldsThisForm found) (¬ HoldsThisForm found) fault
 WhyNotCopied one two found (Some files) (Closed closed) fault =
     AreClean one files.log files.db → AreClean two closed.files.log closed.files.db
-    → HasCopyCause ⊥ (HaveNoBookRow found) (HoldsOurs file_names found → HaveFailed two closed.files)
-    fault
+    → HasCopyCause ⊥ (HaveNoBookRow found) fault

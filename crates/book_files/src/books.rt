@@ -1,18 +1,15 @@
 //! The books in a store, and the store of a file, which is closed after a visit. What is done to
 //! open books is written for any store, so that it is proved once.
 
-ghost use Rattle.std.specs.Prelude.{◌≡◌, false, is_some, true, ⊤, IfErr, IfOk, MatchResult, OnOk};
-ghost use Rattle.sqlite_disk.specs.Disk.{MoreFaults};
+ghost use Rattle.std.specs.Prelude.{◌≡◌, false, is_some, true, IfErr, IfOk, MatchResult, OnOk};
 ghost use Rattle.sqlite_store.specs.FileStore.{view};
 ghost use Rattle.sqlite_trees.specs.View.{IsClean};
 ghost use Rattle.sqlite_wal.specs.Reads.{AreClean};
 ghost use Rattle.book_audit.specs.OfBook.{AreOfBook};
-ghost use Rattle.book_audit.specs.Own.{AreOwn};
 ghost use Rattle.book_audit.specs.declared.audited.Counts.{Counts};
 ghost use Rattle.book_model.specs.Words.{Book};
-ghost use Rattle.book_trees.specs.Closing.{HaveFailed, IsShort};
-ghost use Rattle.book_files.specs.Audits.{FindsWrongBy, GivesUpBy, ShowsOwn};
-ghost use Rattle.book_files.specs.Causes.{HasFaultCause, IsResumed, IsUnvisitedFor};
+ghost use Rattle.book_trees.specs.Closing.{IsShort};
+ghost use Rattle.book_files.specs.Causes.{HasFaultCause, IsResumed};
 ghost use Rattle.book_files.specs.Faults.{store_fault};
 ghost use Rattle.book_files.specs.Stores.{CloseGoesOn, CloseKeepsBook, CloseKeepsLog};
 ghost use Rattle.book_files.specs.Stores.{CloseKeepsRows, CloseKeepsTrees, CloseLeaves};
@@ -26,10 +23,9 @@ ghost use Rattle.book_files.specs.Upgrades.{RestsBroughtOver};
 ghost use Rattle.book_trees.specs.FirstForm.{HasFirstTrees};
 ghost use Rattle.book_restarts.specs.FileBooks.{StandsAt, done_by, file_names};
 ghost use Rattle.table_ledger.specs.FirstForm.{StandsAtFirst};
-ghost use Rattle.table_ledger.specs.Loaded.{CanBeListed};
 ghost use Rattle.tree_tables.specs.Holds.{HasShapes, has_book};
 ghost use Rattle.tree_tables.specs.States.{HasCleanDisk, Survives, state};
-ghost use Rattle.tree_tables.specs.Steps.{FailsByStore, Looks};
+ghost use Rattle.tree_tables.specs.Steps.{Looks};
 
 use book_audit::{Audited, Watch, audit_trees};
 use book_core::{LedgerFault, ShaNames};
@@ -63,10 +59,9 @@ pub fn visit_in<S: Store, V: Visit>(
     ensures there { IfOk result.0 (λ answer. IsClean (S.Store.view result.1)
         → has_book (S.Store.view store).trees ≡ true) }
 
-    // Books that a ledger left are not visited only because of memory and the store.
-    ensures cause { IfErr result.0 (λ fault. IsClean (S.Store.view result.1)
-        → IsUnvisitedFor (S.Store.view store)
-        (MoreFaults (S.Store.faults store) (S.Store.faults result.1)) fault) }
+    // That there are no books is told only where it is not.
+    ensures refused { IfErr result.0 (λ fault. IsClean (S.Store.view result.1)
+        → HasFaultCause (has_book (S.Store.view store).trees ≡ false) ⊥ fault) }
 {
     match TableLedger::open(alloc, store, ShaNames) {
         Ok(mut books) => {
@@ -82,7 +77,7 @@ fn create_in<S: Store>(alloc: Global, store: S) -> (Result<(), RepositoryFault>,
     requires { IsClean (S.Store.view store) → HasShapes (S.Store.view store) }
     ensures left { StopLeavesNew (S.Store.view store) result.0 (state S.Store result.1) }
     ensures clean { IsClean (S.Store.view result.1) → IsClean (S.Store.view store) }
-    ensures kinds { IfErr result.0 (HasFaultCause ⊥ ⊥ ⊤) }
+    ensures kinds { IfErr result.0 (HasFaultCause ⊥ ⊥) }
 {
     match TableLedger::create(alloc, store, ShaNames) {
         Ok(books) => (Ok(()), books.close_store()),
@@ -96,7 +91,7 @@ fn make_in<S: Alter>(alloc: Global, store: S) -> (Result<(), RepositoryFault>, S
     requires { IsClean (S.Store.view store) → HasShapes (S.Store.view store) }
     ensures left { StopLeavesNew (S.Store.view store) result.0 (state S.Store result.1) }
     ensures clean { IsClean (S.Store.view result.1) → IsClean (S.Store.view store) }
-    ensures kinds { IfErr result.0 (HasFaultCause ⊥ ⊥ ⊤) }
+    ensures kinds { IfErr result.0 (HasFaultCause ⊥ ⊥) }
 {
     let mut store = store;
     match commit_form(&mut store) {
@@ -121,8 +116,6 @@ fn are_new<S: Store>(alloc: Global, tables: &mut TreeTables<S>) -> Result<Option
         SaysUnused }
     ensures row { IfOk result (λ found. HasCleanDisk (state S.Store tables.new.store)
         → is_some found ≡ has_book (S.Store.view tables.old.store).trees) }
-    ensures cause { FailsByStore result (state S.Store tables.old.store)
-        (state S.Store tables.new.store) CanBeListed }
 {
     let Some(book) = tables.find_book()? else {
         return Ok(None);
@@ -138,7 +131,6 @@ fn look_for_new<S: Store>(alloc: Global, store: S) -> (Result<Option<bool>, Stor
     ensures looks { Looks result.0 (state S.Store store) (state S.Store result.1) SaysUnused }
     ensures row { IfOk result.0 (λ found. HasCleanDisk (state S.Store result.1)
         → is_some found ≡ has_book (S.Store.view store).trees) }
-    ensures cause { FailsByStore result.0 (state S.Store store) (state S.Store result.1) CanBeListed }
     ensures shaped { IsClean (S.Store.view result.1) → HasShapes (S.Store.view result.1) }
 {
     let mut tables = TreeTables::over(alloc, store);
@@ -163,15 +155,13 @@ fn resume_in<S: Alter>(alloc: Global, store: S) -> (Result<(), RepositoryFault>,
     requires { IsClean (S.Store.view store) → HasShapes (S.Store.view store) }
     ensures held { StopKeepsBook (S.Store.view store) (state S.Store result.1) }
     ensures told { (book : Book) → StandsAt file_names book (S.Store.view store)
-        → IsClean (S.Store.view result.1)
-        → IsResumed (MoreFaults (S.Store.faults store) (S.Store.faults result.1)) book
-        result.0 }
+        → IsClean (S.Store.view result.1) → IsResumed book result.0 }
     ensures left { StopLeavesNew (S.Store.view store) result.0 (state S.Store result.1) }
     ensures there { has_book (S.Store.view store).trees ≡ true
         → StopKeepsTrees (S.Store.view store) (state S.Store result.1) }
     ensures clean { IsClean (S.Store.view result.1) → IsClean (S.Store.view store) }
-    ensures cause { IfErr result.0 (λ fault. IsClean (S.Store.view result.1)
-        → HasFaultCause ⊥ (has_book (S.Store.view store).trees ≡ true) ⊤ fault) }
+    ensures refused { IfErr result.0 (λ fault. IsClean (S.Store.view result.1)
+        → HasFaultCause ⊥ (has_book (S.Store.view store).trees ≡ true) fault) }
 {
     let (found, store) = look_for_new(alloc, store);
     let found = match found {
@@ -209,9 +199,9 @@ pub(crate) fn visit_and_close<D: Disk, V: Visit>(
     ensures there { IfOk result.0 (λ answer.
         AreClean D.Disk result.1.files.log result.1.files.db
         → has_book (view store).trees ≡ true) }
-    ensures cause { IfErr result.0 (λ fault.
+    ensures refused { IfErr result.0 (λ fault.
         AreClean D.Disk result.1.files.log result.1.files.db
-        → IsUnvisitedFor (view store) (HaveFailed D.Disk result.1.files) fault) }
+        → HasFaultCause (has_book (view store).trees ≡ false) ⊥ fault) }
 {
     let (answer, store) = visit_in(alloc, store, visit);
     (answer, close_books(store))
@@ -228,7 +218,7 @@ pub(crate) fn make_and_close<D: Disk>(
     ensures left { CloseLeavesNew D.Disk (view store) result.0 result.1 }
     ensures moves { CloseTriesToMoveLog result.1 }
     ensures clean { AreClean D.Disk result.1.files.log result.1.files.db → IsClean (view store) }
-    ensures kinds { IfErr result.0 (HasFaultCause ⊥ ⊥ ⊤) }
+    ensures kinds { IfErr result.0 (HasFaultCause ⊥ ⊥) }
 {
     let (made, store) = make_in(alloc, store);
     (made, close_books(store))
@@ -244,16 +234,15 @@ pub(crate) fn resume_and_close<D: Disk>(
     requires { HasShapes (view store) }
     ensures held { CloseKeepsBook D.Disk (view store) result.1 }
     ensures told { (book : Book) → StandsAt file_names book (view store)
-        → AreClean D.Disk result.1.files.log result.1.files.db
-        → IsResumed (HaveFailed D.Disk result.1.files) book result.0 }
+        → AreClean D.Disk result.1.files.log result.1.files.db → IsResumed book result.0 }
     ensures left { CloseLeavesNew D.Disk (view store) result.0 result.1 }
     ensures rows { has_book (view store).trees ≡ true
         → CloseKeepsRows D.Disk (view store) result.1 }
     ensures moves { CloseTriesToMoveLog result.1 }
     ensures clean { AreClean D.Disk result.1.files.log result.1.files.db → IsClean (view store) }
-    ensures cause { IfErr result.0 (λ fault.
+    ensures refused { IfErr result.0 (λ fault.
         AreClean D.Disk result.1.files.log result.1.files.db
-        → HasFaultCause ⊥ (has_book (view store).trees ≡ true) ⊤ fault) }
+        → HasFaultCause ⊥ (has_book (view store).trees ≡ true) fault) }
 {
     let (made, store) = resume_in(alloc, store);
     (made, close_books(store))
@@ -280,8 +269,8 @@ fn upgrade_in<S: Alter>(alloc: Global, store: S) -> (Result<(), RepositoryFault>
     ensures left { (book : Book) → StandsAtFirst file_names book (S.Store.view store)
         → StopLeaves (state S.Store result.1) (LeavesUpgraded file_names book result.0) }
     ensures clean { IsClean (S.Store.view result.1) → IsClean (S.Store.view store) }
-    ensures cause { IfErr result.0 (λ fault. IsClean (S.Store.view result.1)
-        → HasFaultCause (has_book (S.Store.view store).trees ≡ false) ⊥ ⊤ fault) }
+    ensures refused { IfErr result.0 (λ fault. IsClean (S.Store.view result.1)
+        → HasFaultCause (has_book (S.Store.view store).trees ≡ false) ⊥ fault) }
 {
     let mut store = store;
     let there = match has_book_row(alloc, &mut store) {
@@ -311,9 +300,9 @@ pub(crate) fn upgrade_and_close<D: Disk>(
         → CloseLeavesRows D.Disk result.1 (LeavesUpgraded file_names book result.0) }
     ensures moves { CloseTriesToMoveLog result.1 }
     ensures clean { AreClean D.Disk result.1.files.log result.1.files.db → IsClean (view store) }
-    ensures cause { IfErr result.0 (λ fault.
+    ensures refused { IfErr result.0 (λ fault.
         AreClean D.Disk result.1.files.log result.1.files.db
-        → HasFaultCause (has_book (view store).trees ≡ false) ⊥ ⊤ fault) }
+        → HasFaultCause (has_book (view store).trees ≡ false) ⊥ fault) }
 {
     let (upgraded, store) = upgrade_in(alloc, store);
     match upgraded {
@@ -333,12 +322,6 @@ fn audit_in<S: Store, W: Watch>(
     ensures book { IfOk result.0 (λ audited. (counts : Counts) → audited ≡ Audited.Sound counts
         → IsClean (S.Store.view result.1)
         → AreOfBook file_names (S.Store.view store).trees counts) }
-    ensures own { IfOk result.0 (λ audited. IsClean (S.Store.view result.1)
-        → AreOwn (S.Store.view store).trees
-        → FindsWrongBy (MoreFaults (S.Store.faults store) (S.Store.faults result.1)) audited) }
-    ensures ends { IfErr result.0 (λ fault. IsClean (S.Store.view result.1)
-        → ShowsOwn (S.Store.view store)
-        → GivesUpBy (MoreFaults (S.Store.faults store) (S.Store.faults result.1)) fault) }
     ensures clean { IsClean (S.Store.view result.1) → IsClean (S.Store.view store) }
 {
     let (audited, store) = audit_trees(alloc, store, watch);
@@ -360,12 +343,6 @@ pub(crate) fn audit_and_close<D: Disk, W: Watch>(
     ensures book { IfOk result.0 (λ audited. (counts : Counts) → audited ≡ Audited.Sound counts
         → AreClean D.Disk result.1.files.log result.1.files.db
         → AreOfBook file_names (view store).trees counts) }
-    ensures own { IfOk result.0 (λ audited.
-        AreClean D.Disk result.1.files.log result.1.files.db → AreOwn (view store).trees
-        → FindsWrongBy (HaveFailed D.Disk result.1.files) audited) }
-    ensures ends { IfErr result.0 (λ fault.
-        AreClean D.Disk result.1.files.log result.1.files.db → ShowsOwn (view store)
-        → GivesUpBy (HaveFailed D.Disk result.1.files) fault) }
     ensures clean { AreClean D.Disk result.1.files.log result.1.files.db → IsClean (view store) }
 {
     let (audited, store) = audit_in(alloc, store, watch);

@@ -80,9 +80,9 @@ pub fn visit_copy_at<S: Start, T: Start, V: Visit>(
     ensures came { MatchResult result.answer (V.Visit.comes visit.old visit.new)
         (λ _. visit.new ≡ visit.old) }
 
-    // Of books that a ledger left there is no copy only because of memory, a call on either pair of
-    // files that failed, and the limits of the format.
-    ensures cause { IfErr result.answer (WhyNotCopied ⟦<FileFrom<S> as Disk>⟧
+    // That there are no books, or that pages are wrong, is told only of files that hold none of this
+    // form, or not their row.
+    ensures refused { IfErr result.answer (WhyNotCopied ⟦<FileFrom<S> as Disk>⟧
         ⟦<FileFrom<T> as Disk>⟧ (image_at S.Start) result.original result.copy) }
 {
     let mut files = match lock_at(rt, path, start) {
@@ -138,7 +138,7 @@ pub fn copy_at<S: Start, T: Start>(
         (WereOnlyRead ⟦<FileFrom<S> as Disk>⟧ (image_at S.Start)) }
     ensures in_hand { IsOk result.answer → IsSome result.original }
     ensures copied { IsOk result.answer → AreOpened result.copy }
-    ensures cause { IfErr result.answer (WhyNotCopied ⟦<FileFrom<S> as Disk>⟧
+    ensures refused { IfErr result.answer (WhyNotCopied ⟦<FileFrom<S> as Disk>⟧
         ⟦<FileFrom<T> as Disk>⟧ (image_at S.Start) result.original result.copy) }
 {
     visit_copy_at(rt, path, start, copy, held, seed, &mut Look)

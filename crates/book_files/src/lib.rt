@@ -15,7 +15,7 @@ mod waiting;
 
 pub use books::visit_in;
 pub use copies::{Copied, CopyFault, copy_at, visit_copy_at};
-pub use laws::{own_files_are_not_unsound, sound_are_ours};
+pub use laws::sound_are_ours;
 pub use names::is_log_name;
 pub use repository::Files;
 pub use session::{Ended, audit_at, make_at, resume_at, upgrade_at, visit_at};

@@ -7,7 +7,7 @@ ghost use Rattle.sqlite_wal.specs.Recovery.{Image};
 ghost use Rattle.book_model.specs.Words.{Event};
 ghost use Rattle.book_core.specs.Transition.{NoEvent};
 ghost use Rattle.book_audit.specs.declared.audited.Counts.{Counts};
-ghost use Rattle.book_files.specs.Audits.{HoldCounted, HoldSameTrees, WhyGivenUp, WhyUnsound};
+ghost use Rattle.book_files.specs.Audits.{HoldCounted, HoldSameTrees};
 ghost use Rattle.book_files.specs.Causes.{HaveBookRow, MightBeVisited, WhyNotAudited};
 ghost use Rattle.book_files.specs.Causes.{WhyNotContinued, WhyNotMade};
 ghost use Rattle.book_files.specs.Causes.{IsToldOfThis, WhyNotUpgraded, WhyNotVisited};
@@ -95,11 +95,10 @@ pub fn visit_at<S: LeftByLedger, V: Visit>(
 
     // There are books exactly where their row is there: that there are none is answered only of
     // files that hold none of this form, or not their row, and without it none are visited, nor are
-    // any that say that they are of a newer form. A fault of the store is told of what a ledger left
-    // only where a call on the files failed, or met a limit.
+    // any that say that they are of a newer form.
     ensures there { IfOk result.0 (λ answer.
         MightBeVisited ⟦<FileFrom<S> as Disk>⟧ (image_at S.Start) result.1) }
-    ensures cause { IfErr result.0
+    ensures refused { IfErr result.0
         (WhyNotVisited ⟦<FileFrom<S> as Disk>⟧ (image_at S.Start) result.1) }
 {
     let pages = pages_for(visit.is_brief());
@@ -132,7 +131,7 @@ pub fn make_at<S: Start>(
     ensures unopened { (¬ HoldsNothing (image_at S.Start))
         → AreAsFound ⟦<FileFrom<S> as Disk>⟧ (image_at S.Start) result.1 }
     ensures only { OpenOnly ⟦<FileFrom<S> as Disk>⟧ (HoldsNothing (image_at S.Start)) result.1 }
-    ensures cause { IfErr result.0
+    ensures refused { IfErr result.0
         (WhyNotMade ⟦<FileFrom<S> as Disk>⟧ (image_at S.Start) result.1) }
 {
     match create_at(rt, path, seed, start) {
@@ -181,9 +180,7 @@ pub fn resume_at<S: LeftByLedger>(
     ensures moves { TriesToMoveLog result.1 }
 
     // That books are there is answered of files that hold none of ours, or books that are not new.
-    // A fault of the store is told of files that hold a book only where a call on them failed, or
-    // met a limit.
-    ensures cause { IfErr result.0
+    ensures refused { IfErr result.0
         (WhyNotContinued ⟦<FileFrom<S> as Disk>⟧ (image_at S.Start) result.1) }
 {
     match open_at(rt, path, seed, CACHE_PAGES, start) {
@@ -227,17 +224,8 @@ pub fn audit_at<S: Start, W: Watch>(
         → ∥ ListsBooks (image_at S.Start) ∥₁) }
     ensures in_hand { IsOk result.0 → AreInHand result.1 }
 
-    // Files that hold a book which calls made are not called unsound, but where they were looked
-    // through, and a call on them failed.
-    ensures own { IfOk result.0
-        (WhyUnsound ⟦<FileFrom<S> as Disk>⟧ (image_at S.Start) result.1) }
-
-    // Nor are they given up once they were looked through, if they have few rows, but for want of
-    // memory, or since a call on them failed or met a limit. Why files were not looked through is
-    // said by `cause`.
-    ensures ends { IfErr result.0
-        (WhyGivenUp ⟦<FileFrom<S> as Disk>⟧ (image_at S.Start) result.1) }
-    ensures cause { IfErr result.0
+    // That there are no books is told only of files that hold none of this form.
+    ensures refused { IfErr result.0
         (WhyNotAudited ⟦<FileFrom<S> as Disk>⟧ (image_at S.Start) result.1) }
 {
     match look_through_at(rt, path, seed, start) {
@@ -300,9 +288,8 @@ pub fn upgrade_at<S: Start>(
         → HoldsWhatIsTold (image_at S.Start) upgraded) }
     ensures in_hand { IsOk result.0 → AreInHand result.1 }
 
-    // Files that hold books of the first form, and their row, are refused only because of memory
-    // and the disk.
-    ensures cause { IfErr result.0
+    // Of files that hold books of the first form, and their row, it is not told that there are none.
+    ensures refused { IfErr result.0
         (WhyNotUpgraded ⟦<FileFrom<S> as Disk>⟧ (image_at S.Start) result.1) }
 {
     match open_first_at(rt, path, seed, start) {

@@ -1,16 +1,12 @@
-use Rattle.std.proofs.Common.{◌∙◌, ◌≡◌, ap, sym}
-use Rattle.sqlite_disk.specs.Disk.{MoreFaults}
+use Rattle.std.proofs.Common.{◌∙◌, ◌≡◌, sym}
 use Rattle.sqlite_trees.specs.View.{IsClean}
 use Rattle.book_audit.specs.OfBook.{AreOfBook}
-use Rattle.book_audit.specs.Own.{AreOwn}
 use Rattle.book_audit.specs.declared.audited.Audited.TheVariants.{Sound}
 use Rattle.book_audit.specs.declared.audited.Counts.{Counts}
 use Rattle.book_restarts.proofs.OpenStores.{clean_before}
 use Rattle.book_restarts.specs.FileBooks.{file_names}
-use Rattle.named_books.specs.declared.repository.RepositoryFault.{RepositoryFault}
 use Rattle.named_books.specs.declared.repository.RepositoryFault.TheVariants.{Ledger}
-use Rattle.book_files.specs.Audits.{FindsWrongBy, GivesUpBy, ShowsOwn}
-use Rattle.book_files.proofs.Causes.{mapped_err, mapped_ok, ok_so}
+use Rattle.book_files.proofs.Causes.{mapped_ok}
 use Rattle.book_files.proofs.books.audit_in.Goals as goal
 
 pub returns : goal.returns
@@ -26,17 +22,5 @@ returns g c =
       book = mapped_ok (λ audited. (counts : Counts) → audited ≡ Sound counts
           → IsClean (g.S.Store.view new) → AreOfBook file_names (g.S.Store.view old).trees counts)
           Ledger audited.result.0 c.map_err.result c.map_err.ensures.cases audited.ensures.book;
-      own = mapped_ok (λ audited. IsClean (g.S.Store.view new)
-          → AreOwn (g.S.Store.view old).trees
-          → FindsWrongBy (MoreFaults (g.S.Store.faults old) (g.S.Store.faults new)) audited) Ledger
-          audited.result.0 c.map_err.result c.map_err.ensures.cases
-          (ok_so audited.result.0 audited.ensures.own (λ told own clean ours finding is.
-          own finding is clean ours));
-      ends = mapped_err (λ (fault : RepositoryFault). IsClean (g.S.Store.view new)
-          → ShowsOwn (g.S.Store.view old)
-          → GivesUpBy (MoreFaults (g.S.Store.faults old) (g.S.Store.faults new)) fault) Ledger
-          audited.result.0 c.map_err.result c.map_err.ensures.cases audited.ensures.ends
-          (λ fault ends clean shown other.
-          ends shown.whole (λ is. other (ap Ledger is)) clean shown.own);
       clean = λ clean. clean_before _ _ quiet.clean clean;
     }

@@ -1,15 +1,11 @@
 use Rattle.std.proofs.Common.{◌≡◌}
-use Rattle.sqlite_disk.specs.Disk.{MoreFaults}
-use Rattle.sqlite_store.specs.FileStore.{faults, view}
+use Rattle.sqlite_store.specs.FileStore.{view}
 use Rattle.sqlite_trees.proofs.Doubt.{no_doubt}
 use Rattle.sqlite_trees.specs.Tree.{Trees}
 use Rattle.book_restarts.specs.FileBooks.{file_names}
-use Rattle.book_trees.specs.Closing.{HaveFailed}
 use Rattle.table_ledger.specs.Ready.{IsStoredIn}
 use Rattle.book_files.specs.NewBooks.{LeavesNew}
-use Rattle.book_files.specs.Unused.{are_unused}
-use Rattle.table_model.specs.TablesOf.{tables_of}
-use Rattle.book_files.proofs.Causes.{err_so, resumed_so, since_none}
+use Rattle.book_files.proofs.Causes.{err_so}
 use Rattle.book_files.proofs.SessionParts.{close_leaves, close_rows, to_be_moved}
 use Rattle.book_files.proofs.books.resume_and_close.Goals as goal
 
@@ -21,13 +17,7 @@ returns-clause-held g c = λ book stands.
 
 pub returns-clause-told : goal.returns-clause-told
 returns-clause-told g c = λ book stands clean.
-    let made = c.resume_in-made in
-    let old = c.args.store in
-    let mid = made.result.1 in
-    resumed_so (MoreFaults (faults old) (faults mid))
-    (HaveFailed g.D.Disk c.close_books.result.files) (are_unused (tables_of file_names book))
-    (λ more. c.close_books.ensures.counts (since_none (faults old) (faults mid) more)) made.result.0
-    (made.ensures.told book stands (no_doubt _ (c.close_books.ensures.honest clean)))
+    c.resume_in-made.ensures.told book stands (no_doubt _ (c.close_books.ensures.honest clean))
 
 pub returns-clause-left : goal.returns-clause-left
 returns-clause-left g c = λ empty.
@@ -47,9 +37,9 @@ pub returns-clause-clean : goal.returns-clause-clean
 returns-clause-clean g c = λ clean.
     c.resume_in-made.ensures.clean (no_doubt _ (c.close_books.ensures.honest clean))
 
-pub returns-clause-cause : goal.returns-clause-cause
-returns-clause-cause g c =
-    err_so c.resume_in-made.result.0 c.resume_in-made.ensures.cause (λ fault cause clean.
+pub returns-clause-refused : goal.returns-clause-refused
+returns-clause-refused g c =
+    err_so c.resume_in-made.result.0 c.resume_in-made.ensures.refused (λ fault cause clean.
     cause (no_doubt _ (c.close_books.ensures.honest clean)))
 
 pub returns-clause-moves : goal.returns-clause-moves

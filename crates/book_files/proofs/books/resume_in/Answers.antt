@@ -1,5 +1,4 @@
 use Rattle.std.proofs.Common.{◌≡◌, ◌∙◌, Ok, Some, ap, false, subst, sym, true}
-use Rattle.sqlite_disk.specs.Disk.{MoreFaults}
 use Rattle.sqlite_trees.specs.Tree.{Trees}
 use Rattle.book_restarts.specs.FileBooks.{file_names}
 use Rattle.table_model.specs.TablesOf.{tables_of}
@@ -26,13 +25,8 @@ returns-in_default-clause-told g c = λ book stands clean.
 
 pub returns-in-Err-clause-told : goal.returns-in-Err-clause-told
 returns-in-Err-clause-told g c = λ book stands clean.
-    let looked = c.look_for_new-found in
-    let old = state g.S.Store c.args.store in
-    let new = state g.S.Store looked.result.1 in
     let There : Type 0 = are_unused (tables_of file_names book) ≡ false in
-    subst (HasFaultCause ⊥ There (MoreFaults old.faults new.faults)) (sym c.fault_of.ensures)
-    (told_in_vain old new looked.result.0 looked.ensures.looks looked.ensures.row There
-    c.in-Err.error c.in-Err.is looked.ensures.cause book stands clean)
+    subst (HasFaultCause ⊥ There) (sym c.fault_of.ensures) (told_in_vain ⊥ There c.in-Err.error)
 
 pub returns-in-Err-clause-there : goal.returns-in-Err-clause-there
 returns-in-Err-clause-there g c = λ there.

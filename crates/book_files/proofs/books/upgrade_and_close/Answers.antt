@@ -45,9 +45,9 @@ pub returns-in-Err-clause-clean : goal.returns-in-Err-clause-clean
 returns-in-Err-clause-clean g c clean =
     c.upgrade_in-upgraded.ensures.clean (no_doubt _ (c.close_first.ensures.honest clean))
 
-pub returns-in-Err-clause-cause : goal.returns-in-Err-clause-cause
-returns-in-Err-clause-cause g c =
-    err_so c.upgrade_in-upgraded.result.0 c.upgrade_in-upgraded.ensures.cause
+pub returns-in-Err-clause-refused : goal.returns-in-Err-clause-refused
+returns-in-Err-clause-refused g c =
+    err_so c.upgrade_in-upgraded.result.0 c.upgrade_in-upgraded.ensures.refused
     (λ fault cause clean. cause (no_doubt _ (c.close_first.ensures.honest clean)))
 
 pub returns-in-Ok-clause-moves : goal.returns-in-Ok-clause-moves

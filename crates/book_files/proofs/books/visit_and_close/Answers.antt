@@ -1,15 +1,11 @@
-use Rattle.std.proofs.Common.{◌≡◌, false}
+use Rattle.std.proofs.Common.{◌≡◌}
 use Rattle.std.proofs.Math.Logic.{∥∥₁_map}
-use Rattle.sqlite_disk.specs.Disk.{MoreFaults}
-use Rattle.sqlite_store.specs.FileStore.{faults, view}
+use Rattle.sqlite_store.specs.FileStore.{view}
 use Rattle.sqlite_trees.proofs.Doubt.{no_doubt}
 use Rattle.sqlite_trees.specs.Tree.{Trees}
-use Rattle.book_trees.specs.Closing.{HaveFailed}
 use Rattle.book_restarts.proofs.SessionLemmas.{held_leaves}
 use Rattle.book_restarts.specs.FileBooks.{LeavesTrees, done_by, file_names}
-use Rattle.tree_tables.specs.Holds.{has_book}
-use Rattle.book_files.specs.Causes.{ShowsOurs}
-use Rattle.book_files.proofs.Causes.{cause_so, err_so, ok_so, since_none}
+use Rattle.book_files.proofs.Causes.{err_so, ok_so}
 use Rattle.book_files.proofs.SessionParts.{close_leaves, close_rows, to_be_moved}
 use Rattle.book_files.proofs.books.visit_and_close.Goals as goal
 
@@ -43,18 +39,10 @@ pub returns-clause-clean : goal.returns-clause-clean
 returns-clause-clean g c = λ clean.
     c.visit_in-answer.ensures.clean (no_doubt _ (c.close_books.ensures.honest clean))
 
-pub returns-clause-cause : goal.returns-clause-cause
-returns-clause-cause g c =
-    let old = c.args.store in
-    let mid = c.visit_in-answer.result.1 in
-    let Absent : Type 0 = has_book (view old).trees ≡ false in
-    err_so c.visit_in-answer.result.0 c.visit_in-answer.ensures.cause (λ fault cause clean.
-    cause_so Absent Absent ⊥ ⊥
-    (ShowsOurs file_names (view old) → MoreFaults (faults old) (faults mid))
-    (ShowsOurs file_names (view old) → HaveFailed g.D.Disk c.close_books.result.files)
-    (λ absent. absent) (λ never. never)
-    (λ failed ours. c.close_books.ensures.counts (since_none (faults old) (faults mid) (failed ours)))
-    fault (cause (no_doubt _ (c.close_books.ensures.honest clean))))
+pub returns-clause-refused : goal.returns-clause-refused
+returns-clause-refused g c =
+    err_so c.visit_in-answer.result.0 c.visit_in-answer.ensures.refused (λ fault cause clean.
+    cause (no_doubt _ (c.close_books.ensures.honest clean)))
 
 pub returns-clause-there : goal.returns-clause-there
 returns-clause-there g c =

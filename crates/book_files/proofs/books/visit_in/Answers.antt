@@ -1,5 +1,4 @@
 use Rattle.std.proofs.Common.{◌≡◌, false, subst}
-use Rattle.sqlite_disk.specs.Disk.{MoreFaults}
 use Rattle.sqlite_trees.specs.Tree.{Trees}
 use Rattle.sqlite_trees.specs.View.{IsClean}
 use Rattle.book_restarts.proofs.OpenStores.{clean_before}
@@ -7,8 +6,7 @@ use Rattle.book_restarts.proofs.SessionLemmas.{visit_leaves}
 use Rattle.book_restarts.specs.FileBooks.{file_names}
 use Rattle.tree_tables.specs.Holds.{has_book}
 use Rattle.tree_tables.specs.States.{state}
-use Rattle.book_files.specs.Causes.{ShowsOurs}
-use Rattle.book_files.proofs.Causes.{opened_cause, ours_failed}
+use Rattle.book_files.proofs.Causes.{opened_cause}
 use Rattle.book_files.proofs.ResumeParts.{unwritten_stays}
 use Rattle.book_files.proofs.books.visit_in.Goals as goal
 
@@ -35,13 +33,7 @@ returns-in-Err-clause-same g c =
     unwritten_stays (state g.S.Store c.args.store) (state g.S.Store c.in-Err.store)
     (λ (trees : Trees). g.met.S.Store.settled c.args.store trees) c.in-Err.ensures.crash_refused
 
-pub returns-in-Err-clause-cause : goal.returns-in-Err-clause-cause
-returns-in-Err-clause-cause g c = λ clean.
-    let old = state g.S.Store c.args.store in
-    let new = state g.S.Store c.in-Err.store in
-    let told = c.in-Err.ensures.told clean in
-    opened_cause (has_book old.view.trees ≡ false) ⊥
-    (ShowsOurs file_names old.view → MoreFaults old.faults new.faults) c.in-Err.fault
-    (λ none. told.none none)
-    (λ is ours. ours_failed file_names old new c.in-Err.fault is told (c.in-Err.ensures.own clean) ours)
-    c.in-Err.ensures.refused
+pub returns-in-Err-clause-refused : goal.returns-in-Err-clause-refused
+returns-in-Err-clause-refused g c = λ clean.
+    opened_cause (has_book (g.S.Store.view c.args.store).trees ≡ false) ⊥ c.in-Err.fault
+    (c.in-Err.ensures.none clean) c.in-Err.ensures.refused

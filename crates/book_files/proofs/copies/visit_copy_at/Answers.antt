@@ -67,7 +67,7 @@ returns-in-Ok-copy_to-clause-there g c =
     copies.Refused visited.result.0 c.map_err.result c.map_err.ensures.cases
     (ok_so visited.result.0 visited.ensures.there (λ answer there honest honest_too.
     let clean = visited.ensures.clean honest_too in (
-      told_by_row file_names first store c.in-Ok-copy_to.ensures.ready
+      told_by_row first store
           (λ sound. subst (λ (i : Image). (held : HoldsBooks i) → (view store).trees ≡ trees_held held)
           c.in-Ok.ensures.held (c.in-Ok-copy_to.ensures.found sound honest))
           clean true (there honest_too),
@@ -102,8 +102,8 @@ returns-in-Err-copy_to-clause-original g c =
     g.S.Destruct-dict) (λ file. inl refl) (image_at g.S.Start) c.in-Ok.files c.copy_to.new.from
     c.in-Ok.ensures.kept c.copy_to.ensures.read
 
-pub returns-in-Err-copy_to-clause-cause : goal.returns-in-Err-copy_to-clause-cause
-returns-in-Err-copy_to-clause-cause g c =
+pub returns-in-Err-copy_to-clause-refused : goal.returns-in-Err-copy_to-clause-refused
+returns-in-Err-copy_to-clause-refused g c =
     let one = modelled.ghosts the_row g.row.S host.ghosts host.dict g.S.Start g.S.Start-dict
     g.S.Destruct-dict in
     let two = modelled.ghosts the_row g.row.T host.ghosts host.dict g.T.Start g.T.Start-dict
@@ -113,10 +113,10 @@ returns-in-Err-copy_to-clause-cause g c =
     subst (WhyNotCopied one two (image_at g.S.Start) (Some original) (Refused copy))
     (sym c.copy_fault.ensures)
     (uncopied_cause one two (image_at g.S.Start) c.in-Ok.files original c.in-Ok.ensures.held
-    c.in-Err-copy_to.fault copy c.in-Err-copy_to.ensures.cause)
+    c.in-Err-copy_to.fault copy c.in-Err-copy_to.ensures.there)
 
-pub returns-in-Ok-copy_to-clause-cause : goal.returns-in-Ok-copy_to-clause-cause
-returns-in-Ok-copy_to-clause-cause g c =
+pub returns-in-Ok-copy_to-clause-refused : goal.returns-in-Ok-copy_to-clause-refused
+returns-in-Ok-copy_to-clause-refused g c =
     let one = modelled.ghosts the_row g.row.S host.ghosts host.dict g.S.Start g.S.Start-dict
     g.S.Destruct-dict in
     let two = modelled.ghosts the_row g.row.T host.ghosts host.dict g.T.Start g.T.Start-dict
@@ -125,8 +125,8 @@ returns-in-Ok-copy_to-clause-cause g c =
     let store = c.in-Ok-copy_to.store in
     mapped_err (WhyNotCopied one two (image_at g.S.Start) (Some c.copy_to.new.from)
     (Closed visited.result.1)) copies.Refused visited.result.0 c.map_err.result c.map_err.ensures.cases
-    visited.ensures.cause (λ fault cause honest clean.
-    visited_cause file_names (image_at g.S.Start) store c.in-Ok-copy_to.ensures.ready
+    visited.ensures.refused (λ fault cause honest clean.
+    visited_cause (image_at g.S.Start) store
     (λ clean. subst (λ (i : Image). (held : HoldsBooks i) → (view store).trees ≡ trees_held held)
     c.in-Ok.ensures.held (c.in-Ok-copy_to.ensures.found clean honest))
-    (visited.ensures.clean clean) _ fault (cause clean))
+    (visited.ensures.clean clean) fault (cause clean))

@@ -1,5 +1,5 @@
 use Rattle.std.proofs.Common.{inl, refl, subst, sym}
-use Rattle.std.proofs.Math.Logic.{∥∥₁_elim, ∥∥₁_map, ∥∥₁_prop}
+use Rattle.std.proofs.Math.Logic.{∥∥₁_map}
 use Rattle.std.specs.Prelude.{IfOk, IsOk, IsSome}
 use Rattle.sqlite_disk.specs.contracts.modelled.ModelledDisk.TheImpl as modelled
 use Rattle.sqlite_std_file.specs.contracts.host.Host.{the_row}
@@ -10,15 +10,12 @@ use Rattle.sqlite_wal.specs.Recovery.{Image}
 use Rattle.book_audit.specs.OfBook.{AreOfBook}
 use Rattle.book_restarts.specs.FileBooks.{file_names}
 use Rattle.book_trees.proofs.ListingLemmas.{books_listed}
-use Rattle.book_trees.specs.Refusals.{AreFull}
 use Rattle.book_trees.specs.StoreView.{ListsBooks}
-use Rattle.book_audit.specs.Own.{AreOwn}
-use Rattle.book_files.specs.Audits.{WhyUnsound}
 use Rattle.book_files.specs.Sessions.{MayFollow}
 use Rattle.book_files.specs.declared.session.Ended.TheVariants.{Refused}
-use Rattle.book_files.proofs.AuditParts.{audited_same, looked_in_hand, looked_listed, never_unsound}
-use Rattle.book_files.proofs.AuditParts.{opened_own, own_trees, refused_same, same_goes_on}
-use Rattle.book_files.proofs.Causes.{err_each, err_so, ok_each, ok_so}
+use Rattle.book_files.proofs.AuditParts.{audited_same, looked_in_hand, looked_listed, refused_same}
+use Rattle.book_files.proofs.AuditParts.{same_goes_on}
+use Rattle.book_files.proofs.Causes.{ok_each, ok_so}
 use Rattle.book_files.proofs.SessionParts.{found_clean, rows_as_found}
 use Rattle.book_files.proofs.session.audit_at.Goals as goal
 
@@ -53,39 +50,6 @@ returns-in-Ok-clause-history g c = λ image may.
 pub returns-in-Err-clause-history : goal.returns-in-Err-clause-history
 returns-in-Err-clause-history g c = λ image may.
     same_goes_on file_names (image_at g.S.Start) image (returns-in-Err-clause-same g c image may)
-
-pub returns-in-Ok-clause-own : goal.returns-in-Ok-clause-own
-returns-in-Ok-clause-own g c =
-    let audited = c.audit_and_close-audited in
-    ok_so audited.result.0 audited.ensures.own (λ told own history ours honest finding is.
-    ∥∥₁_elim ours.held ∥∥₁_prop λ kept.
-    own honest (subst AreOwn
-    (sym (c.in-Ok.ensures.found (clean_of _ (audited.ensures.clean honest)) kept.0))
-    (own_trees (image_at g.S.Start) history ours kept.0 kept.1)) finding is)
-
-pub returns-in-Err-clause-own : goal.returns-in-Err-clause-own
-returns-in-Err-clause-own g c =
-    let disk = modelled.ghosts the_row g.row.S host.ghosts host.dict g.S.Start g.S.Start-dict
-    g.S.Destruct-dict in
-    let first = image_at g.S.Start in
-    subst (λ result. IfOk result (WhyUnsound disk first (Refused c.in-Err.files)))
-    (sym c.not_looked_through.ensures)
-    (never_unsound disk first (AreFull disk) c.in-Err.fault c.in-Err.files c.in-Err.ensures.cause
-    c.in-Err.ensures.wrong)
-
-pub returns-in-Ok-clause-ends : goal.returns-in-Ok-clause-ends
-returns-in-Ok-clause-ends g c =
-    let audited = c.audit_and_close-audited in
-    let opened = c.in-Ok.ensures in
-    err_so audited.result.0 audited.ensures.ends (λ fault ends history ours few honest other.
-    let clean = audited.ensures.clean honest in
-    ∥∥₁_elim ours.held ∥∥₁_prop λ kept.
-    ends honest (opened_own (image_at g.S.Start) history ours few c.in-Ok.store opened.ready clean
-    kept.0 kept.1 (opened.found (clean_of _ clean) kept.0)) other)
-
-pub returns-in-Err-clause-ends : goal.returns-in-Err-clause-ends
-returns-in-Err-clause-ends g c =
-    err_each c.not_looked_through.result (λ fault history ours few. tt)
 
 pub returns-in-Ok-clause-book : goal.returns-in-Ok-clause-book
 returns-in-Ok-clause-book g c =
@@ -134,5 +98,5 @@ returns-in-Err-clause-in_hand g c =
     let disk = modelled.ghosts the_row g.row.S host.ghosts host.dict g.S.Start g.S.Start-dict
     g.S.Destruct-dict in
     subst (λ result. IsOk result → IsSome c.in-Err.files) (sym c.not_looked_through.ensures)
-    (looked_in_hand disk (image_at g.S.Start) (AreFull disk) c.in-Err.fault c.in-Err.files
-    c.in-Err.ensures.cause)
+    (looked_in_hand disk (image_at g.S.Start) c.in-Err.fault c.in-Err.files
+    c.in-Err.ensures.there)

@@ -1,5 +1,4 @@
 use Rattle.std.proofs.Common.{subst, sym}
-use Rattle.std.specs.Prelude.{⊤}
 use Rattle.sqlite_disk.specs.contracts.modelled.ModelledDisk.TheImpl as modelled
 use Rattle.sqlite_std_file.specs.contracts.host.Host.{the_row}
 use Rattle.sqlite_std_file.specs.contracts.host.HostCalls.TheImpl as host
@@ -7,7 +6,6 @@ use Rattle.sqlite_trees.proofs.Doubt.{clean_of}
 use Rattle.sqlite_wal.specs.Files.{image_at}
 use Rattle.book_restarts.specs.FileBooks.{file_names}
 use Rattle.book_trees.specs.LedgerFiles.{HoldsNothing}
-use Rattle.book_trees.specs.Refusals.{StopCreating}
 use Rattle.book_files.specs.Causes.{HasFaultCause, WhyNotMade}
 use Rattle.book_files.specs.declared.session.Ended.TheVariants.{Refused}
 use Rattle.book_files.proofs.Causes.{ok_each, refused_cause}
@@ -39,11 +37,11 @@ returns-in-Err-clause-made g c = λ nothing image may.
     refused_begun (modelled.ghosts the_row g.row.S host.ghosts host.dict g.S.Start g.S.Start-dict
     g.S.Destruct-dict) file_names c.in-Err.files (c.in-Err.ensures.begun_refused nothing) image may
 
-pub returns-in-Err-clause-cause : goal.returns-in-Err-clause-cause
-returns-in-Err-clause-cause g c =
+pub returns-in-Err-clause-refused : goal.returns-in-Err-clause-refused
+returns-in-Err-clause-refused g c =
     let disk = modelled.ghosts the_row g.row.S host.ghosts host.dict g.S.Start g.S.Start-dict
     g.S.Destruct-dict in
     let first = image_at g.S.Start in
     subst (WhyNotMade disk first (Refused c.in-Err.files)) (sym c.refused.ensures)
-    (refused_cause disk (HoldsNothing first) (StopCreating disk) (λ Failed. HasFaultCause ⊥ ⊥ ⊤)
-    c.in-Err.fault c.in-Err.files c.in-Err.ensures.cause)
+    (refused_cause disk (HoldsNothing first) (HasFaultCause ⊥ ⊥) c.in-Err.fault c.in-Err.files
+    c.in-Err.ensures.there)

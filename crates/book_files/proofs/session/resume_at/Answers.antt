@@ -1,6 +1,4 @@
 use Rattle.std.proofs.Common.{◌≡◌, inl, refl, subst, sym, true}
-use Rattle.std.proofs.Math.Logic.{∥∥₁_elim, ∥∥₁_prop}
-use Rattle.std.specs.Prelude.{⊤}
 use Rattle.sqlite_disk.specs.contracts.modelled.ModelledDisk.TheImpl as modelled
 use Rattle.sqlite_std_file.specs.contracts.host.Host.{the_row}
 use Rattle.sqlite_std_file.specs.contracts.host.HostCalls.TheImpl as host
@@ -11,12 +9,11 @@ use Rattle.sqlite_wal.specs.Files.{image_at}
 use Rattle.sqlite_wal.specs.Reads.{AreClean}
 use Rattle.book_model.specs.Words.{book_after, new_book}
 use Rattle.book_restarts.specs.FileBooks.{file_names}
-use Rattle.book_trees.specs.Closing.{HaveFailed}
 use Rattle.book_trees.specs.LedgerFiles.{HoldsBooks, trees_held}
 use Rattle.table_ledger.specs.Ready.{IsStoredIn}
 use Rattle.table_model.specs.TablesOf.{tables_of}
 use Rattle.tree_tables.specs.Holds.{has_book}
-use Rattle.book_files.specs.Causes.{HaveBookRow, HoldsOurBooks, IsResumedBy}
+use Rattle.book_files.specs.Causes.{HaveBookRow, IsResumedBy}
 use Rattle.book_files.specs.Unused.{are_unused}
 use Rattle.book_files.proofs.Causes.{cause_so, err_so, told_by_row}
 use Rattle.book_files.proofs.NewParts.{refused_still, resumed_at}
@@ -38,8 +35,7 @@ returns-in-Ok-clause-none g c = λ image may history held.
     let disk = modelled.ghosts the_row g.row.S host.ghosts host.dict g.S.Start g.S.Start-dict
     g.S.Destruct-dict in
     none_resumed file_names history (image_at g.S.Start) resumed.result.0 held (λ kept stored.
-    resumed_unused (HaveFailed disk resumed.result.1.files)
-    (are_unused (tables_of file_names (book_after history))) resumed.result.0
+    resumed_unused (are_unused (tables_of file_names (book_after history))) resumed.result.0
     (resumed.ensures.told (book_after history)
     (opened_stands file_names (book_after history) (image_at g.S.Start) c.in-Ok.store
     c.in-Ok.ensures.ready c.in-Ok.ensures.found kept stored)
@@ -51,31 +47,23 @@ returns-in-Ok-clause-made g c = λ begun image may.
     file_names c.resume_and_close-made.result.0 image
     (λ empty. c.resume_and_close-made.ensures.left empty may.0 image may.1)
 
-pub returns-in-Ok-clause-cause : goal.returns-in-Ok-clause-cause
-returns-in-Ok-clause-cause g c =
+pub returns-in-Ok-clause-refused : goal.returns-in-Ok-clause-refused
+returns-in-Ok-clause-refused g c =
     let resumed = c.resume_and_close-made in
     let disk = modelled.ghosts the_row g.row.S host.ghosts host.dict g.S.Start g.S.Start-dict
     g.S.Destruct-dict in
     let first = image_at g.S.Start in
     let store = c.in-Ok.store in
     let opened = c.in-Ok.ensures in
-    let Failed : Type 0 = HaveFailed disk resumed.result.1.files in
     why_unresumed (AreClean disk resumed.result.1.files.log resumed.result.1.files.db)
     (HaveBookRow first)
-    ((held : HoldsBooks first) × IsStoredIn file_names new_book (trees_held held)) Failed
-    (HoldsOurBooks file_names first → Failed) resumed.result.0
-    (err_so resumed.result.0 resumed.ensures.cause (λ fault cause clean.
-    cause_so ⊥ ⊥ (has_book (view store).trees ≡ true) (HaveBookRow first) ⊤ ⊤ (λ never. never)
-    (told_by_row file_names first store opened.ready opened.found (resumed.ensures.clean clean) true)
-    (λ failed. failed) fault (cause clean)))
-    (λ kept clean. subst (λ unused. IsResumedBy Failed unused resumed.result.0)
-    (new_unused file_names)
+    ((held : HoldsBooks first) × IsStoredIn file_names new_book (trees_held held)) resumed.result.0
+    (err_so resumed.result.0 resumed.ensures.refused (λ fault cause clean.
+    cause_so ⊥ ⊥ (has_book (view store).trees ≡ true) (HaveBookRow first) (λ never. never)
+    (told_by_row first store opened.found (resumed.ensures.clean clean) true) fault (cause clean)))
+    (λ kept clean. subst (λ unused. IsResumedBy unused resumed.result.0) (new_unused file_names)
     (resumed.ensures.told new_book
     (opened_stands file_names new_book first store opened.ready opened.found kept.0 kept.1) clean))
-    (λ is clean ours. ∥∥₁_elim ours.held ∥∥₁_prop λ kept.
-    subst (IsResumedBy {A = Unit {0}} Failed (are_unused (tables_of file_names ours.book))) is
-    (resumed.ensures.told ours.book
-    (opened_stands file_names ours.book first store opened.ready opened.found kept.0 kept.1) clean))
 
 pub returns-in-Ok-clause-rows : goal.returns-in-Ok-clause-rows
 returns-in-Ok-clause-rows g c = λ row image may held.

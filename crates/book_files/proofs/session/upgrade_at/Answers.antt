@@ -1,6 +1,6 @@
 use Rattle.std.proofs.Common.{◌≡◌, false, inl, refl, subst, sym}
 use Rattle.std.proofs.Math.Logic.{∥∥₁_elim, ∥∥₁_prop}
-use Rattle.std.specs.Prelude.{IfErr, IfOk, IsOk, IsSome, Result, ⊤}
+use Rattle.std.specs.Prelude.{IfErr, IfOk, IsOk, IsSome, Result}
 use Rattle.sqlite_disk.specs.contracts.modelled.ModelledDisk.TheImpl as modelled
 use Rattle.sqlite_std_file.specs.contracts.host.Host.{the_row}
 use Rattle.sqlite_std_file.specs.contracts.host.HostCalls.TheImpl as host
@@ -13,7 +13,6 @@ use Rattle.book_restarts.proofs.SessionLemmas.{still_held}
 use Rattle.book_restarts.specs.FileBooks.{file_names}
 use Rattle.book_trees.specs.FirstForm.{HoldsFirstForm}
 use Rattle.book_trees.specs.LedgerFiles.{HoldsFile, rows_held}
-use Rattle.book_trees.specs.Refusals.{AreFull}
 use Rattle.named_books.specs.declared.repository.RepositoryFault.{RepositoryFault}
 use Rattle.named_books.specs.declared.repository.Upgraded.{Upgraded}
 use Rattle.tree_tables.specs.Holds.{has_book}
@@ -61,8 +60,8 @@ pub returns-in-Ok-clause-only : goal.returns-in-Ok-clause-only
 returns-in-Ok-clause-only g c = λ clean.
     c.in-Ok.ensures.held (clean_of _ (c.upgrade_and_close-upgraded.ensures.clean clean))
 
-pub returns-in-Ok-clause-cause : goal.returns-in-Ok-clause-cause
-returns-in-Ok-clause-cause g c =
+pub returns-in-Ok-clause-refused : goal.returns-in-Ok-clause-refused
+returns-in-Ok-clause-refused g c =
     let upgraded = c.upgrade_and_close-upgraded in
     let disk = modelled.ghosts the_row g.row.S host.ghosts host.dict g.S.Start g.S.Start-dict
     g.S.Destruct-dict in
@@ -70,22 +69,21 @@ returns-in-Ok-clause-cause g c =
     subst (λ result. IfErr result (WhyNotUpgraded disk first (Closed upgraded.result.1)))
     (sym c.told_upgraded.ensures)
     (told_why (WhyNotUpgraded disk first (Closed upgraded.result.1)) upgraded.result.0
-    (err_so upgraded.result.0 upgraded.ensures.cause (λ fault cause clean.
-    cause_so (has_book (view c.in-Ok.store).trees ≡ false) (HaveNoFirstRow first) ⊥ ⊥ ⊤ ⊤
+    (err_so upgraded.result.0 upgraded.ensures.refused (λ fault cause clean.
+    cause_so (has_book (view c.in-Ok.store).trees ≡ false) (HaveNoFirstRow first) ⊥ ⊥
     (λ none held. subst (λ trees. has_book trees ≡ false)
     (c.in-Ok.ensures.found (clean_of _ (upgraded.ensures.clean clean)) held) none)
-    (λ never. never) (λ failed. failed) fault (cause clean))))
+    (λ never. never) fault (cause clean))))
 
-pub returns-in-Err-clause-cause : goal.returns-in-Err-clause-cause
-returns-in-Err-clause-cause g c =
+pub returns-in-Err-clause-refused : goal.returns-in-Err-clause-refused
+returns-in-Err-clause-refused g c =
     let disk = modelled.ghosts the_row g.row.S host.ghosts host.dict g.S.Start g.S.Start-dict
     g.S.Destruct-dict in
     let first = image_at g.S.Start in
     subst (λ result. IfErr result (WhyNotUpgraded disk first (Refused c.in-Err.files)))
     (sym c.not_upgraded.ensures)
-    (first_cause disk (HoldsFirstForm first) (AreFull disk)
-    (λ Failed. HasFaultCause (HaveNoFirstRow first) ⊥ ⊤) c.in-Err.fault c.in-Err.files
-    c.in-Err.ensures.cause)
+    (first_cause disk (HoldsFirstForm first) (HasFaultCause (HaveNoFirstRow first) ⊥) c.in-Err.fault
+    c.in-Err.files c.in-Err.ensures.there)
 
 pub returns-in-Err-clause-history : goal.returns-in-Err-clause-history
 returns-in-Err-clause-history g c = λ form image may history held.
@@ -93,8 +91,7 @@ returns-in-Err-clause-history g c = λ form image may history held.
     g.S.Destruct-dict in
     subst (λ result. BringsOver file_names history result image) (sym c.not_upgraded.ensures)
     (refused_brings disk (λ file. inl refl) file_names (image_at g.S.Start) history image
-    (AreFull disk) c.in-Err.fault c.in-Err.files c.in-Err.ensures.cause c.in-Err.ensures.kept form
-    may held)
+    c.in-Err.fault c.in-Err.files c.in-Err.ensures.there c.in-Err.ensures.kept form may held)
 
 pub returns-in-Err-clause-kept : goal.returns-in-Err-clause-kept
 returns-in-Err-clause-kept g c = λ image may.
@@ -119,7 +116,7 @@ returns-in-Err-clause-this g c = λ held.
     g.S.Destruct-dict in
     subst (λ result. IsToldOfThis disk result (Refused c.in-Err.files)) (sym c.not_upgraded.ensures)
     (refused_this disk (image_at g.S.Start) held c.in-Err.fault c.in-Err.files
-    c.in-Err.ensures.cause c.in-Err.ensures.this)
+    c.in-Err.ensures.there c.in-Err.ensures.this)
 
 pub returns-in-Ok-clause-told : goal.returns-in-Ok-clause-told
 returns-in-Ok-clause-told g c =
@@ -159,5 +156,5 @@ returns-in-Err-clause-in_hand g c =
     let disk = modelled.ghosts the_row g.row.S host.ghosts host.dict g.S.Start g.S.Start-dict
     g.S.Destruct-dict in
     subst (λ result. IsOk result → IsSome c.in-Err.files) (sym c.not_upgraded.ensures)
-    (first_in_hand disk (HoldsFirstForm (image_at g.S.Start)) (AreFull disk) c.in-Err.fault
-    c.in-Err.files c.in-Err.ensures.cause)
+    (first_in_hand disk (HoldsFirstForm (image_at g.S.Start)) c.in-Err.fault c.in-Err.files
+    c.in-Err.ensures.there)

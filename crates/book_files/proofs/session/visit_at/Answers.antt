@@ -45,12 +45,11 @@ returns-in-Ok g c =
       in_hand = λ answered. tt;
       there = ok_so visited.result.0 visited.ensures.there (λ answer there honest.
           let clean = visited.ensures.clean honest in (
-            told_by_row file_names first store opened.ready opened.found clean true (there honest),
+            told_by_row first store opened.found clean true (there honest),
             opened.form (clean_of _ clean),
           ));
-      cause = err_so visited.result.0 visited.ensures.cause (λ fault cause clean.
-          visited_cause file_names first store opened.ready opened.found
-          (visited.ensures.clean clean) _ fault (cause clean));
+      refused = err_so visited.result.0 visited.ensures.refused (λ fault cause clean.
+          visited_cause first store opened.found (visited.ensures.clean clean) fault (cause clean));
     }
 
 pub returns-in-Err-clause-history : goal.returns-in-Err-clause-history
