@@ -1,10 +1,3 @@
--- The lemmas: what a session leaves of files; what is left where new books are made; where they are
--- continued; that books to which nothing was submitted are those of no history; why a session has no
--- answer, and why there is no copy; what an audit says.
-pub mod SessionParts
-pub mod NewParts
-pub mod ResumeParts
-pub mod UnusedBooks
-pub mod Causes
-pub mod UpgradeParts
-pub mod AuditParts
+-- The lemmas: what is so of a copy of books, and what is told of a session.
+pub mod CopyParts
+pub mod Told

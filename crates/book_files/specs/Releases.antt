@@ -8,8 +8,8 @@ use Rattle.book_trees.specs.declared.closing.LogLeft.TheVariants.{Short, Unmoved
 use Rattle.book_files.specs.Logs.{LooksShort}
 use Rattle.book_files.specs.declared.copies.CopyFault.{CopyFault}
 use Rattle.book_files.specs.declared.copies.CopyFault.TheVariants as copies
-use Rattle.book_files.specs.declared.session.Ended.{Ended}
-use Rattle.book_files.specs.declared.session.Ended.TheVariants.{Closed, Refused}
+use Rattle.book_sessions.specs.declared.ended.Ended.{Ended}
+use Rattle.book_sessions.specs.declared.ended.Ended.TheVariants.{Closed, Refused}
 use Rattle.named_books.specs.declared.repository.RepositoryFault.{RepositoryFault}
 use Rattle.named_books.specs.declared.repository.RepositoryFault.TheVariants.{Ledger}
 

@@ -1,27 +1,23 @@
-//! The books in a store, and the store of a file, which is closed after a visit. What is done to
-//! open books is written for any store, so that it is proved once.
+//! The books in a store, and the store of a file, which is closed afterwards. What is done to open
+//! books is written for any store, so that it is proved once.
 
-ghost use Rattle.std.specs.Prelude.{◌≡◌, false, is_some, true, IfErr, IfOk, MatchResult, OnOk};
+ghost use Rattle.std.specs.Prelude.{◌≡◌, false, is_some, true, IfErr, IfOk, OnOk};
 ghost use Rattle.sqlite_store.specs.FileStore.{view};
 ghost use Rattle.sqlite_trees.specs.View.{IsClean};
 ghost use Rattle.sqlite_wal.specs.Reads.{AreClean};
 ghost use Rattle.book_audit.specs.OfBook.{AreOfBook};
 ghost use Rattle.book_audit.specs.declared.audited.Counts.{Counts};
 ghost use Rattle.book_model.specs.Words.{Book};
-ghost use Rattle.book_trees.specs.Closing.{IsShort};
-ghost use Rattle.book_files.specs.Causes.{HasFaultCause, IsResumed};
-ghost use Rattle.book_files.specs.Faults.{store_fault};
-ghost use Rattle.book_files.specs.Stores.{CloseGoesOn, CloseKeepsBook, CloseKeepsLog};
-ghost use Rattle.book_files.specs.Stores.{CloseKeepsRows, CloseKeepsTrees, CloseLeaves};
-ghost use Rattle.book_files.specs.Stores.{CloseLeavesNew, CloseLeavesRows, CloseRowsGoOn};
-ghost use Rattle.book_files.specs.Stores.{CloseTriesToMoveLog};
-ghost use Rattle.book_files.specs.Stores.{StopGoesOn, StopKeepsBook, StopKeepsTrees, StopLeaves};
-ghost use Rattle.book_files.specs.Stores.{StopLeavesNew};
-ghost use Rattle.book_files.specs.Unused.{SaysUnused, unused_by};
-ghost use Rattle.book_files.specs.Upgrades.{HoldsUpgraded, LeavesUpgraded, MayBringOver};
-ghost use Rattle.book_files.specs.Upgrades.{RestsBroughtOver};
+ghost use Rattle.book_sessions.specs.Causes.{HasFaultCause, IsResumed};
+ghost use Rattle.book_sessions.specs.Stops.{CloseKeepsBook, CloseKeepsLog, CloseKeepsRows};
+ghost use Rattle.book_sessions.specs.Stops.{CloseKeepsTrees, CloseLeaves, CloseLeavesNew};
+ghost use Rattle.book_sessions.specs.Stops.{CloseLeavesRows, CloseTriesToMoveLog};
+ghost use Rattle.book_sessions.specs.Stops.{StopKeepsBook, StopKeepsTrees, StopLeaves, StopLeavesNew};
+ghost use Rattle.book_sessions.specs.Unused.{SaysUnused, unused_by};
+ghost use Rattle.book_sessions.specs.Upgrades.{HoldsUpgraded, LeavesUpgraded, MayBringOver};
+ghost use Rattle.book_sessions.specs.Upgrades.{RestsBroughtOver};
 ghost use Rattle.book_trees.specs.FirstForm.{HasFirstTrees};
-ghost use Rattle.book_restarts.specs.FileBooks.{StandsAt, done_by, file_names};
+ghost use Rattle.book_restarts.specs.FileBooks.{StandsAt, file_names};
 ghost use Rattle.table_ledger.specs.FirstForm.{StandsAtFirst};
 ghost use Rattle.tree_tables.specs.Holds.{HasShapes, has_book};
 ghost use Rattle.tree_tables.specs.States.{HasCleanDisk, Survives, state};
@@ -29,8 +25,9 @@ ghost use Rattle.tree_tables.specs.Steps.{Looks};
 
 use book_audit::{Audited, Watch, audit_trees};
 use book_core::{LedgerFault, ShaNames};
+use book_sessions::fault_of;
 use book_trees::{Closed, add_details, close_books, close_first, close_unchanged, commit_form};
-use named_books::{RepositoryFault, Visit};
+use named_books::RepositoryFault;
 use sqlite_disk::Disk;
 use sqlite_store::FileStore;
 use sqlite_trees::error::StoreError;
@@ -38,39 +35,6 @@ use sqlite_trees::store::{Alter, Store};
 use std::alloc::Global;
 use table_ledger::{TableLedger, fill_details, has_book_row};
 use tree_tables::{StoredBook, TreeTables};
-
-/// Visits the books in a store. They name records by SHA-256. The store is given back: whatever a
-/// stop may leave of it holds what the visit made of its book.
-pub fn visit_in<S: Store, V: Visit>(
-    alloc: Global,
-    store: S,
-    visit: &mut V,
-) -> (Result<V::Answer, RepositoryFault>, S)
-    requires { IsClean (S.Store.view store) → HasShapes (S.Store.view store) }
-    ensures left { StopGoesOn (done_by (V.Visit.work file_names visit.old visit.new) result.0)
-        (S.Store.view store) (state S.Store result.1) }
-
-    // What is not visited stays as it was, also where no book can be read back from it.
-    ensures same { IfErr result.0 (λ fault.
-        StopKeepsTrees (S.Store.view store) (state S.Store result.1)) }
-    ensures clean { IsClean (S.Store.view result.1) → IsClean (S.Store.view store) }
-    ensures came { MatchResult result.0 (V.Visit.comes visit.old visit.new)
-        (λ _. visit.new ≡ visit.old) }
-    ensures there { IfOk result.0 (λ answer. IsClean (S.Store.view result.1)
-        → has_book (S.Store.view store).trees ≡ true) }
-
-    // That there are no books is told only where it is not.
-    ensures refused { IfErr result.0 (λ fault. IsClean (S.Store.view result.1)
-        → HasFaultCause (has_book (S.Store.view store).trees ≡ false) ⊥ fault) }
-{
-    match TableLedger::open(alloc, store, ShaNames) {
-        Ok(mut books) => {
-            let answer = visit.visit(&mut books);
-            (Ok(answer), books.close_store())
-        }
-        Err((fault, store)) => (Err(RepositoryFault::Ledger(fault)), store),
-    }
-}
 
 /// Makes new books in a store that has none, whatever it says of its form. The store is given back.
 fn create_in<S: Store>(alloc: Global, store: S) -> (Result<(), RepositoryFault>, S)
@@ -138,16 +102,6 @@ fn look_for_new<S: Store>(alloc: Global, store: S) -> (Result<Option<bool>, Stor
     (found, tables.into_store())
 }
 
-/// What a fault of the store means.
-fn fault_of(error: StoreError) -> RepositoryFault
-    ensures { result ≡ store_fault error }
-{
-    RepositoryFault::Ledger(match error {
-        StoreError::OutOfMemory => LedgerFault::Memory,
-        _ => LedgerFault::Store,
-    })
-}
-
 /// Continues new books that were stopped while they were made, with or without their row. Books to
 /// which anything was submitted belong to somebody. Nothing is written where the row is there, also
 /// where no book can be read back.
@@ -176,35 +130,6 @@ fn resume_in<S: Alter>(alloc: Global, store: S) -> (Result<(), RepositoryFault>,
     } else {
         (Err(RepositoryFault::Exists), store)
     }
-}
-
-/// Visits the books in a file that was opened, and closes it: whatever may be found of it then, and
-/// wherever a stop comes within this, holds what the visit made of the book.
-pub(crate) fn visit_and_close<D: Disk, V: Visit>(
-    alloc: Global,
-    store: FileStore<D>,
-    visit: &mut V,
-) -> (Result<V::Answer, RepositoryFault>, Closed<D>)
-    requires { HasShapes (view store) }
-    ensures left { CloseGoesOn D.Disk
-        (done_by (V.Visit.work file_names visit.old visit.new) result.0) (view store) result.1 }
-    ensures rows { CloseRowsGoOn D.Disk
-        (done_by (V.Visit.work file_names visit.old visit.new) result.0) (view store) result.1 }
-    ensures same { IfErr result.0 (λ fault. CloseKeepsRows D.Disk (view store) result.1) }
-    ensures short { IsShort D.Disk result.1 }
-    ensures moves { CloseTriesToMoveLog result.1 }
-    ensures clean { AreClean D.Disk result.1.files.log result.1.files.db → IsClean (view store) }
-    ensures came { MatchResult result.0 (V.Visit.comes visit.old visit.new)
-        (λ _. visit.new ≡ visit.old) }
-    ensures there { IfOk result.0 (λ answer.
-        AreClean D.Disk result.1.files.log result.1.files.db
-        → has_book (view store).trees ≡ true) }
-    ensures refused { IfErr result.0 (λ fault.
-        AreClean D.Disk result.1.files.log result.1.files.db
-        → HasFaultCause (has_book (view store).trees ≡ false) ⊥ fault) }
-{
-    let (answer, store) = visit_in(alloc, store, visit);
-    (answer, close_books(store))
 }
 
 /// Makes new books in a file whose trees were made, and closes it. Whatever may be found of it then,

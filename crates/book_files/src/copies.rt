@@ -3,17 +3,15 @@
 ghost use Rattle.std.specs.Prelude.{◌≡◌, IfErr, IfOk, IfSome, IsOk, IsSome, MatchResult};
 ghost use Rattle.sqlite_wal.specs.Files.{image_at};
 ghost use Rattle.book_core.specs.Transition.{NoEvent};
-ghost use Rattle.book_files.specs.Causes.{MightBeVisited, WhyNotCopied};
+ghost use Rattle.book_files.specs.Copies.{CopyAloneGoesOn, CopyGoesOn, WereOnlyRead, WhyNotCopied};
 ghost use Rattle.book_files.specs.Faults.{not_copied, tried_answer};
-ghost use Rattle.book_files.specs.Sessions.{AreHonest, AreOpened, CopyAloneGoesOn, CopyGoesOn};
-ghost use Rattle.book_files.specs.Sessions.{OpenOnly, TriesToMoveLog, WereOnlyRead};
+ghost use Rattle.book_sessions.specs.Causes.{MightBeVisited};
+ghost use Rattle.book_sessions.specs.Sessions.{AreHonest, AreOpened, OpenOnly, TriesToMoveLog};
 ghost use Rattle.book_restarts.specs.FileBooks.{file_names};
 ghost use Rattle.book_trees.specs.LedgerFiles.{HoldsBooks};
 
-use crate::books::visit_and_close;
-use crate::repository::refused;
-use crate::session::Ended;
 use book_core::LedgerFault;
+use book_sessions::{Ended, refused};
 use book_trees::{LookFault, copy_to, lock_at};
 use named_books::{Look, RepositoryFault, Visit};
 use sqlite_disk::{Disk, Files, Start};
@@ -97,11 +95,11 @@ pub fn visit_copy_at<S: Start, T: Start, V: Visit>(
     };
     match copy_to(rt, &mut files, copy, seed, held) {
         Ok(store) => {
-            let (opened, closed) = visit_and_close(rt.alloc(), store, visit);
+            let (answer, ended) = book_sessions::visit(rt.alloc(), Ok(store), visit);
             Copied {
-                answer: opened.map_err(CopyFault::Refused),
+                answer: answer.map_err(CopyFault::Refused),
                 original: Some(files),
-                copy: Ended::Closed(closed),
+                copy: ended,
             }
         }
         Err((fault, copies)) => Copied {

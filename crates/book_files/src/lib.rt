@@ -13,9 +13,8 @@ mod repository;
 mod session;
 mod waiting;
 
-pub use books::visit_in;
 pub use copies::{Copied, CopyFault, copy_at, visit_copy_at};
 pub use laws::sound_are_ours;
 pub use names::is_log_name;
 pub use repository::Files;
-pub use session::{Ended, audit_at, make_at, resume_at, upgrade_at, visit_at};
+pub use session::{audit_at, make_at, resume_at, upgrade_at, visit_at};

@@ -5,7 +5,8 @@ ghost use Rattle.book_trees.specs.LedgerFiles.{shortest_log};
 ghost use Rattle.book_files.specs.Logs.{IsOfNoUse, LooksShort};
 ghost use Rattle.book_files.specs.Releases.{IsMoved, UnmovedLooksShort};
 
-use crate::repository::{failed, refused};
+use crate::repository::failed;
+use book_sessions::refused;
 use book_trees::{Closed, LogLeft, OpenFault, is_short, is_unused, lock_at, needs_no_log};
 use named_books::RepositoryFault;
 use sqlite_disk::{Disk, Files, Unknown};

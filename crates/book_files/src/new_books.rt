@@ -3,13 +3,14 @@
 
 ghost use Rattle.std.specs.Prelude.{◌≡◌, IsOk, IsSome, IsTrue};
 ghost use Rattle.book_files.specs.Releases.{seen_answer};
-ghost use Rattle.book_files.specs.Sessions.{AreOpened, files_in_hand};
+ghost use Rattle.book_sessions.specs.Sessions.{AreOpened, files_in_hand};
 
 use crate::log::{Log, is_there, sync_folder};
 use crate::names::is_log_name;
 use crate::repository::{Files, failed};
-use crate::session::{Ended, make_at, resume_at};
+use crate::session::{make_at, resume_at};
 use book_core::LedgerFault;
+use book_sessions::Ended;
 use named_books::RepositoryFault;
 use sqlite_disk::{Disk, Files as Pair, Unknown};
 use sqlite_std_file::FileFrom;

@@ -2,16 +2,18 @@
 
 ghost use Rattle.std.specs.Prelude.{◌≡◌, false, Err, OnErr, OnOk};
 ghost use Rattle.std.specs.IoError.{error_kind};
-ghost use Rattle.book_files.specs.Faults.{file_fault, look_answer, open_fault};
+ghost use Rattle.book_files.specs.Faults.{file_fault};
 ghost use Rattle.book_files.specs.Releases.{HasMovedLog, LeftLooksShort, seen_answer};
+ghost use Rattle.book_sessions.specs.Faults.{look_answer};
 ghost use Rattle.named_books.specs.Shelves.{ComesBy};
 
 use crate::log::{Log, begins_as_books};
-use crate::session::{Ended, audit_at, upgrade_at, visit_at};
+use crate::session::{audit_at, upgrade_at, visit_at};
 use crate::waiting::Visited;
 use book_audit::{Audited, AuditedRepository, Finding, Place, Watch, Wrong};
 use book_core::LedgerFault;
-use book_trees::{LookFault, OpenFault};
+use book_sessions::{Ended, refused};
+use book_trees::LookFault;
 use named_books::{Opened, Repository, RepositoryFault, Upgraded, Visit, WaitingRepository};
 use sqlite_disk::{Disk, Unknown};
 use std::hash::{BuildHasher, RandomState};
@@ -113,21 +115,6 @@ pub(crate) fn failed(error: &io::Error) -> RepositoryFault
         ErrorKind::AlreadyExists => RepositoryFault::Exists,
         ErrorKind::OutOfMemory => RepositoryFault::Ledger(LedgerFault::Memory),
         _ => RepositoryFault::Io,
-    }
-}
-
-/// What it means that books were not opened or made.
-pub(crate) fn refused(fault: OpenFault) -> RepositoryFault
-    ensures { result ≡ open_fault fault }
-{
-    match fault {
-        OpenFault::NotBooks => RepositoryFault::Ledger(LedgerFault::NotBooks),
-        OpenFault::OldForm => RepositoryFault::Ledger(LedgerFault::OldForm),
-        OpenFault::NewForm => RepositoryFault::Ledger(LedgerFault::NewForm),
-        OpenFault::Memory => RepositoryFault::Ledger(LedgerFault::Memory),
-        OpenFault::Store => RepositoryFault::Ledger(LedgerFault::Store),
-        OpenFault::Busy => RepositoryFault::Busy,
-        OpenFault::Path => RepositoryFault::Io,
     }
 }
 

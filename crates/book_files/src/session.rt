@@ -1,5 +1,6 @@
-//! One session on the books in a file: it is opened, visited and closed; or looked through; or new
-//! books are made in it, or continued; or old ones are brought over.
+//! One session on the books in a file, by its path: it is opened, visited and closed; or looked
+//! through; or new books are made in it, or continued; or old ones are brought over. A path is only
+//! opened here: what is done to the open files is done by `book_sessions`, which has no path.
 
 ghost use Rattle.std.specs.Prelude.{◌≡◌, [], IfErr, IfOk, IsOk, List, MatchResult};
 ghost use Rattle.sqlite_wal.specs.Files.{image_at};
@@ -7,46 +8,36 @@ ghost use Rattle.sqlite_wal.specs.Recovery.{Image};
 ghost use Rattle.book_model.specs.Words.{Event};
 ghost use Rattle.book_core.specs.Transition.{NoEvent};
 ghost use Rattle.book_audit.specs.declared.audited.Counts.{Counts};
-ghost use Rattle.book_files.specs.Audits.{HoldCounted, HoldSameTrees};
-ghost use Rattle.book_files.specs.Causes.{HaveBookRow, MightBeVisited, WhyNotAudited};
-ghost use Rattle.book_files.specs.Causes.{WhyNotContinued, WhyNotMade};
-ghost use Rattle.book_files.specs.Causes.{IsToldOfThis, WhyNotUpgraded, WhyNotVisited};
-ghost use Rattle.book_files.specs.Faults.{first_answer, resume_fault};
-ghost use Rattle.book_files.specs.NewBooks.{MayBeMade, NewBooksMade};
-ghost use Rattle.book_files.specs.Sessions.{AreAsFound, AreInHand, AreOpened, FileAloneGoesOn};
-ghost use Rattle.book_files.specs.Sessions.{FilesGoOn, KeepRows, KeepsLog, MayFollow, OpenOnly};
-ghost use Rattle.book_files.specs.Sessions.{RowsGoOn, TriesToMoveLog};
-ghost use Rattle.book_files.specs.Upgrades.{FilesBroughtOver, HoldsWhatIsTold, RowsBroughtOver};
-ghost use Rattle.book_files.specs.Upgrades.{TellsThisForm, upgrade_answer};
+ghost use Rattle.book_sessions.specs.Audits.{HoldCounted, HoldSameTrees};
+ghost use Rattle.book_sessions.specs.Causes.{HaveBookRow, MightBeVisited, WhyNotAudited};
+ghost use Rattle.book_sessions.specs.Causes.{WhyNotContinued, WhyNotMade};
+ghost use Rattle.book_sessions.specs.Causes.{IsToldOfThis, WhyNotUpgraded, WhyNotVisited};
+ghost use Rattle.book_sessions.specs.Faults.{first_answer, resume_fault};
+ghost use Rattle.book_sessions.specs.NewBooks.{MayBeMade, NewBooksMade};
+ghost use Rattle.book_sessions.specs.Sessions.{AreAsFound, AreInHand, AreOpened, FileAloneGoesOn};
+ghost use Rattle.book_sessions.specs.Sessions.{FilesGoOn, KeepRows, KeepsLog, MayFollow, OpenOnly};
+ghost use Rattle.book_sessions.specs.Sessions.{RowsGoOn, TriesToMoveLog};
+ghost use Rattle.book_sessions.specs.Upgrades.{FilesBroughtOver, HoldsWhatIsTold, RowsBroughtOver};
+ghost use Rattle.book_sessions.specs.Upgrades.{TellsThisForm, upgrade_answer};
 ghost use Rattle.book_restarts.specs.FileBooks.{HoldsHistory, done_by, file_names};
 ghost use Rattle.book_trees.specs.FirstForm.{HoldsFirstForm};
 ghost use Rattle.book_trees.specs.LedgerFiles.{HoldsBooks, HoldsEmptyBooks, HoldsFirstBooks};
 ghost use Rattle.book_trees.specs.LedgerFiles.{HoldsNothing};
 ghost use Rattle.book_trees.specs.StoreView.{ListsBooks};
 
-use crate::books::{
-    audit_and_close, make_and_close, resume_and_close, upgrade_and_close, visit_and_close,
-};
-use crate::repository::{not_looked_through, refused};
+use crate::books::{audit_and_close, make_and_close, resume_and_close, upgrade_and_close};
+use crate::repository::not_looked_through;
 use book_audit::{Audited, Watch};
 use book_core::LedgerFault;
+use book_sessions::{Ended, refused};
 use book_trees::{
-    CACHE_PAGES, Closed, FirstFault, LeftByLedger, OpenFault, create_at, look_through_at, open_at,
+    CACHE_PAGES, FirstFault, LeftByLedger, OpenFault, create_at, look_through_at, open_at,
     open_first_at,
 };
 use named_books::{RepositoryFault, Upgraded, Visit};
-use sqlite_disk::{Disk, Files, Start};
+use sqlite_disk::{Disk, Start};
 use sqlite_std_file::FileFrom;
 use tree_tables::THIS_FORM;
-
-/// What is in hand of the files after a session.
-#[derive(Drop)]
-pub enum Ended<D: Disk> {
-    /// They were open, and were closed.
-    Closed(Closed<D>),
-    /// They were not opened. Where there are none another program may have them.
-    Refused(Option<Files<D>>),
-}
 
 /// How many pages are kept in memory for a visit that looks at few: 1 MB.
 const BRIEF_PAGES: usize = 256;
@@ -102,13 +93,8 @@ pub fn visit_at<S: LeftByLedger, V: Visit>(
         (WhyNotVisited ⟦<FileFrom<S> as Disk>⟧ (image_at S.Start) result.1) }
 {
     let pages = pages_for(visit.is_brief());
-    match open_at(rt, path, seed, pages, start) {
-        Ok(store) => {
-            let (answer, closed) = visit_and_close(rt.alloc(), store, visit);
-            (answer, Ended::Closed(closed))
-        }
-        Err((fault, files)) => (Err(refused(fault)), Ended::Refused(files)),
-    }
+    let opened = open_at(rt, path, seed, pages, start);
+    book_sessions::visit(rt.alloc(), opened, visit)
 }
 
 /// Makes new books in the file at the path, which holds nothing, and closes it. Whatever may be found

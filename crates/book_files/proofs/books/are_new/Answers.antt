@@ -1,6 +1,6 @@
 use Rattle.std.proofs.Common.{◌≡◌, ◌∙◌, length}
-use Rattle.book_files.specs.Unused.{unused_by}
-use Rattle.book_files.proofs.ResumeParts.{looks_unused, says_unused}
+use Rattle.book_sessions.specs.Unused.{unused_by}
+use Rattle.book_sessions.proofs.ResumeParts.{looks_unused, says_unused}
 use Rattle.book_files.proofs.books.are_new.Goals as goal
 
 pub returns-clause-looks : goal.returns-clause-looks

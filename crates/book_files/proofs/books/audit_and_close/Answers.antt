@@ -2,8 +2,8 @@ use Rattle.std.proofs.Common.{◌≡◌}
 use Rattle.sqlite_store.specs.FileStore.{view}
 use Rattle.sqlite_trees.proofs.Doubt.{no_doubt}
 use Rattle.sqlite_trees.specs.Tree.{Trees}
-use Rattle.book_files.proofs.Causes.{ok_so}
-use Rattle.book_files.proofs.SessionParts.{close_leaves, close_rows}
+use Rattle.book_sessions.proofs.Causes.{ok_so}
+use Rattle.book_sessions.proofs.SessionParts.{close_leaves, close_rows}
 use Rattle.book_files.proofs.books.audit_and_close.Goals as goal
 
 pub returns : goal.returns

@@ -2,8 +2,8 @@ use Rattle.sqlite_store.specs.FileStore.{view}
 use Rattle.sqlite_trees.proofs.Doubt.{no_doubt}
 use Rattle.sqlite_trees.specs.Tree.{Trees}
 use Rattle.book_restarts.specs.FileBooks.{file_names}
-use Rattle.book_files.specs.NewBooks.{LeavesNew}
-use Rattle.book_files.proofs.SessionParts.{close_leaves, to_be_moved}
+use Rattle.book_sessions.specs.NewBooks.{LeavesNew}
+use Rattle.book_sessions.proofs.SessionParts.{close_leaves, to_be_moved}
 use Rattle.book_files.proofs.books.make_and_close.Goals as goal
 
 pub returns-clause-left : goal.returns-clause-left

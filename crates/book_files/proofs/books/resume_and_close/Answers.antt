@@ -4,9 +4,9 @@ use Rattle.sqlite_trees.proofs.Doubt.{no_doubt}
 use Rattle.sqlite_trees.specs.Tree.{Trees}
 use Rattle.book_restarts.specs.FileBooks.{file_names}
 use Rattle.table_ledger.specs.Ready.{IsStoredIn}
-use Rattle.book_files.specs.NewBooks.{LeavesNew}
-use Rattle.book_files.proofs.Causes.{err_so}
-use Rattle.book_files.proofs.SessionParts.{close_leaves, close_rows, to_be_moved}
+use Rattle.book_sessions.specs.NewBooks.{LeavesNew}
+use Rattle.book_sessions.proofs.Causes.{err_so}
+use Rattle.book_sessions.proofs.SessionParts.{close_leaves, close_rows, to_be_moved}
 use Rattle.book_files.proofs.books.resume_and_close.Goals as goal
 
 pub returns-clause-held : goal.returns-clause-held

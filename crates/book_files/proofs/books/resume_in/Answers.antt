@@ -3,10 +3,10 @@ use Rattle.sqlite_trees.specs.Tree.{Trees}
 use Rattle.book_restarts.specs.FileBooks.{file_names}
 use Rattle.table_model.specs.TablesOf.{tables_of}
 use Rattle.tree_tables.specs.States.{state}
-use Rattle.book_files.specs.Causes.{HasFaultCause}
-use Rattle.book_files.specs.Unused.{are_unused}
-use Rattle.book_files.proofs.ResumeParts.{told_absent, told_filled, told_gone, told_in_vain}
-use Rattle.book_files.proofs.ResumeParts.{told_resumed, unwritten_stays}
+use Rattle.book_sessions.specs.Causes.{HasFaultCause}
+use Rattle.book_sessions.specs.Unused.{are_unused}
+use Rattle.book_sessions.proofs.ResumeParts.{told_absent, told_filled, told_gone, told_in_vain}
+use Rattle.book_sessions.proofs.ResumeParts.{told_resumed, unwritten_stays}
 use Rattle.book_files.proofs.books.resume_in.Goals as goal
 
 pub returns-in_default-clause-held : goal.returns-in_default-clause-held

@@ -11,12 +11,13 @@ use Rattle.book_audit.specs.OfBook.{AreOfBook}
 use Rattle.book_restarts.specs.FileBooks.{file_names}
 use Rattle.book_trees.proofs.ListingLemmas.{books_listed}
 use Rattle.book_trees.specs.StoreView.{ListsBooks}
-use Rattle.book_files.specs.Sessions.{MayFollow}
-use Rattle.book_files.specs.declared.session.Ended.TheVariants.{Refused}
-use Rattle.book_files.proofs.AuditParts.{audited_same, looked_in_hand, looked_listed, refused_same}
-use Rattle.book_files.proofs.AuditParts.{same_goes_on}
-use Rattle.book_files.proofs.Causes.{ok_each, ok_so}
-use Rattle.book_files.proofs.SessionParts.{found_clean, rows_as_found}
+use Rattle.book_sessions.specs.Sessions.{MayFollow}
+use Rattle.book_sessions.specs.declared.ended.Ended.TheVariants.{Refused}
+use Rattle.book_sessions.proofs.AuditParts.{audited_same, looked_in_hand, looked_listed, refused_same}
+use Rattle.book_sessions.proofs.AuditParts.{same_goes_on}
+use Rattle.book_sessions.proofs.Causes.{ok_each, ok_so}
+use Rattle.book_sessions.proofs.Openings.{left_as_found}
+use Rattle.book_sessions.proofs.SessionParts.{found_clean, rows_as_found}
 use Rattle.book_files.proofs.session.audit_at.Goals as goal
 
 pub returns-in-Ok-clause-same : goal.returns-in-Ok-clause-same
@@ -29,10 +30,12 @@ returns-in-Ok-clause-same g c = λ image may.
     (λ rests. audited.ensures.same rests may.0 image may.1)
 
 pub returns-in-Err-clause-same : goal.returns-in-Err-clause-same
-returns-in-Err-clause-same g c = λ image may.
-    refused_same (modelled.ghosts the_row g.row.S host.ghosts host.dict g.S.Start g.S.Start-dict
-    g.S.Destruct-dict) (λ file. inl refl) (image_at g.S.Start) c.in-Err.files c.in-Err.ensures.kept
-    image may
+returns-in-Err-clause-same g c =
+    let disk = modelled.ghosts the_row g.row.S host.ghosts host.dict g.S.Start g.S.Start-dict
+    g.S.Destruct-dict in
+    let first = image_at g.S.Start in
+    refused_same disk first c.in-Err.files
+    (left_as_found disk (λ file. inl refl) first c.in-Err.files c.in-Err.ensures.kept)
 
 pub returns-in-Ok-clause-rows : goal.returns-in-Ok-clause-rows
 returns-in-Ok-clause-rows g c = λ image may held.

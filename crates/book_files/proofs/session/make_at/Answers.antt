@@ -6,11 +6,11 @@ use Rattle.sqlite_trees.proofs.Doubt.{clean_of}
 use Rattle.sqlite_wal.specs.Files.{image_at}
 use Rattle.book_restarts.specs.FileBooks.{file_names}
 use Rattle.book_trees.specs.LedgerFiles.{HoldsNothing}
-use Rattle.book_files.specs.Causes.{HasFaultCause, WhyNotMade}
-use Rattle.book_files.specs.declared.session.Ended.TheVariants.{Refused}
-use Rattle.book_files.proofs.Causes.{ok_each, refused_cause}
-use Rattle.book_files.proofs.NewParts.{made_at, refused_begun}
-use Rattle.book_files.proofs.SessionParts.{found_clean}
+use Rattle.book_sessions.specs.Causes.{HasFaultCause, WhyNotMade}
+use Rattle.book_sessions.specs.declared.ended.Ended.TheVariants.{Refused}
+use Rattle.book_sessions.proofs.Causes.{ok_each, refused_cause}
+use Rattle.book_sessions.proofs.NewParts.{made_at, refused_begun}
+use Rattle.book_sessions.proofs.SessionParts.{found_clean}
 use Rattle.book_files.proofs.session.make_at.Goals as goal
 
 pub returns-in-Ok-clause-made : goal.returns-in-Ok-clause-made

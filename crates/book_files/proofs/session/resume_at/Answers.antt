@@ -13,14 +13,15 @@ use Rattle.book_trees.specs.LedgerFiles.{HoldsBooks, trees_held}
 use Rattle.table_ledger.specs.Ready.{IsStoredIn}
 use Rattle.table_model.specs.TablesOf.{tables_of}
 use Rattle.tree_tables.specs.Holds.{has_book}
-use Rattle.book_files.specs.Causes.{HaveBookRow, IsResumedBy}
-use Rattle.book_files.specs.Unused.{are_unused}
-use Rattle.book_files.proofs.Causes.{cause_so, err_so, told_by_row}
-use Rattle.book_files.proofs.NewParts.{refused_still, resumed_at}
-use Rattle.book_files.proofs.ResumeParts.{resumed_unused, why_unresumed}
-use Rattle.book_files.proofs.SessionParts.{found_clean, held_goes_on, opened_stands}
-use Rattle.book_files.proofs.SessionParts.{refused_goes_on, rows_as_found}
-use Rattle.book_files.proofs.UnusedBooks.{new_unused, none_resumed}
+use Rattle.book_sessions.specs.Causes.{HaveBookRow, IsResumedBy}
+use Rattle.book_sessions.specs.Unused.{are_unused}
+use Rattle.book_sessions.proofs.Causes.{cause_so, err_so, told_by_row}
+use Rattle.book_sessions.proofs.NewParts.{refused_still, resumed_at}
+use Rattle.book_sessions.proofs.ResumeParts.{resumed_unused, why_unresumed}
+use Rattle.book_sessions.proofs.Openings.{left_as_found}
+use Rattle.book_sessions.proofs.SessionParts.{found_clean, held_goes_on, opened_stands}
+use Rattle.book_sessions.proofs.SessionParts.{refused_goes_on, rows_as_found}
+use Rattle.book_sessions.proofs.UnusedBooks.{new_unused, none_resumed}
 use Rattle.book_files.proofs.session.resume_at.Goals as goal
 
 pub returns-in-Ok-clause-history : goal.returns-in-Ok-clause-history
@@ -84,10 +85,12 @@ returns-in-Ok-clause-only g c = λ clean.
     ∣ (c.in-Ok.ensures.read (clean_of _ (c.resume_and_close-made.ensures.clean clean))).lists ∣₁
 
 pub returns-in-Err-clause-history : goal.returns-in-Err-clause-history
-returns-in-Err-clause-history g c = λ image may.
-    refused_goes_on (modelled.ghosts the_row g.row.S host.ghosts host.dict g.S.Start g.S.Start-dict
-    g.S.Destruct-dict) (λ file. inl refl) file_names (image_at g.S.Start) c.in-Err.files
-    c.in-Err.ensures.kept image may
+returns-in-Err-clause-history g c =
+    let disk = modelled.ghosts the_row g.row.S host.ghosts host.dict g.S.Start g.S.Start-dict
+    g.S.Destruct-dict in
+    let first = image_at g.S.Start in
+    refused_goes_on disk file_names first c.in-Err.files
+    (left_as_found disk (λ file. inl refl) first c.in-Err.files c.in-Err.ensures.kept)
 
 pub returns-in-Err-clause-made : goal.returns-in-Err-clause-made
 returns-in-Err-clause-made g c = λ begun image may.

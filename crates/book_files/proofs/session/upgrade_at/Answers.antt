@@ -16,15 +16,16 @@ use Rattle.book_trees.specs.LedgerFiles.{HoldsFile, rows_held}
 use Rattle.named_books.specs.declared.repository.RepositoryFault.{RepositoryFault}
 use Rattle.named_books.specs.declared.repository.Upgraded.{Upgraded}
 use Rattle.tree_tables.specs.Holds.{has_book}
-use Rattle.book_files.specs.Causes.{HasFaultCause, HaveNoFirstRow, IsToldOfThis, WhyNotUpgraded}
-use Rattle.book_files.specs.Sessions.{MayFollow}
-use Rattle.book_files.specs.Upgrades.{BringsOver, HoldsWhatIsTold, LeavesUpgraded, TellsThisForm}
-use Rattle.book_files.specs.declared.session.Ended.TheVariants.{Closed, Refused}
-use Rattle.book_files.proofs.Causes.{cause_so, err_so, first_cause, opened_not_this, refused_this}
-use Rattle.book_files.proofs.SessionParts.{found_clean, refused_goes_on}
-use Rattle.book_files.proofs.UpgradeParts.{brings_over, first_in_hand, first_tells, opened_tells}
-use Rattle.book_files.proofs.UpgradeParts.{refused_brings, refused_tells, rows_brought_over}
-use Rattle.book_files.proofs.UpgradeParts.{tells_form, told_why}
+use Rattle.book_sessions.specs.Causes.{HasFaultCause, HaveNoFirstRow, IsToldOfThis, WhyNotUpgraded}
+use Rattle.book_sessions.specs.Sessions.{MayFollow}
+use Rattle.book_sessions.specs.Upgrades.{BringsOver, HoldsWhatIsTold, LeavesUpgraded, TellsThisForm}
+use Rattle.book_sessions.specs.declared.ended.Ended.TheVariants.{Closed, Refused}
+use Rattle.book_sessions.proofs.Causes.{cause_so, err_so, first_cause, opened_not_this, refused_this}
+use Rattle.book_sessions.proofs.Openings.{left_as_found}
+use Rattle.book_sessions.proofs.SessionParts.{found_clean, refused_goes_on}
+use Rattle.book_sessions.proofs.UpgradeParts.{brings_over, first_in_hand, first_tells, opened_tells}
+use Rattle.book_sessions.proofs.UpgradeParts.{refused_brings, refused_tells, rows_brought_over}
+use Rattle.book_sessions.proofs.UpgradeParts.{tells_form, told_why}
 use Rattle.book_files.proofs.session.upgrade_at.Goals as goal
 
 pub returns-in-Ok-clause-history : goal.returns-in-Ok-clause-history
@@ -90,14 +91,17 @@ returns-in-Err-clause-history g c = λ form image may history held.
     let disk = modelled.ghosts the_row g.row.S host.ghosts host.dict g.S.Start g.S.Start-dict
     g.S.Destruct-dict in
     subst (λ result. BringsOver file_names history result image) (sym c.not_upgraded.ensures)
-    (refused_brings disk (λ file. inl refl) file_names (image_at g.S.Start) history image
-    c.in-Err.fault c.in-Err.files c.in-Err.ensures.there c.in-Err.ensures.kept form may held)
+    (refused_brings disk file_names (image_at g.S.Start) history image c.in-Err.fault c.in-Err.files
+    c.in-Err.ensures.there (left_as_found disk (λ file. inl refl) (image_at g.S.Start) c.in-Err.files
+    c.in-Err.ensures.kept) form may held)
 
 pub returns-in-Err-clause-kept : goal.returns-in-Err-clause-kept
-returns-in-Err-clause-kept g c = λ image may.
-    refused_goes_on (modelled.ghosts the_row g.row.S host.ghosts host.dict g.S.Start g.S.Start-dict
-    g.S.Destruct-dict) (λ file. inl refl) file_names (image_at g.S.Start) c.in-Err.files
-    c.in-Err.ensures.kept image may
+returns-in-Err-clause-kept g c =
+    let disk = modelled.ghosts the_row g.row.S host.ghosts host.dict g.S.Start g.S.Start-dict
+    g.S.Destruct-dict in
+    let first = image_at g.S.Start in
+    refused_goes_on disk file_names first c.in-Err.files
+    (left_as_found disk (λ file. inl refl) first c.in-Err.files c.in-Err.ensures.kept)
 
 pub returns-in-Ok-clause-this : goal.returns-in-Ok-clause-this
 returns-in-Ok-clause-this g c = λ held.

@@ -3,7 +3,7 @@ use Rattle.std.specs.Prelude.{MatchResult}
 use Rattle.book_files.specs.Faults.{tried_answer}
 use Rattle.book_files.specs.declared.copies.CopyFault.{CopyFault}
 use Rattle.book_files.specs.declared.copies.CopyFault.TheVariants.{Pages, Refused}
-use Rattle.book_files.proofs.SessionParts.{comes_on}
+use Rattle.book_files.proofs.Told.{comes_on}
 use Rattle.book_files.proofs.repository.Files.try_out_books.Goals as goal
 
 -- what came of a visit of a copy

@@ -1,5 +1,5 @@
 use Rattle.std.proofs.Common.{◌≡◌}
-use Rattle.book_files.proofs.SessionParts.{comes_on}
+use Rattle.book_files.proofs.Told.{comes_on}
 use Rattle.book_files.proofs.repository.Files.visit_books.Goals as goal
 
 pub returns-in-Ok : goal.returns-in-Ok

@@ -1,0 +1,90 @@
+-- What an audit says of files.
+use Rattle.std.proofs.Common.{◌≡◌, ◌∙◌, Option, None, Some, IsTrue, refl, subst, sym, true≢false}
+use Rattle.std.proofs.Math.Logic.{∥∥₁_elim, ∥∥₁_map, ∥∥₁_prop}
+use Rattle.std.specs.Prelude.{IfOk, IfSome, IsOk, IsSome, MatchOption}
+use Rattle.sqlite_disk.specs.declared.Disk.{Ghosts}
+use Rattle.sqlite_disk.specs.declared.files.Files.{Files}
+use Rattle.sqlite_store.specs.FileStore.{state, view, IsReady}
+use Rattle.sqlite_store.specs.declared.store.FileStore.{FileStore}
+use Rattle.sqlite_trees.specs.Tree.{Trees}
+use Rattle.sqlite_trees.specs.View.{IsClean}
+use Rattle.sqlite_wal.specs.Reads.{AreClean}
+use Rattle.sqlite_wal.specs.Recovery.{Image}
+use Rattle.book_model.specs.Words.{Naming}
+use Rattle.book_core.specs.Transition.{NoEvent}
+use Rattle.table_ledger.specs.Commits.{IsAtRest}
+use Rattle.table_ledger.specs.Ready.{IsStoredIn}
+use Rattle.book_trees.specs.Forms.{HoldsThisForm}
+use Rattle.book_trees.specs.LedgerFiles.{HoldsBooks, trees_held}
+use Rattle.book_trees.specs.Looks.{IsUnopenedLook, look_opening}
+use Rattle.book_trees.specs.Refusals.{IsRefusedWithout}
+use Rattle.book_trees.specs.Schema.{books_schema}
+use Rattle.book_trees.specs.declared.integrity.LookFault.{LookFault}
+use Rattle.book_trees.specs.declared.integrity.LookFault.TheVariants.{Pages, Open}
+use Rattle.book_restarts.specs.FileBooks.{GoesOn}
+use Rattle.book_restarts.proofs.SessionLemmas.{still_held}
+use Rattle.book_sessions.specs.Audits.{HoldSameTrees, SoundAreOurs}
+use Rattle.book_sessions.specs.Faults.{look_answer}
+use Rattle.book_sessions.specs.Openings.{AreLeftAsFound}
+use Rattle.book_sessions.specs.Sessions.{MayFollow}
+use Rattle.book_sessions.specs.declared.ended.Ended.TheVariants.{Refused}
+use Rattle.book_sessions.proofs.SessionParts.{found_clean, opened_rests, refused_tables}
+
+-- a store that an audit leaves as it was leaves the trees that its files held
+pub audited_same : {D : Type 0} {g : Ghosts D} (first image : Image) (store : FileStore D g)
+    → IsReady store
+    → (IsTrue (state store).is_clean → (held : HoldsBooks first) → (view store).trees ≡ trees_held held)
+    → IsTrue (state store).is_clean
+    → ((IsClean (view store) → IsAtRest (view store))
+    → ∥ ((left : HoldsBooks image) × (trees_held left ≡ (view store).trees)) ∥₁)
+    → HoldSameTrees first image
+audited_same first image store ready found clean same held =
+    ∥∥₁_map (same (opened_rests store ready)) λ left. (left.0, left.1 ∙ found clean held)
+
+-- so do files that were refused
+pub refused_same : {D : Type 0} (g : Ghosts D) (first : Image) (files : Option (Files D))
+    → IfSome files (AreLeftAsFound g first) → (image : Image) → MayFollow g (Refused files) image
+    → HoldSameTrees first image
+refused_same g first None same image never held = absurd never
+refused_same g first (Some files) same image may held =
+    refused_tables {wanted = books_schema} g (λ (trees : Trees). trees ≡ trees_held held) first files
+    same image may ∣ (held, refl) ∣₁
+
+-- so they hold the history that they held
+pub same_goes_on : (names : Naming) (first image : Image) → HoldSameTrees first image
+    → GoesOn names NoEvent first image
+same_goes_on names first image same =
+    still_held names first image (λ book held.
+    ∥∥₁_elim held ∥∥₁_prop λ kept.
+    ∥∥₁_map (same kept.0) λ left. (left.0, subst (IsStoredIn names book) (sym left.1) kept.1))
+
+-- and their pages are called wrong only where they list the tables of books
+pub looked_listed : {D : Type 0} (g : Ghosts D) (Lists : Type 0) (fault : LookFault)
+    (files : Option (Files D))
+    → (fault ≡ Pages → IfSome files (λ files. AreClean g files.log files.db → Lists))
+    → IfOk (look_answer fault)
+    (λ audited. (image : Image) → MayFollow g (Refused files) image → ∥ Lists ∥₁)
+looked_listed g Lists Pages None lists = λ image never. absurd never
+looked_listed g Lists Pages (Some files) lists =
+    λ image may. ∣ lists refl (found_clean g files image may) ∣₁
+looked_listed g Lists (Open fault) files lists = tt
+
+-- and files that were not looked through have an answer only where they are in hand
+pub looked_in_hand : {D : Type 0} (g : Ghosts D) (found : Image) (fault : LookFault)
+    (files : Option (Files D))
+    → MatchOption files (IsUnopenedLook fault)
+    (IsRefusedWithout g (HoldsThisForm found) (look_opening fault))
+    → IsOk (look_answer fault) → IsSome files
+looked_in_hand g found Pages None cause answered = absurd cause
+looked_in_hand g found Pages (Some files) cause answered = refl
+looked_in_hand g found (Open fault) files cause answered = absurd (true≢false (sym answered))
+
+-- the law
+pub sound_are_ours : SoundAreOurs
+sound_are_ours counts image sound =
+    ∥∥₁_map sound λ found.
+    let of = found.1 in
+    record {
+      book = of.book;
+      held = ∣ (found.0, record { readable = of.readable; holds = of.holds }) ∣₁;
+    }

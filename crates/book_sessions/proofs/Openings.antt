@@ -1,0 +1,92 @@
+-- What is known of the call that opened the files of a session.
+use Rattle.std.proofs.Common.{◌≡◌, IsTrue, Option, None, Some, Result, Ok, Err, refl, subst, sym}
+use Rattle.std.specs.Prelude.{IfErr, IfOk, IfSome, MatchOption}
+use Rattle.sqlite_disk.specs.declared.Disk.{Ghosts}
+use Rattle.sqlite_disk.specs.declared.files.Files.{Files}
+use Rattle.sqlite_store.specs.FileStore.{state, view, IsReady}
+use Rattle.sqlite_store.specs.declared.store.FileStore.{FileStore}
+use Rattle.sqlite_trees.proofs.Doubt.{clean_of}
+use Rattle.sqlite_trees.specs.View.{IsClean}
+use Rattle.sqlite_wal.specs.Recovery.{Image}
+use Rattle.book_trees.specs.Forms.{HoldNoNewer, HoldsThisForm}
+use Rattle.book_trees.specs.LedgerFiles.{HoldsBooks, trees_held}
+use Rattle.book_trees.specs.Refusals.{IsAsFound, IsRefusedWithout, IsUnopened, MayLeave}
+use Rattle.book_trees.specs.Schema.{books_schema}
+use Rattle.book_trees.specs.declared.closing.Closed.{Closed}
+use Rattle.book_trees.specs.declared.faults.OpenFault.{OpenFault}
+use Rattle.book_sessions.specs.Openings.{AreLeftAsFound, IsOpening}
+use Rattle.book_sessions.specs.Sessions.{AreHonest, IsCarriedBy, OpenOnly, files_in_hand}
+use Rattle.book_sessions.specs.declared.ended.Ended.{Ended}
+use Rattle.book_sessions.specs.declared.ended.Ended.TheVariants.{Refused}
+use Rattle.book_sessions.specs.declared.ended.Ended.TheVariants as ended
+
+-- what is said of files that are in hand may be said in other words
+pub some_so : {A : Type 0} {One Other : A → Type 0} (files : Option A) → IfSome files One
+    → ((it : A) → One it → Other it) → IfSome files Other
+some_so None one so = tt
+some_so (Some it) one so = so it one
+
+-- Of a session that was begun with a store it is known that its files are closed,
+pub carried_closed : {S F D : Type 0} (opened : Result S (F × Option (Files D))) (store : S)
+    (closed : Closed D) → opened ≡ Ok store → IsCarriedBy opened (ended.Closed closed)
+carried_closed {S} {F} {D} opened store closed is =
+    subst (λ (it : Result S (F × Option (Files D))). IsCarriedBy it (ended.Closed closed)) (sym is) tt
+
+-- and of one that was not, that it has what the opening gave back.
+pub carried_refused : {S F D : Type 0} (opened : Result S (F × Option (Files D))) (fault : F)
+    (files : Option (Files D)) → opened ≡ Err (fault, files) → IsCarriedBy opened (Refused files)
+carried_refused {S} {F} {D} opened fault files is =
+    subst (λ (it : Result S (F × Option (Files D))). IsCarriedBy it (Refused files)) (sym is) refl
+
+-- What is known of the store of an opening is known of the one that there is,
+pub of_store : {S F : Type 0} (Says : S → Type 0) (opened : Result S F) (store : S)
+    → opened ≡ Ok store → Says store → IfOk opened Says
+of_store {S} {F} Says opened store is says =
+    subst (λ (it : Result S F). IfOk it Says) (sym is) says
+
+pub the_store : {S F : Type 0} (Says : S → Type 0) (opened : Result S F) (store : S)
+    → opened ≡ Ok store → IfOk opened Says → Says store
+the_store {S} {F} Says opened store is says =
+    subst (λ (it : Result S F). IfOk it Says) is says
+
+-- and of none there is nothing to say
+pub of_no_store : {S F : Type 0} (Says : S → Type 0) (opened : Result S F) (refusal : F)
+    → opened ≡ Err refusal → IfOk opened Says
+of_no_store {S} {F} Says opened refusal is =
+    subst (λ (it : Result S F). IfOk it Says) (sym is) tt
+
+-- no files were opened but those of which the opening says what they held
+pub open_only : {D F : Type 0} {g : Ghosts D} (Held : Type 0)
+    (opened : Result (FileStore D g) (F × Option (Files D))) (last : Ended D)
+    → IfOk opened (λ store. IsTrue (state store).is_clean → ∥ Held ∥₁)
+    → IfOk opened (λ store. AreHonest g (files_in_hand last) → IsClean (view store))
+    → IsCarriedBy opened last → OpenOnly g Held last
+open_only Held opened (Refused files) held clean carried = tt
+open_only Held (Ok store) (ended.Closed closed) held clean carried =
+    λ honest. held (clean_of _ (clean honest))
+open_only Held (Err refusal) (ended.Closed closed) held clean carried = absurd (cc)
+
+-- refused files are left as they were found
+pub left_as_found : {D : Type 0} (g : Ghosts D) → ((file : D) → g.may_leave file (g.seen file))
+    → (found : Image) (files : Option (Files D))
+    → IfSome files (λ files. (left : Image) → MayLeave g files left → IsAsFound found left)
+    → IfSome files (AreLeftAsFound g found)
+left_as_found g stays found None kept = tt
+left_as_found g stays found (Some files) kept = record { kept = kept; log = stays files.log }
+
+-- the opening of books
+pub opening_at : {D : Type 0} (g : Ghosts D) → ((file : D) → g.may_leave file (g.seen file))
+    → (found : Image) (opened : Result (FileStore D g) (OpenFault × Option (Files D)))
+    → IfOk opened IsReady
+    → IfOk opened (λ store. IsTrue (state store).is_clean → (held : HoldsBooks found)
+    → (view store).trees ≡ trees_held held)
+    → IfOk opened (λ store. IsTrue (state store).is_clean → HoldNoNewer books_schema found)
+    → IfErr opened (λ refusal. MatchOption refusal.1 (IsUnopened refusal.0)
+    (IsRefusedWithout g (HoldsThisForm found) refusal.0))
+    → IfErr opened (λ refusal. IfSome refusal.1 (λ files. (left : Image) → MayLeave g files left
+    → IsAsFound found left))
+    → IsOpening g found opened
+opening_at g stays found (Ok store) ready shows form there kept =
+    record { ready = ready; shows = shows; form = form }
+opening_at g stays found (Err refusal) ready shows form there kept =
+    (there, left_as_found g stays found refusal.1 kept)

@@ -1,0 +1,145 @@
+-- Books to which nothing was submitted are those of no history.
+use Rattle.std.proofs.Common.{◌≡◌, ◌∙◌, ℕ, ℤ, suc, true, List, [], ◌∷◌, ◌++◌, ◌||◌}
+use Rattle.std.proofs.Common.{Option, Some, Result, Ok, Err, length, ap, arith, refl}
+use Rattle.std.proofs.Common.{subst, sym, true≢false, unwrap_or, length-append}
+use Rattle.std.specs.Prelude.{◌&&◌, ◌==◌, IfOk}
+use Rattle.std.specs.FinMap as fin
+use Rattle.std.specs.FinMap.{entries, len-empty, len-entries}
+use Rattle.std.specs.List.{list_any}
+use Rattle.std.specs.Ordering.{int_cmp, nat_cmp}
+use Rattle.std.proofs.Math.Logic.{∥∥₁_elim}
+use Rattle.std.proofs.lemmas.Bool.{eq-eqb, eqb-true}
+use Rattle.std.proofs.lemmas.List.Elements.{All-pop}
+use Rattle.sqlite_wal.specs.Recovery.{Image}
+use Rattle.book_model.proofs.FilterLemmas.{no_length}
+use Rattle.book_model.proofs.RecordSets.{first_of, has_with, is, is_itself, second_of}
+use Rattle.book_model.specs.Words.{AcceptedTerms, Book, Choice, Event, Naming, Records}
+use Rattle.book_model.specs.Words.{PeriodClosed, RecordChosen, RecordKept, RulingGiven}
+use Rattle.book_model.specs.Words.{SecondRuleAdopted, TariffAccepted, book_after, has, members}
+use Rattle.book_model.specs.Words.{new_book, open_by}
+use Rattle.book_model.specs.Sound.{IsChoiceOf}
+use Rattle.book_trees.specs.LedgerFiles.{HoldsBooks, trees_held}
+use Rattle.table_model.proofs.RulingsReading.{tariffs_kept}
+use Rattle.table_model.proofs.UnderNumbers.{entries-numbers}
+use Rattle.table_model.specs.Readable.{IsReadable}
+use Rattle.table_model.specs.Tables.{Tables}
+use Rattle.table_model.specs.TablesAfter.{new_tables}
+use Rattle.table_model.specs.TablesOf.{close_entries, tables_of, tariff_entries}
+use Rattle.table_ledger.specs.Ready.{IsStoredIn}
+use Rattle.book_restarts.specs.FileBooks.{HoldsHistory}
+use Rattle.book_sessions.specs.Unused.{are_unused, unused_by}
+use Rattle.book_sessions.proofs.NewParts.{new_follow}
+
+-- there are as many rows as tariffs
+tariffs_many : (tariffs : List AcceptedTerms) → length (tariff_entries tariffs) ≡ length tariffs
+tariffs_many [] = refl
+tariffs_many (tariff ∷ tariffs) = ap suc (tariffs_many tariffs)
+
+-- and as many as closes
+closes_many : (number : ℕ) (days : List ℤ) → length (close_entries number days) ≡ length days
+closes_many number [] = refl
+closes_many number (day ∷ days) = ap suc (closes_many (suc number) days)
+
+-- what four tests say
+record AreNone (tariffs closes held adopted : ℕ) : Type 0 where
+  tariffs_none : tariffs ≡ 0
+  closes_none : closes ≡ 0
+  held_none : held ≡ 0
+  never : adopted ≡ 0
+
+are_none : (tariffs closes held adopted : ℕ) → unused_by tariffs closes held adopted ≡ true
+    → AreNone tariffs closes held adopted
+are_none tariffs closes held adopted passed =
+    let three = first_of ((tariffs == 0) && (closes == 0) && (held == 0)) (adopted == 0) passed in
+    let two = first_of ((tariffs == 0) && (closes == 0)) (held == 0) three in
+    record {
+      tariffs_none = eqb-true tariffs 0 (first_of (tariffs == 0) (closes == 0) two);
+      closes_none = eqb-true closes 0 (second_of (tariffs == 0) (closes == 0) two);
+      held_none =
+          eqb-true held 0 (second_of ((tariffs == 0) && (closes == 0)) (held == 0) three);
+      never = eqb-true adopted 0
+          (second_of ((tariffs == 0) && (closes == 0) && (held == 0)) (adopted == 0) passed);
+    }
+
+-- where no record is held, this one is not
+not_held : (held : Records) (bytes : List ℕ) → length (members held) ≡ 0 → has held bytes ≡ true → ⊥
+not_held held bytes none there =
+    true≢false (sym there ∙ fin.contains_key-keys held bytes
+    ∙ ap (list_any (is bytes)) (no_length (members held) none))
+
+-- a list with one more is not empty
+one_more : {A : Type 0} (xs : List A) (x : A) → length (xs ++ x ∷ []) ≡ 0 → ⊥
+one_more xs x none = omega (arith, length-append xs (x ∷ []), none)
+
+-- what the tables of an unused book say of it
+module _ (naming : Naming) (book : Book) (whole : IsReadable naming book)
+    (unused : are_unused (tables_of naming book) ≡ true) where
+  none : AreNone (length (entries (tables_of naming book).tariffs))
+      (length (entries (tables_of naming book).closes)) (tables_of naming book).book.held
+      (tables_of naming book).book.adopted
+  none = are_none _ _ _ _ unused
+
+  no_tariffs : length book.rulings.tariffs ≡ 0
+  no_tariffs =
+      sym (tariffs_many book.rulings.tariffs)
+      ∙ sym (ap length (tariffs_kept book.rulings.tariffs whole.rising)) ∙ none.tariffs_none
+
+  no_closes : length book.rulings.closes ≡ 0
+  no_closes =
+      sym (closes_many 1 book.rulings.closes) ∙ sym (ap length (entries-numbers book.rulings.closes))
+      ∙ none.closes_none
+
+-- so a history with an event is that of no such book
+used : (naming : Naming) (event : Event) (older : List Event)
+    → IsReadable naming (book_after (event ∷ older))
+    → are_unused (tables_of naming (book_after (event ∷ older))) ≡ true → ⊥
+used naming (RecordKept bytes) older whole unused =
+    let before = book_after older in
+    not_held (book_after (RecordKept bytes ∷ older)).held bytes
+    (none naming (book_after (RecordKept bytes ∷ older)) whole unused).held_none
+    (has_with before.held bytes bytes ∙ ap (λ t. t || has before.held bytes) (is_itself bytes))
+used naming (PeriodClosed day) older whole unused =
+    one_more (book_after older).rulings.closes day
+    (no_closes naming (book_after (PeriodClosed day ∷ older)) whole unused)
+used naming (RulingGiven (TariffAccepted text terms)) older whole unused =
+    one_more (book_after older).rulings.tariffs (record { text = text; terms = terms })
+    (no_tariffs naming (book_after (RulingGiven (TariffAccepted text terms) ∷ older)) whole unused)
+used naming (RulingGiven (RecordChosen bytes)) older whole unused =
+    let book = book_after (RulingGiven (RecordChosen bytes) ∷ older) in
+    let before = (book_after older).rulings in
+    let choice : Choice = record { chosen = bytes; period = open_by before } in
+    let chosen = (All-pop (IsChoiceOf book.held) book.rulings.choices before.choices (Some choice)
+    refl whole.sound.chosen).1 in
+    not_held book.held bytes (none naming book whole unused).held_none chosen
+used naming (RulingGiven SecondRuleAdopted) older whole unused =
+    let book = book_after (RulingGiven SecondRuleAdopted ∷ older) in
+    let before = (book_after older).rulings in
+    let begun = whole.adopted
+    (unwrap_or before.adopted (open_by before)) refl in
+    let never = (none naming book whole unused).never in
+    omega (arith, begun.numbered, never)
+
+-- what files held that were continued is that of no history, where all went well
+pub none_resumed : {A F : Type 0} (names : Naming) (history : List Event) (first : Image)
+    (result : Result A F) → HoldsHistory names history first
+    → ((held : HoldsBooks first) → IsStoredIn names (book_after history) (trees_held held)
+    → IfOk result (λ made. are_unused (tables_of names (book_after history)) ≡ true))
+    → IfOk result (λ made. history ≡ [])
+none_resumed names history first (Err fault) held unused = tt
+none_resumed names [] first (Ok made) held unused = refl
+none_resumed names (event ∷ older) first (Ok made) held unused =
+    let never : ⊥ = ∥∥₁_elim held.held (λ one other. absurd one) λ kept.
+    used names event older kept.1.readable (unused kept.0 kept.1) in
+    absurd never
+
+-- and to new books nothing was submitted
+none_by : (tariffs closes : ℕ) → tariffs ≡ 0 → closes ≡ 0 → unused_by tariffs closes 0 0 ≡ true
+none_by tariffs closes no_tariff no_close = λ i. eq-eqb tariffs 0 no_tariff i
+    && eq-eqb closes 0 no_close i && eq-eqb 0 0 refl i && eq-eqb 0 0 refl i
+
+pub new_unused : (naming : Naming) → are_unused (tables_of naming new_book) ≡ true
+new_unused naming =
+    subst (λ (tables : Tables). are_unused tables ≡ true) (new_follow naming)
+    (none_by (length (entries new_tables.tariffs)) (length (entries new_tables.closes))
+    (sym (len-entries new_tables.tariffs) ∙ len-empty int_cmp (Option (List ℕ)))
+    (sym (len-entries new_tables.closes) ∙ len-empty nat_cmp ℤ))

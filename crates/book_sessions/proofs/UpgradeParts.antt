@@ -1,0 +1,312 @@
+-- Books of the first form that were brought over, or not: what is written of them, and what is found of
+-- their files.
+use Rattle.std.proofs.Common.{◌≡◌, ◌∙◌, ◌<◌, ℕ, List, [], IsTrue, Option, None, Some, Result, Ok, Err}
+use Rattle.std.proofs.Common.{false, inl, inr, refl, subst, sym, ap, arith, true≢false}
+use Rattle.std.proofs.Math.Logic.{∥∥₁_elim, ∥∥₁_map, ∥∥₁_prop}
+use Rattle.std.proofs.lemmas.Bool.{cases_Bool}
+use Rattle.std.proofs.lemmas.Bool.Decides.{nat_tests}
+use Rattle.std.specs.Prelude.{◌==◌, IfErr, IfOk, IfSome, IsOk, IsSome, MatchOption}
+use Rattle.sqlite_disk.specs.declared.Disk.{Ghosts}
+use Rattle.sqlite_disk.specs.declared.files.Files.{Files}
+use Rattle.sqlite_store.specs.FileStore.{recovers, state, view, IsReady}
+use Rattle.sqlite_store.specs.Listing.{all_trees, listed_from}
+use Rattle.sqlite_store.specs.declared.store.FileStore.{FileStore}
+use Rattle.sqlite_trees.proofs.Doubt.{clean_of}
+use Rattle.sqlite_trees.specs.Objects.{IsListed, catalog_tree, with_version}
+use Rattle.sqlite_trees.specs.Tree.{Trees}
+use Rattle.sqlite_trees.specs.View.{IsOrdered, IsShaped, View}
+use Rattle.sqlite_trees.specs.declared.store.Shape.{Shape}
+use Rattle.sqlite_wal.specs.Reads.{AreClean}
+use Rattle.sqlite_wal.specs.Recovery.{Image}
+use Rattle.book_model.specs.Words.{Book, Event, Naming, book_after}
+use Rattle.named_books.specs.declared.repository.RepositoryFault.{RepositoryFault}
+use Rattle.table_model.specs.Tables.{Tables}
+use Rattle.table_model.specs.TablesOf.{tables_of}
+use Rattle.tree_tables.specs.Forms.{this_form}
+use Rattle.tree_tables.specs.Holds.{Holds}
+use Rattle.tree_tables.specs.Steps.{Changes}
+use Rattle.table_ledger.proofs.FirstDetails.{details_are}
+use Rattle.table_ledger.specs.FirstForm.{IsStoredInFirst, RestsAtFirst, StandsAtFirst, uncounted}
+use Rattle.table_ledger.specs.FirstForm.{with_details}
+use Rattle.table_ledger.specs.Ready.{IsStoredIn}
+use Rattle.book_trees.proofs.FirstTrees.{more_listed}
+use Rattle.book_trees.specs.FirstForm.{AddsDetails, HasFirstTrees, HoldsFirstForm, IsUnopenedFirst}
+use Rattle.book_trees.specs.FirstForm.{ListMore, first_opening}
+use Rattle.book_trees.specs.Forms.{HoldNoNewer, IsSaid}
+use Rattle.book_trees.specs.LedgerFiles.{HoldsBooks, HoldsFile, HoldsFirstBooks, rows_held}
+use Rattle.book_trees.specs.LedgerFiles.{trees_held}
+use Rattle.book_trees.specs.Refusals.{IsRefusedWithout}
+use Rattle.book_trees.specs.Schema.{first_schema}
+use Rattle.book_trees.specs.StoreView.{ListsBooks}
+use Rattle.book_trees.specs.declared.closing.Closed.{Closed}
+use Rattle.book_trees.specs.declared.first_form.FirstFault.{FirstFault}
+use Rattle.book_trees.specs.declared.first_form.FirstFault.TheVariants as fault
+use Rattle.book_sessions.specs.Faults.{first_answer}
+use Rattle.book_sessions.specs.Openings.{AreLeftAsFound}
+use Rattle.book_sessions.specs.Sessions.{MayFollow}
+use Rattle.book_sessions.specs.Upgrades.{BringsOver, HoldsFirstBook, HoldsFirstHistory, HoldsUpgraded}
+use Rattle.book_sessions.specs.Upgrades.{HoldsWhatIsTold}
+use Rattle.book_sessions.specs.Upgrades.{IsBroughtOver, LeavesUpgraded, MayBringOver}
+use Rattle.book_sessions.specs.Upgrades.{RestsBroughtOver, TellsThisForm, upgrade_answer}
+use Rattle.book_sessions.specs.declared.ended.Ended.TheVariants.{Refused}
+use Rattle.book_sessions.specs.declared.ended.Ended.TheVariants as ended
+use Rattle.book_sessions.proofs.NewParts.{said_tables}
+use Rattle.book_sessions.proofs.SessionParts.{found_clean, opened_rests, refused_tables}
+
+-- ---- what is written
+
+-- trees of which each table is as it was hold the same tables
+holds_same : {old new : Trees} {tables : Tables} → ((tree : ℕ) → tree < 11 → new tree ≡ old tree)
+    → Holds old tables → Holds new tables
+holds_same same holds = record {
+  book = same 0 (omega arith) ∙ holds.book;
+  tariffs = same 1 (omega arith) ∙ holds.tariffs;
+  closes = same 2 (omega arith) ∙ holds.closes;
+  records = same 3 (omega arith) ∙ holds.records;
+  days = same 4 (omega arith) ∙ holds.days;
+  placed = holds.placed;
+  lines = same 5 (omega arith) ∙ holds.lines;
+  identity_index = same 6 (omega arith) ∙ holds.identity_index;
+  marks = same 7 (omega arith) ∙ holds.marks;
+  choices = same 8 (omega arith) ∙ holds.choices;
+  choice_name_index = same 9 (omega arith) ∙ holds.choice_name_index;
+  details = same 10 (omega arith) ∙ holds.details;
+}
+
+-- with a tree for details, which has no row, all tables are as they were
+added_same : (old new : View) → AddsDetails old new → old.trees 10 ≡ [] → (tree : ℕ) → tree < 11
+    → new.trees tree ≡ old.trees tree
+added_same old new adds none tree small = elim (cases_Bool (tree == 10)) [
+  | inl is ↦
+      let last : tree ≡ 10 = grind (arith, nat_tests) in
+      subst (λ (tree : ℕ). new.trees tree ≡ old.trees tree) (sym last) (adds.empty ∙ sym none)
+  | inr other ↦ adds.trees tree (grind (arith, nat_tests))
+]
+
+-- All of a book was written in the form of this program, and is to be committed.
+pub record IsWritten (names : Naming) (old new : View) : Type 0 where
+  pub is_open : new.is_open ≡ old.is_open
+  pub more : ListMore new.trees
+  pub kept : (book : Book) → RestsAtFirst names book old → IsStoredIn names book new.trees
+
+-- so it is where a tree for details was added, and got its rows
+pub all_written : (names : Naming) (old mid new : View) → HasFirstTrees old
+    → (old.is_broken ≡ false → IsOrdered old.shape old.trees) → AddsDetails old mid
+    → Changes mid new (λ tables. tables ≡ uncounted tables) with_details
+    → (new.is_broken ≡ false → IsListed (new.trees catalog_tree) new.shape new.reals)
+    → IsWritten names old new
+all_written names old mid new first ordered adds filled listed =
+    let none : old.trees 10 ≡ [] =
+    subst (λ (shape : Shape). IsShaped shape (old.trees 10)) first.none (ordered adds.was_sound 10) in
+    let sound = ap (λ (v : View). v.is_broken) filled.only ∙ adds.sound in
+    record {
+      is_open = ap (λ (v : View). v.is_open) filled.only ∙ adds.is_open;
+      more = more_listed new (listed sound)
+          (ap (λ (v : View). v.shape 10) filled.only ∙ adds.shapes 10 (omega arith));
+      kept = λ book at. record {
+        readable = at.kept.readable;
+        holds = subst (Holds new.trees) (details_are names book at.kept.readable)
+            (filled.made (uncounted (tables_of names book))
+            (holds_same (added_same old mid adds none) at.kept.holds) refl);
+      };
+    }
+
+module _ (names : Naming) (old new : View) (written : IsWritten names old new) where
+  -- what a stop in the commit may leave
+  pub may_bring : (trees : Trees) → trees ≡ with_version new.trees this_form
+      → MayBringOver names old trees
+  may_bring trees said book at =
+      let kept = written.kept book at in
+      subst (IsBroughtOver names book) (sym said) (
+        written.more,
+        record {
+          readable = kept.readable;
+          holds = holds_same (λ tree small. said_tables new.trees this_form tree
+              (omega (arith, small))) kept.holds;
+        },
+      )
+
+  -- and the commit itself
+  pub brought_rests : (last : View) → IsSaid new last → RestsBroughtOver names old last
+  brought_rests last said book at =
+      let over = may_bring last.trees said.trees book at in (
+        over.0,
+        record {
+          rest = record {
+            is_open = said.is_open ∙ written.is_open ∙ at.rest.is_open;
+            sound = said.sound;
+            settled = said.settled;
+          };
+          kept = over.1;
+        },
+      )
+
+-- ---- what files hold
+
+-- files of the first form list its trees
+first_list : {image : Image} (held : HoldsFirstBooks image)
+    → trees_held held catalog_tree ≡ listed_from 0 first_schema
+unfolding all_trees
+first_list held = refl
+
+module _ {A F D : Type 0} {g : Ghosts D} (names : Naming) (book : Book) (result : Result A F)
+    (image : Image) (store : FileStore D g)
+    (so : (trees : Trees) → recovers store trees → LeavesUpgraded names book result trees) where
+  -- a store whose books were brought over was closed
+  pub brought_holds : (done : A) → result ≡ Ok done
+      → ∥ ((held : HoldsBooks image) × recovers store (trees_held held)) ∥₁
+      → HoldsUpgraded names book result image
+  brought_holds done is left =
+      subst (λ (result : Result A F). HoldsUpgraded names book result image) (sym is)
+      (∥∥₁_map left λ one. (
+        one.0,
+        (subst (λ (result : Result A F). LeavesUpgraded names book result (trees_held one.0)) is
+            (so (trees_held one.0) one.1)).1,
+      ))
+
+  -- or they were not
+  pub unbrought_holds : (why : F) → result ≡ Err why
+      → ∥ ((held : HoldsFirstBooks image) × recovers store (trees_held held)) ∥₁
+      → HoldsUpgraded names book result image
+  unbrought_holds why is left =
+      subst (λ (result : Result A F). HoldsUpgraded names book result image) (sym is)
+      (∥∥₁_map left λ one. elim (subst (λ (result : Result A F).
+      LeavesUpgraded names book result (trees_held one.0)) is (so (trees_held one.0) one.1)) [
+        | inl first ↦ inl ∣ (one.0, first.1) ∣₁
+        | inr brought ↦ absurd (brought.0 (first_list one.0))
+      ])
+
+-- a store that was opened on files of the first form stands at their book
+first_stands : {D : Type 0} {g : Ghosts D} (names : Naming) (book : Book) (first : Image)
+    (store : FileStore D g) → IsReady store
+    → (IsTrue (state store).is_clean → (held : HoldsFirstBooks first)
+    → (view store).trees ≡ trees_held held)
+    → (held : HoldsFirstBooks first) → IsStoredInFirst names book (trees_held held)
+    → StandsAtFirst names book (view store)
+first_stands names book first store ready found held kept = λ clean. record {
+  rest = opened_rests store ready clean;
+  kept = subst (IsStoredInFirst names book) (sym (found (clean_of _ clean) held)) kept;
+}
+
+-- so the files hold its history
+pub brings_over : {D : Type 0} {g : Ghosts D} (names : Naming) (history : List Event)
+    (first image : Image) (store : FileStore D g) → IsReady store
+    → (IsTrue (state store).is_clean → (held : HoldsFirstBooks first)
+    → (view store).trees ≡ trees_held held)
+    → HoldsFirstHistory names history first → (result : Result (Unit {0}) RepositoryFault)
+    → (StandsAtFirst names (book_after history) (view store)
+    → HoldsUpgraded names (book_after history) result image)
+    → BringsOver names history (upgrade_answer result) image
+brings_over names history first image store ready found held (Ok done) each = record {
+  answered = held.answered;
+  held = ∥∥₁_elim held.held ∥∥₁_prop λ kept.
+      each (first_stands names (book_after history) first store ready found kept.0 kept.1);
+}
+brings_over names history first image store ready found held (Err why) each =
+    ∥∥₁_elim held.held ∥∥₁_prop λ kept.
+    ∥∥₁_map (each (first_stands names (book_after history) first store ready found kept.0 kept.1))
+    λ side. elim side [
+      | inl first ↦ inl (record { answered = held.answered; held = first })
+      | inr brought ↦ inr (record { answered = held.answered; held = brought })
+    ]
+
+-- what is left of trees is left of them by what is told
+told_upgraded : (names : Naming) (book : Book) (result : Result (Unit {0}) RepositoryFault)
+    (trees : Trees) → LeavesUpgraded names book result trees
+    → LeavesUpgraded names book (upgrade_answer result) trees
+told_upgraded names book (Ok done) trees left = left
+told_upgraded names book (Err why) trees left = left
+
+-- and so it is of the rows of the files
+pub rows_brought_over : {D : Type 0} {g : Ghosts D} (names : Naming) (book : Book)
+    (first image : Image) (store : FileStore D g) → IsReady store
+    → (IsTrue (state store).is_clean → (held : HoldsFirstBooks first)
+    → (view store).trees ≡ trees_held held)
+    → HoldsFirstBook names book first → (result : Result (Unit {0}) RepositoryFault)
+    → (StandsAtFirst names book (view store)
+    → ∥ ((file : HoldsFile image) × LeavesUpgraded names book result (rows_held file)) ∥₁)
+    → ∥ ((file : HoldsFile image)
+    × LeavesUpgraded names book (upgrade_answer result) (rows_held file)) ∥₁
+rows_brought_over names book first image store ready found held result each =
+    ∥∥₁_elim held ∥∥₁_prop λ kept.
+    ∥∥₁_map (each (first_stands names book first store ready found kept.0 kept.1))
+    λ left. (left.0, told_upgraded names book result (rows_held left.0) left.1)
+
+-- ---- files that were refused
+
+module _ {D : Type 0} (g : Ghosts D) (names : Naming) (first : Image) where
+  -- they hold the history that they held
+  first_still : (history : List Event) (files : Files D) → AreLeftAsFound g first files
+      → (image : Image) → MayFollow g (Refused (Some files)) image
+      → HoldsFirstHistory names history first → HoldsFirstHistory names history image
+  first_still history files same image may held = record {
+    answered = held.answered;
+    held = refused_tables {wanted = first_schema} g (IsStoredInFirst names (book_after history))
+        first files same image may held.held;
+  }
+
+  -- and books of the first form are not said to be of this one
+  pub refused_brings : (history : List Event) (image : Image) (why : FirstFault)
+      (files : Option (Files D))
+      → MatchOption files (IsUnopenedFirst why)
+      (IsRefusedWithout g (HoldsFirstForm first) (first_opening why))
+      → IfSome files (AreLeftAsFound g first) → HoldsFirstForm first
+      → MayFollow g (Refused files) image → HoldsFirstHistory names history first
+      → BringsOver names history (first_answer why) image
+  refused_brings history image why None cause same form may held = absurd may
+  refused_brings history image fault.Already (Some files) cause same form may held =
+      absurd (cause (found_clean g files image may) form)
+  refused_brings history image fault.Pages (Some files) cause same form may held =
+      ∣ inl (first_still history files same image may held) ∣₁
+  refused_brings history image (fault.Open why) (Some files) cause same form may held =
+      ∣ inl (first_still history files same image may held) ∣₁
+
+-- why books were not brought over is what is answered
+pub told_why : (Why : RepositoryFault → Type 0) (result : Result (Unit {0}) RepositoryFault)
+    → IfErr result Why → IfErr (upgrade_answer result) Why
+told_why Why (Ok done) told = tt
+told_why Why (Err why) told = told
+
+-- the form that is told is this one
+pub tells_form : (result : Result (Unit {0}) RepositoryFault)
+    → IfOk (upgrade_answer result) TellsThisForm
+tells_form (Ok done) = refl
+tells_form (Err why) = tt
+
+-- and none is told of files that were not opened
+pub first_tells : (why : FirstFault) → IfOk (first_answer why) TellsThisForm
+first_tells fault.Already = tt
+first_tells fault.Pages = tt
+first_tells (fault.Open why) = tt
+
+-- and none at all where no files are in hand
+pub first_in_hand : {D : Type 0} (g : Ghosts D) (Held : Type 0) (why : FirstFault)
+    (files : Option (Files D))
+    → MatchOption files (IsUnopenedFirst why) (IsRefusedWithout g Held (first_opening why))
+    → IsOk (first_answer why) → IsSome files
+first_in_hand g Held fault.Already None cause answered = absurd cause
+first_in_hand g Held fault.Already (Some files) cause answered = refl
+first_in_hand g Held fault.Pages files cause answered = absurd (true≢false (sym answered))
+first_in_hand g Held (fault.Open why) files cause answered = absurd (true≢false (sym answered))
+
+-- What is told of files that were opened, and of those that were not, stands in them.
+module _ {D : Type 0} (g : Ghosts D) (found : Image) where
+  pub opened_tells : (closed : Closed D) (result : Result (Unit {0}) RepositoryFault)
+      → (AreClean g closed.files.log closed.files.db
+      → ∥ HoldsFirstBooks found ∥₁ × HoldNoNewer first_schema found)
+      → IfOk (upgrade_answer result) (λ upgraded. (image : Image)
+      → MayFollow g (ended.Closed closed) image → HoldsWhatIsTold found upgraded)
+  opened_tells closed (Ok done) held =
+      λ image may. held (found_clean g closed.files image may.1)
+  opened_tells closed (Err why) held = tt
+
+  pub refused_tells : (why : FirstFault) (files : Option (Files D))
+      → (why ≡ fault.Already
+      → IfSome files (λ files. AreClean g files.log files.db → ListsBooks found))
+      → IfOk (first_answer why) (λ upgraded. (image : Image)
+      → MayFollow g (Refused files) image → HoldsWhatIsTold found upgraded)
+  refused_tells fault.Already None lists = λ image never. absurd never
+  refused_tells fault.Already (Some files) lists =
+      λ image may. ∣ lists refl (found_clean g files image may) ∣₁
+  refused_tells fault.Pages files lists = tt
+  refused_tells (fault.Open why) files lists = tt

@@ -1,0 +1,36 @@
+-- How files were opened for a session, by what they held before.
+use Rattle.std.specs.Prelude.{◌≡◌, IfSome, IsTrue, MatchOption, Option, Result, Ok, Err}
+use Rattle.sqlite_disk.specs.declared.Disk.{Ghosts}
+use Rattle.sqlite_disk.specs.declared.files.Files.{Files}
+use Rattle.sqlite_store.specs.FileStore.{IsReady, state, view}
+use Rattle.sqlite_store.specs.declared.store.FileStore.{FileStore}
+use Rattle.sqlite_wal.specs.Recovery.{Image}
+use Rattle.book_trees.specs.Forms.{HoldNoNewer, HoldsThisForm}
+use Rattle.book_trees.specs.LedgerFiles.{HoldsBooks, trees_held}
+use Rattle.book_trees.specs.Refusals.{IsAsFound, IsRefusedWithout, IsUnopened, MayLeave}
+use Rattle.book_trees.specs.Schema.{books_schema}
+use Rattle.book_trees.specs.declared.faults.OpenFault.{OpenFault}
+
+-- A store was opened from files that held this: it shows the tables of books that they held, and they
+-- do not say that they are of a newer form.
+pub record IsOpenedFrom {D : Type 0} {g : Ghosts D} (found : Image) (store : FileStore D g) : Type 0
+  where
+    pub ready : IsReady store
+    pub shows : IsTrue (state store).is_clean → (held : HoldsBooks found)
+        → (view store).trees ≡ trees_held held
+    pub form : IsTrue (state store).is_clean → HoldNoNewer books_schema found
+
+-- A stop leaves files that were not opened as they were found, or standing for the same pages; and it
+-- may leave their log as it is seen.
+pub record AreLeftAsFound {D : Type 0} (g : Ghosts D) (found : Image) (files : Files D) : Type 0 where
+  pub kept : (left : Image) → MayLeave g files left → IsAsFound found left
+  pub log : g.may_leave files.log (g.seen files.log)
+
+-- Files that held this were opened as books; or they were not, and are left as they were found: they
+-- hold none of this form where that is told, and none are in hand where they are out of reach.
+abbrev pub IsOpening : {D : Type 0} (g : Ghosts D) → Image
+    → Result (FileStore D g) (OpenFault × Option (Files D)) → Type 0
+IsOpening g found (Ok store) = IsOpenedFrom found store
+IsOpening g found (Err refusal) =
+    MatchOption refusal.1 (IsUnopened refusal.0) (IsRefusedWithout g (HoldsThisForm found) refusal.0)
+    × IfSome refusal.1 (AreLeftAsFound g found)

@@ -1,0 +1,11 @@
+//! Sessions on the two files of books, wherever these lie. Nothing here knows a path or the machine's
+//! files: what was opened is all that a session can touch, and it gives that back.
+#![tactic(auto)]
+
+mod ended;
+mod faults;
+mod visits;
+
+pub use ended::Ended;
+pub use faults::{fault_of, refused};
+pub use visits::visit;
