@@ -12,7 +12,7 @@ ghost use Rattle.book_sessions.specs.Audits.{HoldCounted, HoldSameTrees};
 ghost use Rattle.book_sessions.specs.Causes.{HaveBookRow, MightBeVisited, WhyNotAudited};
 ghost use Rattle.book_sessions.specs.Causes.{WhyNotContinued, WhyNotMade};
 ghost use Rattle.book_sessions.specs.Causes.{IsToldOfThis, WhyNotUpgraded, WhyNotVisited};
-ghost use Rattle.book_sessions.specs.Faults.{first_answer, resume_fault};
+ghost use Rattle.book_sessions.specs.Faults.{first_answer};
 ghost use Rattle.book_sessions.specs.NewBooks.{MayBeMade, NewBooksMade};
 ghost use Rattle.book_sessions.specs.Sessions.{AreAsFound, AreInHand, AreOpened, FileAloneGoesOn};
 ghost use Rattle.book_sessions.specs.Sessions.{FilesGoOn, KeepRows, KeepsLog, MayFollow, OpenOnly};
@@ -25,14 +25,13 @@ ghost use Rattle.book_trees.specs.LedgerFiles.{HoldsBooks, HoldsEmptyBooks, Hold
 ghost use Rattle.book_trees.specs.LedgerFiles.{HoldsNothing};
 ghost use Rattle.book_trees.specs.StoreView.{ListsBooks};
 
-use crate::books::{audit_and_close, make_and_close, resume_and_close, upgrade_and_close};
+use crate::books::{audit_and_close, upgrade_and_close};
 use crate::repository::not_looked_through;
 use book_audit::{Audited, Watch};
 use book_core::LedgerFault;
 use book_sessions::{Ended, refused};
 use book_trees::{
-    CACHE_PAGES, FirstFault, LeftByLedger, OpenFault, create_at, look_through_at, open_at,
-    open_first_at,
+    CACHE_PAGES, FirstFault, LeftByLedger, create_at, look_through_at, open_at, open_first_at,
 };
 use named_books::{RepositoryFault, Upgraded, Visit};
 use sqlite_disk::{Disk, Start};
@@ -120,23 +119,8 @@ pub fn make_at<S: Start>(
     ensures refused { IfErr result.0
         (WhyNotMade ⟦<FileFrom<S> as Disk>⟧ (image_at S.Start) result.1) }
 {
-    match create_at(rt, path, seed, start) {
-        Ok(store) => {
-            let (made, closed) = make_and_close(rt.alloc(), store);
-            (made, Ended::Closed(closed))
-        }
-        Err((fault, files)) => (Err(refused(fault)), Ended::Refused(files)),
-    }
-}
-
-/// What it means that books were not continued. Any other file belongs to somebody.
-fn unresumed(fault: OpenFault) -> RepositoryFault
-    ensures { result ≡ resume_fault fault }
-{
-    match fault {
-        OpenFault::NotBooks | OpenFault::OldForm | OpenFault::NewForm => RepositoryFault::Exists,
-        fault => refused(fault),
-    }
+    let opened = create_at(rt, path, seed, start);
+    book_sessions::make(rt.alloc(), opened)
 }
 
 /// Continues the books in the file at the path, where a stop left them while they were made, and
@@ -169,13 +153,8 @@ pub fn resume_at<S: LeftByLedger>(
     ensures refused { IfErr result.0
         (WhyNotContinued ⟦<FileFrom<S> as Disk>⟧ (image_at S.Start) result.1) }
 {
-    match open_at(rt, path, seed, CACHE_PAGES, start) {
-        Ok(store) => {
-            let (made, closed) = resume_and_close(rt.alloc(), store);
-            (made, Ended::Closed(closed))
-        }
-        Err((fault, files)) => (Err(unresumed(fault)), Ended::Refused(files)),
-    }
+    let opened = open_at(rt, path, seed, CACHE_PAGES, start);
+    book_sessions::resume(rt.alloc(), opened)
 }
 
 /// Looks through the file at the path, whatever it holds, audits the books in it, and closes it.

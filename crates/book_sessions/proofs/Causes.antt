@@ -23,7 +23,7 @@ use Rattle.book_trees.specs.declared.first_form.FirstFault.{FirstFault}
 use Rattle.book_trees.specs.declared.first_form.FirstFault.TheVariants as form
 use Rattle.book_sessions.specs.Causes.{HasFaultCause, HasNoAnswerFor, HaveNoBookRow, IsToldOfThis}
 use Rattle.book_sessions.specs.Causes.{IsWithoutFiles}
-use Rattle.book_sessions.specs.Faults.{first_answer, open_fault}
+use Rattle.book_sessions.specs.Faults.{first_answer, open_fault, resume_fault}
 use Rattle.book_sessions.specs.Upgrades.{upgrade_answer}
 use Rattle.book_sessions.specs.declared.ended.Ended.TheVariants.{Refused}
 use Rattle.book_sessions.specs.declared.ended.Ended.TheVariants as ended
@@ -146,6 +146,19 @@ module _ {D : Type 0} (g : Ghosts D) (Held : Type 0) (Opened : RepositoryFault �
   refused_cause opening.Store (Some files) cause = λ clean. tt
   refused_cause opening.Busy (Some files) cause = cause
   refused_cause opening.Path (Some files) cause = cause
+
+  -- So have those where books were to be continued, and any other file belongs to somebody;
+  pub unresumed_cause : (fault : OpenFault) (files : Option (Files D))
+      → MatchOption files (IsUnopened fault) (IsRefusedWithout g Held fault)
+      → HasNoAnswerFor g (HasFaultCause ⊥ (¬ Held)) Opened (resume_fault fault) (Refused files)
+  unresumed_cause fault None cause = without_files resume_fault refl refl refl fault cause
+  unresumed_cause opening.NotBooks (Some files) cause = cause
+  unresumed_cause opening.OldForm (Some files) cause = cause
+  unresumed_cause opening.NewForm (Some files) cause = cause
+  unresumed_cause opening.Memory (Some files) cause = λ clean. tt
+  unresumed_cause opening.Store (Some files) cause = λ clean. tt
+  unresumed_cause opening.Busy (Some files) cause = cause
+  unresumed_cause opening.Path (Some files) cause = cause
 
   -- and so have those that were to be brought to this form
   pub first_cause : (why : FirstFault) (files : Option (Files D))

@@ -20,8 +20,9 @@ use Rattle.book_trees.specs.LedgerFiles.{HoldsBooks, trees_held, AreEmptyTables,
 use Rattle.book_trees.specs.Refusals.{IsAsFound, IsBegun, MayLeave}
 use Rattle.book_trees.specs.Schema.{books_schema}
 use Rattle.book_restarts.specs.FileBooks.{HoldsHistory}
-use Rattle.book_sessions.specs.NewBooks.{HaveSameTables, IsEmpty, LeavesNewBooks, MakesBooks}
+use Rattle.book_sessions.specs.NewBooks.{HaveSameTables, IsEmpty, LeavesNew, MakesBooks}
 use Rattle.book_sessions.specs.NewBooks.{MayBeMade}
+use Rattle.book_sessions.specs.Openings.{AreLeftAsFound}
 use Rattle.book_sessions.specs.declared.ended.Ended.TheVariants.{Refused}
 use Rattle.book_sessions.proofs.SessionParts.{held_still, opened_rests}
 use Rattle.table_model.proofs.EventLemmas.{tables_follow}
@@ -34,6 +35,11 @@ use Rattle.table_ledger.specs.LedgerState.{seen_of}
 use Rattle.table_ledger.specs.Ready.{IsStoredIn}
 use Rattle.table_ledger.specs.ReadyBooks.{LeavesTheLast, settled_on, book_of_stored}
 use Rattle.table_ledger.specs.declared.summary.Summary.{Summary}
+
+-- files in which new books were made hold trees that do
+abbrev pub LeavesNewBooks : {A F : Type 0} → Naming → View → Result A F → Image → Type 0
+LeavesNewBooks naming old result image =
+    ∥ ((held : HoldsBooks image) × LeavesNew naming old result (trees_held held)) ∥₁
 
 -- the tables of new books are those of the new book
 pub new_follow : (naming : Naming) → new_tables ≡ tables_of naming new_book
@@ -151,10 +157,9 @@ begun_as_found first left same begun =
 
 -- so files that were refused are still begun
 pub refused_still : {D : Type 0} (g : Ghosts D) (names : Naming) (first : Image)
-    (files : Option (Files D))
-    → IfSome files (λ files. (left : Image) → MayLeave g files left → IsAsFound first left)
-    → HoldsEmptyBooks first → (image : Image) → MayBeMade g (Refused files) image
+    (files : Option (Files D)) → IfSome files (AreLeftAsFound g first) → HoldsEmptyBooks first
+    → (image : Image) → MayBeMade g (Refused files) image
     → ∥ (IsBegun image ⊎ HoldsHistory names [] image) ∥₁
-refused_still g names first None kept begun image never = absurd never
-refused_still g names first (Some files) kept begun image may =
-    ∣ inl (inr ∣ begun_as_found first image (kept image may) begun ∣₁) ∣₁
+refused_still g names first None same begun image never = absurd never
+refused_still g names first (Some files) same begun image may =
+    ∣ inl (inr ∣ begun_as_found first image (same.kept image may) begun ∣₁) ∣₁

@@ -9,12 +9,12 @@ use Rattle.sqlite_trees.proofs.Doubt.{clean_of}
 use Rattle.sqlite_trees.specs.View.{IsClean}
 use Rattle.sqlite_wal.specs.Recovery.{Image}
 use Rattle.book_trees.specs.Forms.{HoldNoNewer, HoldsThisForm}
-use Rattle.book_trees.specs.LedgerFiles.{HoldsBooks, trees_held}
-use Rattle.book_trees.specs.Refusals.{IsAsFound, IsRefusedWithout, IsUnopened, MayLeave}
+use Rattle.book_trees.specs.LedgerFiles.{AreEmptyTables, HoldsBooks, HoldsNothing, trees_held}
+use Rattle.book_trees.specs.Refusals.{IsAsFound, IsBegun, IsRefusedWithout, IsUnopened, MayLeave}
 use Rattle.book_trees.specs.Schema.{books_schema}
 use Rattle.book_trees.specs.declared.closing.Closed.{Closed}
 use Rattle.book_trees.specs.declared.faults.OpenFault.{OpenFault}
-use Rattle.book_sessions.specs.Openings.{AreLeftAsFound, IsOpening}
+use Rattle.book_sessions.specs.Openings.{AreLeftAsFound, IsCreation, IsOpening}
 use Rattle.book_sessions.specs.Sessions.{AreHonest, IsCarriedBy, OpenOnly, files_in_hand}
 use Rattle.book_sessions.specs.declared.ended.Ended.{Ended}
 use Rattle.book_sessions.specs.declared.ended.Ended.TheVariants.{Refused}
@@ -90,3 +90,20 @@ opening_at g stays found (Ok store) ready shows form there kept =
     record { ready = ready; shows = shows; form = form }
 opening_at g stays found (Err refusal) ready shows form there kept =
     (there, left_as_found g stays found refusal.1 kept)
+
+-- the making of their tables
+pub creation_at : {D : Type 0} (g : Ghosts D) (found : Image)
+    (opened : Result (FileStore D g) (OpenFault × Option (Files D)))
+    → IfOk opened IsReady
+    → IfOk opened (λ store. IsTrue (state store).is_clean → AreEmptyTables (view store).committed)
+    → IfOk opened (λ store. IsTrue (state store).is_clean → ∥ HoldsNothing found ∥₁)
+    → IfErr opened (λ refusal. MatchOption refusal.1 (IsUnopened refusal.0)
+    (IsRefusedWithout g (HoldsNothing found) refusal.0))
+    → IfErr opened (λ refusal. HoldsNothing found → IfSome refusal.1 (λ files. (left : Image)
+    → MayLeave g files left → IsBegun left))
+    → IfErr opened (λ refusal. (¬ HoldsNothing found) → IfSome refusal.1 (λ files. (left : Image)
+    → MayLeave g files left → IsAsFound found left))
+    → IsCreation g found opened
+creation_at g found (Ok store) ready empty started there begun kept =
+    record { ready = ready; empty = empty; started = started }
+creation_at g found (Err refusal) ready empty started there begun kept = (there, begun, kept)

@@ -1,16 +1,21 @@
 -- What is left where new books are made.
-use Rattle.std.specs.Prelude.{◌≡◌, ◌⊎◌, ◌<◌, ◌^◌, ℕ, IsTrue, None, Some, Result, Ok, Err, []}
+use Rattle.std.specs.Prelude.{◌≡◌, ◌⊎◌, ◌<◌, ◌^◌, ℕ, IsTrue, List, None, Some, Result, Ok, Err, []}
+use Rattle.std.specs.Prelude.{IfErr, IfOk, IsOk}
 use Rattle.sqlite_disk.specs.declared.Disk.{Ghosts}
 use Rattle.sqlite_trees.specs.Tree.{Trees}
 use Rattle.sqlite_trees.specs.View.{View, IsClean}
 use Rattle.sqlite_wal.specs.Recovery.{Image}
-use Rattle.book_model.specs.Words.{Naming, new_book}
+use Rattle.book_core.specs.Transition.{NoEvent}
+use Rattle.book_model.specs.Words.{Event, Naming, new_book}
+use Rattle.book_sessions.specs.Causes.{HaveBookRow, WhyNotContinued, WhyNotMade}
+use Rattle.book_sessions.specs.Sessions.{AreAsFound, AreOpened, FilesGoOn, KeepRows, MayFollow}
 use Rattle.book_sessions.specs.declared.ended.Ended.{Ended}
 use Rattle.book_sessions.specs.declared.ended.Ended.TheVariants.{Closed, Refused}
 use Rattle.book_trees.specs.Closing.{MayBeFound}
-use Rattle.book_trees.specs.LedgerFiles.{HoldsBooks, trees_held}
+use Rattle.book_trees.specs.LedgerFiles.{HoldsEmptyBooks, HoldsNothing}
 use Rattle.book_trees.specs.Refusals.{IsBegun, MayLeave}
 use Rattle.book_restarts.specs.FileBooks.{HoldsHistory, file_names}
+use Rattle.named_books.specs.declared.repository.RepositoryFault.{RepositoryFault}
 use Rattle.table_ledger.specs.Commits.{IsAtRest}
 use Rattle.table_ledger.specs.Ready.{IsStoredIn}
 use Rattle.tree_tables.specs.Steps.{HasNoRows}
@@ -31,11 +36,6 @@ LeavesNew naming old (Ok made) trees = IsStoredIn naming new_book trees
 LeavesNew naming old (Err fault) trees =
     (IsClean old × HaveSameTables old.trees trees) ⊎ IsStoredIn naming new_book trees
 
--- so do files
-abbrev pub LeavesNewBooks : {A F : Type 0} → Naming → View → Result A F → Image → Type 0
-LeavesNewBooks naming old result image =
-    ∥ ((held : HoldsBooks image) × LeavesNew naming old result (trees_held held)) ∥₁
-
 -- What may be found where new books were made of files that held nothing: the books of no history;
 -- or, where they were not made, nothing, or all tables with no row, or these books.
 abbrev pub MakesBooks : {A F : Type 0} → Naming → Result A F → Image → Type 0
@@ -54,3 +54,32 @@ MayBeMade g (Refused None) image = ⊥
 abbrev pub NewBooksMade : {D A F : Type 0} (g : Ghosts D) → Result A F → Ended D → Type 0
 NewBooksMade g made ended =
     (image : Image) → MayBeMade g ended image → MakesBooks file_names made image
+
+-- New books were made in files that were found so, or they were not: whatever may be found of files that
+-- held nothing next are the books of no history, or what the next call goes on with. In files that hold
+-- something none are made, and nothing is written. That they were made is answered only where the files
+-- were opened; and that something is there is told only where it is.
+pub record AreMade {A D : Type 0} (g : Ghosts D) (found : Image) (result : Result A RepositoryFault)
+    (ended : Ended D) : Type 0 where
+  pub made : HoldsNothing found → NewBooksMade g result ended
+  pub new : IfOk result (λ done. (image : Image) → MayBeMade g ended image → ∥ HoldsNothing found ∥₁)
+  pub unopened : (¬ HoldsNothing found) → AreAsFound g found ended
+  pub in_hand : IsOk result → AreOpened ended
+  pub refused : IfErr result (WhyNotMade g found ended)
+
+-- Books in files that were found so were continued, where a stop left them while they were made, or they
+-- were not: whatever may be found of them next holds the history that they held, and of any history but
+-- that of new books it is not answered that all went well. Where the row of the book is there all rows
+-- stay; where no table had a row new books are made, as ever; and files that were not opened are as they
+-- were found. That books are there is told only of files that hold none of this form, or books that are
+-- not new.
+pub record AreContinued {A D : Type 0} (g : Ghosts D) (found : Image)
+    (result : Result A RepositoryFault) (ended : Ended D) : Type 0 where
+  pub history : FilesGoOn g NoEvent found ended
+  pub rows : HaveBookRow found → KeepRows g found ended
+  pub unopened : AreAsFound g found ended
+  pub none : (image : Image) → MayFollow g ended image → (history : List Event)
+      → HoldsHistory file_names history found → IfOk result (λ done. history ≡ [])
+  pub made : HoldsEmptyBooks found → NewBooksMade g result ended
+  pub in_hand : IsOk result → AreOpened ended
+  pub refused : IfErr result (WhyNotContinued g found ended)

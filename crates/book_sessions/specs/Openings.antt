@@ -6,8 +6,8 @@ use Rattle.sqlite_store.specs.FileStore.{IsReady, state, view}
 use Rattle.sqlite_store.specs.declared.store.FileStore.{FileStore}
 use Rattle.sqlite_wal.specs.Recovery.{Image}
 use Rattle.book_trees.specs.Forms.{HoldNoNewer, HoldsThisForm}
-use Rattle.book_trees.specs.LedgerFiles.{HoldsBooks, trees_held}
-use Rattle.book_trees.specs.Refusals.{IsAsFound, IsRefusedWithout, IsUnopened, MayLeave}
+use Rattle.book_trees.specs.LedgerFiles.{AreEmptyTables, HoldsBooks, HoldsNothing, trees_held}
+use Rattle.book_trees.specs.Refusals.{IsAsFound, IsBegun, IsRefusedWithout, IsUnopened, MayLeave}
 use Rattle.book_trees.specs.Schema.{books_schema}
 use Rattle.book_trees.specs.declared.faults.OpenFault.{OpenFault}
 
@@ -26,6 +26,13 @@ pub record AreLeftAsFound {D : Type 0} (g : Ghosts D) (found : Image) (files : F
   pub kept : (left : Image) → MayLeave g files left → IsAsFound found left
   pub log : g.may_leave files.log (g.seen files.log)
 
+-- A store of the tables of books was made in files that held this: nothing.
+pub record IsCreatedFrom {D : Type 0} {g : Ghosts D} (found : Image) (store : FileStore D g) : Type 0
+  where
+    pub ready : IsReady store
+    pub empty : IsTrue (state store).is_clean → AreEmptyTables (view store).committed
+    pub started : IsTrue (state store).is_clean → ∥ HoldsNothing found ∥₁
+
 -- Files that held this were opened as books; or they were not, and are left as they were found: they
 -- hold none of this form where that is told, and none are in hand where they are out of reach.
 abbrev pub IsOpening : {D : Type 0} (g : Ghosts D) → Image
@@ -34,3 +41,16 @@ IsOpening g found (Ok store) = IsOpenedFrom found store
 IsOpening g found (Err refusal) =
     MatchOption refusal.1 (IsUnopened refusal.0) (IsRefusedWithout g (HoldsThisForm found) refusal.0)
     × IfSome refusal.1 (AreLeftAsFound g found)
+
+-- Files that held this got the tables of books; or they did not, and something was there where that is
+-- told: files that held nothing hold a part of nothing, or all tables with no row, and others are as
+-- they were found.
+abbrev pub IsCreation : {D : Type 0} (g : Ghosts D) → Image
+    → Result (FileStore D g) (OpenFault × Option (Files D)) → Type 0
+IsCreation g found (Ok store) = IsCreatedFrom found store
+IsCreation g found (Err refusal) =
+    MatchOption refusal.1 (IsUnopened refusal.0) (IsRefusedWithout g (HoldsNothing found) refusal.0)
+    × (HoldsNothing found
+    → IfSome refusal.1 (λ files. (left : Image) → MayLeave g files left → IsBegun left))
+    × ((¬ HoldsNothing found)
+    → IfSome refusal.1 (λ files. (left : Image) → MayLeave g files left → IsAsFound found left))

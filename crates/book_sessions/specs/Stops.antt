@@ -13,8 +13,8 @@ use Rattle.book_trees.specs.LedgerFiles.{HoldsBooks, HoldsFile, rows_held, trees
 use Rattle.tree_tables.specs.States.{State, HasCleanDisk}
 use Rattle.table_ledger.specs.Commits.{IsAtRest}
 use Rattle.table_ledger.specs.Ready.{IsStoredIn}
-use Rattle.book_restarts.specs.FileBooks.{HoldsBook, LeavesTrees, StandsAt, file_names}
-use Rattle.book_sessions.specs.NewBooks.{IsEmpty, LeavesNew, LeavesNewBooks}
+use Rattle.book_restarts.specs.FileBooks.{LeavesTrees, StandsAt, file_names}
+use Rattle.book_sessions.specs.NewBooks.{IsEmpty, LeavesNew}
 
 -- all trees that a stop may leave of a store are so, if its disk was honest
 abbrev pub StopLeaves : State → (Trees → Type 0) → Type 0
@@ -50,12 +50,6 @@ abbrev pub StopKeepsBook : View → State → Type 0
 StopKeepsBook found left =
     (book : Book) → StandsAt file_names book found → StopLeaves left (IsStoredIn file_names book)
 
--- a close leaves in the files the book at which a store stood
-abbrev pub CloseKeepsBook : {D : Type 0} (g : Ghosts D) → View → Closed D → Type 0
-CloseKeepsBook g found closed =
-    (book : Book) → StandsAt file_names book found
-    → CloseLeaves g closed (HoldsBook file_names book)
-
 -- a stop leaves the trees of a store that was at rest, whatever they hold
 abbrev pub StopKeepsTrees : View → State → Type 0
 StopKeepsTrees found left =
@@ -77,9 +71,3 @@ CloseKeepsRows g found closed =
 abbrev pub StopLeavesNew : {A F : Type 0} → View → Result A F → State → Type 0
 StopLeavesNew found made left =
     (IsClean found → IsEmpty found) → StopLeaves left (LeavesNew file_names found made)
-
--- Of a store that had no row a close leaves new books in the files; or, where they were not made, its
--- tables as they were.
-abbrev pub CloseLeavesNew : {D A F : Type 0} (g : Ghosts D) → View → Result A F → Closed D → Type 0
-CloseLeavesNew g found made closed =
-    (IsClean found → IsEmpty found) → CloseLeaves g closed (LeavesNewBooks file_names found made)

@@ -2,10 +2,14 @@
 //! files: what was opened is all that a session can touch, and it gives that back.
 #![tactic(auto)]
 
+mod continued;
 mod ended;
 mod faults;
+mod new_books;
 mod visits;
 
+pub use continued::resume;
 pub use ended::Ended;
 pub use faults::{fault_of, refused};
+pub use new_books::make;
 pub use visits::visit;

@@ -5,7 +5,7 @@ use Rattle.book_model.specs.Words.{new_book}
 use Rattle.book_restarts.proofs.OpenStores.{clean_before}
 use Rattle.book_restarts.specs.FileBooks.{file_names}
 use Rattle.book_sessions.proofs.NewParts.{holds_new, open_leaves}
-use Rattle.book_files.proofs.books.create_in.Goals as goal
+use Rattle.book_sessions.proofs.new_books.create_in.Goals as goal
 
 pub returns-in-Ok-clause-left : goal.returns-in-Ok-clause-left
 returns-in-Ok-clause-left g c = λ empty clean trees left.
