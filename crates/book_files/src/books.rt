@@ -1,29 +1,25 @@
 //! The books in a store, and the store of a file, which is closed afterwards. What is done to open
 //! books is written for any store, so that it is proved once.
 
-ghost use Rattle.std.specs.Prelude.{◌≡◌, false, IfErr, IfOk, OnOk};
+ghost use Rattle.std.specs.Prelude.{◌≡◌, false, IfErr, OnOk};
 ghost use Rattle.sqlite_store.specs.FileStore.{view};
 ghost use Rattle.sqlite_trees.specs.View.{IsClean};
 ghost use Rattle.sqlite_wal.specs.Reads.{AreClean};
-ghost use Rattle.book_audit.specs.OfBook.{AreOfBook};
-ghost use Rattle.book_audit.specs.declared.audited.Counts.{Counts};
 ghost use Rattle.book_model.specs.Words.{Book};
 ghost use Rattle.book_sessions.specs.Causes.{HasFaultCause};
-ghost use Rattle.book_sessions.specs.Stops.{CloseKeepsLog, CloseKeepsRows, CloseKeepsTrees};
 ghost use Rattle.book_sessions.specs.Stops.{CloseLeaves, CloseLeavesRows, CloseTriesToMoveLog};
-ghost use Rattle.book_sessions.specs.Stops.{StopKeepsTrees, StopLeaves};
+ghost use Rattle.book_sessions.specs.Stops.{StopLeaves};
 ghost use Rattle.book_sessions.specs.Upgrades.{HoldsUpgraded, LeavesUpgraded, MayBringOver};
 ghost use Rattle.book_sessions.specs.Upgrades.{RestsBroughtOver};
 ghost use Rattle.book_trees.specs.FirstForm.{HasFirstTrees};
 ghost use Rattle.book_restarts.specs.FileBooks.{file_names};
 ghost use Rattle.table_ledger.specs.FirstForm.{StandsAtFirst};
-ghost use Rattle.tree_tables.specs.Holds.{HasShapes, has_book};
+ghost use Rattle.tree_tables.specs.Holds.{has_book};
 ghost use Rattle.tree_tables.specs.States.{Survives, state};
 
-use book_audit::{Audited, Watch, audit_trees};
 use book_core::LedgerFault;
 use book_sessions::fault_of;
-use book_trees::{Closed, add_details, close_books, close_first, close_unchanged, commit_form};
+use book_trees::{Closed, add_details, close_books, close_first, commit_form};
 use named_books::RepositoryFault;
 use sqlite_disk::Disk;
 use sqlite_store::FileStore;
@@ -93,42 +89,4 @@ pub(crate) fn upgrade_and_close<D: Disk>(
         Ok(()) => (upgraded, close_books(store)),
         Err(_) => (upgraded, close_first(store)),
     }
-}
-
-/// Audits the books in a store, which is given back. Nothing is written to them.
-fn audit_in<S: Store, W: Watch>(
-    alloc: Global,
-    store: S,
-    watch: &mut W,
-) -> (Result<Audited, RepositoryFault>, S)
-    requires { IsClean (S.Store.view store) → HasShapes (S.Store.view store) }
-    ensures same { StopKeepsTrees (S.Store.view store) (state S.Store result.1) }
-    ensures book { IfOk result.0 (λ audited. (counts : Counts) → audited ≡ Audited.Sound counts
-        → IsClean (S.Store.view result.1)
-        → AreOfBook file_names (S.Store.view store).trees counts) }
-    ensures clean { IsClean (S.Store.view result.1) → IsClean (S.Store.view store) }
-{
-    let (audited, store) = audit_trees(alloc, store, watch);
-    (audited.map_err(RepositoryFault::Ledger), store)
-}
-
-/// Audits the books in a file that was looked through, and closes it. Nothing is written, and what
-/// its log holds is left there: whatever may be found of the file then, and wherever a stop comes
-/// within this, holds the trees as they were, whatever these hold.
-pub(crate) fn audit_and_close<D: Disk, W: Watch>(
-    alloc: Global,
-    store: FileStore<D>,
-    watch: &mut W,
-) -> (Result<Audited, RepositoryFault>, Closed<D>)
-    requires { HasShapes (view store) }
-    ensures same { CloseKeepsTrees D.Disk (view store) result.1 }
-    ensures rows { CloseKeepsRows D.Disk (view store) result.1 }
-    ensures log { CloseKeepsLog result.1 }
-    ensures book { IfOk result.0 (λ audited. (counts : Counts) → audited ≡ Audited.Sound counts
-        → AreClean D.Disk result.1.files.log result.1.files.db
-        → AreOfBook file_names (view store).trees counts) }
-    ensures clean { AreClean D.Disk result.1.files.log result.1.files.db → IsClean (view store) }
-{
-    let (audited, store) = audit_in(alloc, store, watch);
-    (audited, close_unchanged(store))
 }

@@ -4,16 +4,14 @@ ghost use Rattle.std.specs.Prelude.{◌≡◌, false, Err, OnErr, OnOk};
 ghost use Rattle.std.specs.IoError.{error_kind};
 ghost use Rattle.book_files.specs.Faults.{file_fault};
 ghost use Rattle.book_files.specs.Releases.{HasMovedLog, LeftLooksShort, seen_answer};
-ghost use Rattle.book_sessions.specs.Faults.{look_answer};
 ghost use Rattle.named_books.specs.Shelves.{ComesBy};
 
 use crate::log::{Log, begins_as_books};
 use crate::session::{audit_at, upgrade_at, visit_at};
 use crate::waiting::Visited;
-use book_audit::{Audited, AuditedRepository, Finding, Place, Watch, Wrong};
+use book_audit::{Audited, AuditedRepository, Watch};
 use book_core::LedgerFault;
-use book_sessions::{Ended, refused};
-use book_trees::LookFault;
+use book_sessions::Ended;
 use named_books::{Opened, Repository, RepositoryFault, Upgraded, Visit, WaitingRepository};
 use sqlite_disk::{Disk, Unknown};
 use std::hash::{BuildHasher, RandomState};
@@ -115,19 +113,6 @@ pub(crate) fn failed(error: &io::Error) -> RepositoryFault
         ErrorKind::AlreadyExists => RepositoryFault::Exists,
         ErrorKind::OutOfMemory => RepositoryFault::Ledger(LedgerFault::Memory),
         _ => RepositoryFault::Io,
-    }
-}
-
-/// What is answered where a file was not audited.
-pub(crate) fn not_looked_through(fault: LookFault) -> Result<Audited, RepositoryFault>
-    ensures { result ≡ look_answer fault }
-{
-    match fault {
-        LookFault::Pages => Ok(Audited::Unsound(Finding {
-            place: Place::File,
-            wrong: Wrong::Pages,
-        })),
-        LookFault::Open(fault) => Err(refused(fault)),
     }
 }
 

@@ -25,8 +25,7 @@ ghost use Rattle.book_trees.specs.LedgerFiles.{HoldsBooks, HoldsEmptyBooks, Hold
 ghost use Rattle.book_trees.specs.LedgerFiles.{HoldsNothing};
 ghost use Rattle.book_trees.specs.StoreView.{ListsBooks};
 
-use crate::books::{audit_and_close, upgrade_and_close};
-use crate::repository::not_looked_through;
+use crate::books::upgrade_and_close;
 use book_audit::{Audited, Watch};
 use book_core::LedgerFault;
 use book_sessions::{Ended, refused};
@@ -193,13 +192,8 @@ pub fn audit_at<S: Start, W: Watch>(
     ensures refused { IfErr result.0
         (WhyNotAudited ⟦<FileFrom<S> as Disk>⟧ (image_at S.Start) result.1) }
 {
-    match look_through_at(rt, path, seed, start) {
-        Ok(store) => {
-            let (audited, closed) = audit_and_close(rt.alloc(), store, watch);
-            (audited, Ended::Closed(closed))
-        }
-        Err((fault, files)) => (not_looked_through(fault), Ended::Refused(files)),
-    }
+    let opened = look_through_at(rt, path, seed, start);
+    book_sessions::audit(rt.alloc(), opened, watch)
 }
 
 /// What is answered where books were brought over, or were not.

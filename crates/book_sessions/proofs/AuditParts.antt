@@ -1,7 +1,8 @@
 -- What an audit says of files.
 use Rattle.std.proofs.Common.{◌≡◌, ◌∙◌, Option, None, Some, IsTrue, refl, subst, sym, true≢false}
+use Rattle.std.proofs.Common.{Result}
 use Rattle.std.proofs.Math.Logic.{∥∥₁_elim, ∥∥₁_map, ∥∥₁_prop}
-use Rattle.std.specs.Prelude.{IfOk, IfSome, IsOk, IsSome, MatchOption}
+use Rattle.std.specs.Prelude.{IfOk, IfSome, IsOk, IsSome, MatchOption, ⊤}
 use Rattle.sqlite_disk.specs.declared.Disk.{Ghosts}
 use Rattle.sqlite_disk.specs.declared.files.Files.{Files}
 use Rattle.sqlite_store.specs.FileStore.{state, view, IsReady}
@@ -14,21 +15,29 @@ use Rattle.book_model.specs.Words.{Naming}
 use Rattle.book_core.specs.Transition.{NoEvent}
 use Rattle.table_ledger.specs.Commits.{IsAtRest}
 use Rattle.table_ledger.specs.Ready.{IsStoredIn}
+use Rattle.book_audit.specs.declared.audited.Audited.{Audited}
+use Rattle.book_audit.specs.declared.audited.Audited.TheVariants.{Sound}
+use Rattle.book_audit.specs.declared.audited.Counts.{Counts}
 use Rattle.book_trees.specs.Forms.{HoldsThisForm}
 use Rattle.book_trees.specs.LedgerFiles.{HoldsBooks, trees_held}
 use Rattle.book_trees.specs.Looks.{IsUnopenedLook, look_opening}
 use Rattle.book_trees.specs.Refusals.{IsRefusedWithout}
 use Rattle.book_trees.specs.Schema.{books_schema}
+use Rattle.book_trees.specs.StoreView.{ListsBooks}
 use Rattle.book_trees.specs.declared.integrity.LookFault.{LookFault}
 use Rattle.book_trees.specs.declared.integrity.LookFault.TheVariants.{Pages, Open}
-use Rattle.book_restarts.specs.FileBooks.{GoesOn}
+use Rattle.book_restarts.specs.FileBooks.{GoesOn, file_names}
 use Rattle.book_restarts.proofs.SessionLemmas.{still_held}
-use Rattle.book_sessions.specs.Audits.{HoldSameTrees, SoundAreOurs}
+use Rattle.book_sessions.specs.Audits.{AreAudited, HoldCounted, HoldSameTrees, SoundAreOurs}
 use Rattle.book_sessions.specs.Faults.{look_answer}
 use Rattle.book_sessions.specs.Openings.{AreLeftAsFound}
 use Rattle.book_sessions.specs.Sessions.{MayFollow}
 use Rattle.book_sessions.specs.declared.ended.Ended.TheVariants.{Refused}
-use Rattle.book_sessions.proofs.SessionParts.{found_clean, opened_rests, refused_tables}
+use Rattle.named_books.specs.declared.repository.RepositoryFault.{RepositoryFault}
+use Rattle.book_sessions.proofs.Causes.{look_cause}
+use Rattle.book_sessions.proofs.Openings.{some_so}
+use Rattle.book_sessions.proofs.SessionParts.{found_clean, opened_rests, refused_goes_on}
+use Rattle.book_sessions.proofs.SessionParts.{refused_tables}
 
 -- a store that an audit leaves as it was leaves the trees that its files held
 pub audited_same : {D : Type 0} {g : Ghosts D} (first image : Image) (store : FileStore D g)
@@ -78,6 +87,35 @@ pub looked_in_hand : {D : Type 0} (g : Ghosts D) (found : Image) (fault : LookFa
 looked_in_hand g found Pages None cause answered = absurd cause
 looked_in_hand g found Pages (Some files) cause answered = refl
 looked_in_hand g found (Open fault) files cause answered = absurd (true≢false (sym answered))
+
+-- pages that are wrong are not called sound
+never_sound : {D : Type 0} (g : Ghosts D) (found : Image) (fault : LookFault) (files : Option (Files D))
+    → IfOk (look_answer fault) (λ audited. (counts : Counts) → audited ≡ Sound counts
+    → (image : Image) → MayFollow g (Refused files) image → HoldCounted counts found)
+never_sound g found Pages files = λ counts is. absurd (cc)
+never_sound g found (Open fault) files = tt
+
+-- so it is with all that is said of files that were not looked through
+pub unaudited : {D : Type 0} (g : Ghosts D) (found : Image) (fault : LookFault)
+    (files : Option (Files D)) (result : Result Audited RepositoryFault)
+    → result ≡ look_answer fault
+    → MatchOption files (IsUnopenedLook fault)
+    (IsRefusedWithout g (HoldsThisForm found) (look_opening fault))
+    → IfSome files (AreLeftAsFound g found)
+    → (fault ≡ Pages → IfSome files (λ files. AreClean g files.log files.db → ListsBooks found))
+    → AreAudited g found result (Refused files)
+unaudited g found fault files result is there same lists =
+    subst (λ (told : Result Audited RepositoryFault). AreAudited g found told (Refused files)) (sym is)
+    (record {
+      history = refused_goes_on g file_names found files same;
+      unopened = some_so files same (λ files same. same.kept);
+      same = refused_same g found files same;
+      rows = tt;
+      book = never_sound g found fault files;
+      listed = looked_listed g (ListsBooks found) fault files lists;
+      in_hand = looked_in_hand g found fault files there;
+      refused = look_cause g (HoldsThisForm found) (λ other. ⊤) fault files there;
+    })
 
 -- the law
 pub sound_are_ours : SoundAreOurs

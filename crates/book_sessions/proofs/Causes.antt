@@ -15,15 +15,18 @@ use Rattle.book_model.specs.declared.fault.LedgerFault.{LedgerFault}
 use Rattle.book_model.specs.declared.fault.LedgerFault.TheVariants as ledger
 use Rattle.book_trees.specs.FirstForm.{HoldsFirstForm, IsToldThis, IsUnopenedFirst, first_opening}
 use Rattle.book_trees.specs.LedgerFiles.{HoldsBooks, trees_held}
+use Rattle.book_trees.specs.Looks.{IsUnopenedLook, look_opening}
 use Rattle.book_trees.specs.Refusals.{IsRefusedWithout, IsUnopened}
 use Rattle.book_trees.specs.declared.closing.Closed.{Closed}
 use Rattle.book_trees.specs.declared.faults.OpenFault.{OpenFault}
 use Rattle.book_trees.specs.declared.faults.OpenFault.TheVariants as opening
 use Rattle.book_trees.specs.declared.first_form.FirstFault.{FirstFault}
 use Rattle.book_trees.specs.declared.first_form.FirstFault.TheVariants as form
+use Rattle.book_trees.specs.declared.integrity.LookFault.{LookFault}
+use Rattle.book_trees.specs.declared.integrity.LookFault.TheVariants.{Pages, Open}
 use Rattle.book_sessions.specs.Causes.{HasFaultCause, HasNoAnswerFor, HaveNoBookRow, IsToldOfThis}
 use Rattle.book_sessions.specs.Causes.{IsWithoutFiles}
-use Rattle.book_sessions.specs.Faults.{first_answer, open_fault, resume_fault}
+use Rattle.book_sessions.specs.Faults.{first_answer, look_answer, open_fault, resume_fault}
 use Rattle.book_sessions.specs.Upgrades.{upgrade_answer}
 use Rattle.book_sessions.specs.declared.ended.Ended.TheVariants.{Refused}
 use Rattle.book_sessions.specs.declared.ended.Ended.TheVariants as ended
@@ -55,11 +58,16 @@ pub err_given : {A E Given : Type 0} {Says : E → Type 0} (result : Result A E)
 err_given (Ok answer) says = tt
 err_given (Err fault) says = says
 
--- what holds of each answer holds of the one that there may be
+-- what holds of each answer, or of each error, holds of the one that there may be
 pub ok_each : {A E : Type 0} {Says : A → Type 0} (result : Result A E)
     → ((answer : A) → Says answer) → IfOk result Says
 ok_each (Ok answer) each = each answer
 ok_each (Err fault) each = tt
+
+pub err_each : {A E : Type 0} {Says : E → Type 0} (result : Result A E)
+    → ((fault : E) → Says fault) → IfErr result Says
+err_each (Ok answer) each = tt
+err_each (Err fault) each = each fault
 
 -- and so may what is said of an error that is taken for another
 pub mapped_err : {A E F : Type 0} {One : E → Type 0} (Other : F → Type 0) (to : E → F)
@@ -159,6 +167,14 @@ module _ {D : Type 0} (g : Ghosts D) (Held : Type 0) (Opened : RepositoryFault �
   unresumed_cause opening.Store (Some files) cause = λ clean. tt
   unresumed_cause opening.Busy (Some files) cause = cause
   unresumed_cause opening.Path (Some files) cause = cause
+
+  -- so have those that were to be looked through;
+  pub look_cause : (fault : LookFault) (files : Option (Files D))
+      → MatchOption files (IsUnopenedLook fault) (IsRefusedWithout g Held (look_opening fault))
+      → IfErr (look_answer fault)
+      (λ other. HasNoAnswerFor g (HasFaultCause (¬ Held) ⊥) Opened other (Refused files))
+  look_cause Pages files cause = tt
+  look_cause (Open fault) files cause = refused_cause fault files cause
 
   -- and so have those that were to be brought to this form
   pub first_cause : (why : FirstFault) (files : Option (Files D))

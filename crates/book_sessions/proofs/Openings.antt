@@ -7,14 +7,19 @@ use Rattle.sqlite_store.specs.FileStore.{state, view, IsReady}
 use Rattle.sqlite_store.specs.declared.store.FileStore.{FileStore}
 use Rattle.sqlite_trees.proofs.Doubt.{clean_of}
 use Rattle.sqlite_trees.specs.View.{IsClean}
+use Rattle.sqlite_wal.specs.Reads.{AreClean}
 use Rattle.sqlite_wal.specs.Recovery.{Image}
 use Rattle.book_trees.specs.Forms.{HoldNoNewer, HoldsThisForm}
 use Rattle.book_trees.specs.LedgerFiles.{AreEmptyTables, HoldsBooks, HoldsNothing, trees_held}
+use Rattle.book_trees.specs.Looks.{IsUnopenedLook, look_opening}
 use Rattle.book_trees.specs.Refusals.{IsAsFound, IsBegun, IsRefusedWithout, IsUnopened, MayLeave}
 use Rattle.book_trees.specs.Schema.{books_schema}
+use Rattle.book_trees.specs.StoreView.{ListsBooks}
 use Rattle.book_trees.specs.declared.closing.Closed.{Closed}
 use Rattle.book_trees.specs.declared.faults.OpenFault.{OpenFault}
-use Rattle.book_sessions.specs.Openings.{AreLeftAsFound, IsCreation, IsOpening}
+use Rattle.book_trees.specs.declared.integrity.LookFault.{LookFault}
+use Rattle.book_trees.specs.declared.integrity.LookFault.TheVariants.{Pages}
+use Rattle.book_sessions.specs.Openings.{AreLeftAsFound, IsCreation, IsLooking, IsOpening}
 use Rattle.book_sessions.specs.Sessions.{AreHonest, IsCarriedBy, OpenOnly, files_in_hand}
 use Rattle.book_sessions.specs.declared.ended.Ended.{Ended}
 use Rattle.book_sessions.specs.declared.ended.Ended.TheVariants.{Refused}
@@ -107,3 +112,22 @@ pub creation_at : {D : Type 0} (g : Ghosts D) (found : Image)
 creation_at g found (Ok store) ready empty started there begun kept =
     record { ready = ready; empty = empty; started = started }
 creation_at g found (Err refusal) ready empty started there begun kept = (there, begun, kept)
+
+-- the look through all pages of books
+pub looking_at : {D : Type 0} (g : Ghosts D) → ((file : D) → g.may_leave file (g.seen file))
+    → (found : Image) (opened : Result (FileStore D g) (LookFault × Option (Files D)))
+    → IfOk opened IsReady
+    → IfOk opened (λ store. IsTrue (state store).is_clean → (held : HoldsBooks found)
+    → (view store).trees ≡ trees_held held)
+    → IfOk opened (λ store. IsTrue (state store).is_clean → ∥ HoldsBooks found ∥₁)
+    → IfErr opened (λ refusal. MatchOption refusal.1 (IsUnopenedLook refusal.0)
+    (IsRefusedWithout g (HoldsThisForm found) (look_opening refusal.0)))
+    → IfErr opened (λ refusal. refusal.0 ≡ Pages → IfSome refusal.1 (λ files.
+    AreClean g files.log files.db → ListsBooks found))
+    → IfErr opened (λ refusal. IfSome refusal.1 (λ files. (left : Image) → MayLeave g files left
+    → IsAsFound found left))
+    → IsLooking g found opened
+looking_at g stays found (Ok store) ready shows held there lists kept =
+    record { ready = ready; shows = shows; held = held }
+looking_at g stays found (Err refusal) ready shows held there lists kept =
+    (there, left_as_found g stays found refusal.1 kept, lists)

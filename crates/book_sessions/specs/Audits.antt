@@ -1,11 +1,19 @@
 -- What an audit says of files.
-use Rattle.std.specs.Prelude.{◌≡◌}
+use Rattle.std.specs.Prelude.{◌≡◌, IfErr, IfOk, IsOk, Result}
+use Rattle.sqlite_disk.specs.declared.Disk.{Ghosts}
 use Rattle.sqlite_wal.specs.Recovery.{Image}
 use Rattle.book_audit.specs.OfBook.{AreOfBook}
+use Rattle.book_audit.specs.declared.audited.Audited.{Audited}
+use Rattle.book_audit.specs.declared.audited.Audited.TheVariants.{Sound}
 use Rattle.book_audit.specs.declared.audited.Counts.{Counts}
+use Rattle.book_core.specs.Transition.{NoEvent}
 use Rattle.book_trees.specs.LedgerFiles.{HoldsBooks, trees_held}
+use Rattle.book_trees.specs.StoreView.{ListsBooks}
 use Rattle.book_restarts.specs.FileBooks.{file_names}
-use Rattle.book_sessions.specs.Causes.{HoldsOurBooks}
+use Rattle.book_sessions.specs.Causes.{HoldsOurBooks, WhyNotAudited}
+use Rattle.book_sessions.specs.Sessions.{AreAsFound, AreInHand, FilesGoOn, KeepRows, MayFollow}
+use Rattle.book_sessions.specs.declared.ended.Ended.{Ended}
+use Rattle.named_books.specs.declared.repository.RepositoryFault.{RepositoryFault}
 
 -- The files hold a book that can be read back, and these are its counts.
 abbrev pub HoldCounted : Counts → Image → Type 0
@@ -24,3 +32,21 @@ abbrev pub HoldSameTrees : Image → Image → Type 0
 HoldSameTrees found image =
     (held : HoldsBooks found)
     → ∥ ((left : HoldsBooks image) × (trees_held left ≡ trees_held held)) ∥₁
+
+-- Files that were found so were looked through and audited, or they were not: the trees of books stay as
+-- they were, and so does the history that the files held. Files that are called sound hold a book,
+-- whoever wrote them, and the counts are its own; any other answer too is given of no files but those
+-- that list the tables of books, and only with the files in hand. That there are no books is told only of
+-- files that hold none of this form.
+pub record AreAudited {D : Type 0} (g : Ghosts D) (found : Image)
+    (result : Result Audited RepositoryFault) (ended : Ended D) : Type 0 where
+  pub history : FilesGoOn g NoEvent found ended
+  pub unopened : AreAsFound g found ended
+  pub same : (image : Image) → MayFollow g ended image → HoldSameTrees found image
+  pub rows : KeepRows g found ended
+  pub book : IfOk result (λ audited. (counts : Counts) → audited ≡ Sound counts → (image : Image)
+      → MayFollow g ended image → HoldCounted counts found)
+  pub listed : IfOk result (λ audited. (image : Image) → MayFollow g ended image
+      → ∥ ListsBooks found ∥₁)
+  pub in_hand : IsOk result → AreInHand ended
+  pub refused : IfErr result (WhyNotAudited g found ended)

@@ -4,12 +4,17 @@ use Rattle.sqlite_disk.specs.declared.Disk.{Ghosts}
 use Rattle.sqlite_disk.specs.declared.files.Files.{Files}
 use Rattle.sqlite_store.specs.FileStore.{IsReady, state, view}
 use Rattle.sqlite_store.specs.declared.store.FileStore.{FileStore}
+use Rattle.sqlite_wal.specs.Reads.{AreClean}
 use Rattle.sqlite_wal.specs.Recovery.{Image}
 use Rattle.book_trees.specs.Forms.{HoldNoNewer, HoldsThisForm}
 use Rattle.book_trees.specs.LedgerFiles.{AreEmptyTables, HoldsBooks, HoldsNothing, trees_held}
+use Rattle.book_trees.specs.Looks.{IsUnopenedLook, look_opening}
 use Rattle.book_trees.specs.Refusals.{IsAsFound, IsBegun, IsRefusedWithout, IsUnopened, MayLeave}
 use Rattle.book_trees.specs.Schema.{books_schema}
+use Rattle.book_trees.specs.StoreView.{ListsBooks}
 use Rattle.book_trees.specs.declared.faults.OpenFault.{OpenFault}
+use Rattle.book_trees.specs.declared.integrity.LookFault.{LookFault}
+use Rattle.book_trees.specs.declared.integrity.LookFault.TheVariants.{Pages}
 
 -- A store was opened from files that held this: it shows the tables of books that they held, and they
 -- do not say that they are of a newer form.
@@ -54,3 +59,24 @@ IsCreation g found (Err refusal) =
     → IfSome refusal.1 (λ files. (left : Image) → MayLeave g files left → IsBegun left))
     × ((¬ HoldsNothing found)
     → IfSome refusal.1 (λ files. (left : Image) → MayLeave g files left → IsAsFound found left))
+
+-- All pages of files that held this were looked through, and a store was opened from them: they held
+-- books, whose tables it shows.
+pub record IsLookedFrom {D : Type 0} {g : Ghosts D} (found : Image) (store : FileStore D g) : Type 0
+  where
+    pub ready : IsReady store
+    pub shows : IsTrue (state store).is_clean → (held : HoldsBooks found)
+        → (view store).trees ≡ trees_held held
+    pub held : IsTrue (state store).is_clean → ∥ HoldsBooks found ∥₁
+
+-- Files that held this were looked through; or they were not, and are left as they were found: they hold
+-- no books of this form where that is told, and list their tables where their pages are called wrong.
+abbrev pub IsLooking : {D : Type 0} (g : Ghosts D) → Image
+    → Result (FileStore D g) (LookFault × Option (Files D)) → Type 0
+IsLooking g found (Ok store) = IsLookedFrom found store
+IsLooking g found (Err refusal) =
+    MatchOption refusal.1 (IsUnopenedLook refusal.0)
+    (IsRefusedWithout g (HoldsThisForm found) (look_opening refusal.0))
+    × IfSome refusal.1 (AreLeftAsFound g found)
+    × (refusal.0 ≡ Pages
+    → IfSome refusal.1 (λ files. AreClean g files.log files.db → ListsBooks found))

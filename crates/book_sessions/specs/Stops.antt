@@ -9,7 +9,7 @@ use Rattle.book_core.specs.Transition.{Transition}
 use Rattle.book_trees.specs.Closing.{MayBeFound}
 use Rattle.book_trees.specs.declared.closing.Closed.{Closed}
 use Rattle.book_trees.specs.declared.closing.LogLeft.TheVariants.{Unmoved}
-use Rattle.book_trees.specs.LedgerFiles.{HoldsBooks, HoldsFile, rows_held, trees_held}
+use Rattle.book_trees.specs.LedgerFiles.{HoldsFile, rows_held}
 use Rattle.tree_tables.specs.States.{State, HasCleanDisk}
 use Rattle.table_ledger.specs.Commits.{IsAtRest}
 use Rattle.table_ledger.specs.Ready.{IsStoredIn}
@@ -35,10 +35,6 @@ CloseLeavesRows g closed So =
 abbrev pub CloseTriesToMoveLog : {D : Type 0} → Closed D → Type 0
 CloseTriesToMoveLog closed = closed.log ≢ Unmoved
 
--- they were not to be moved
-abbrev pub CloseKeepsLog : {D : Type 0} → Closed D → Type 0
-CloseKeepsLog closed = closed.log ≡ Unmoved
-
 -- a stop leaves what such work made of the book at which a store stood
 abbrev pub StopGoesOn : Transition → View → State → Type 0
 StopGoesOn Made found left =
@@ -54,17 +50,6 @@ StopKeepsBook found left =
 abbrev pub StopKeepsTrees : View → State → Type 0
 StopKeepsTrees found left =
     (IsClean found → IsAtRest found) → StopLeaves left (λ trees. trees ≡ found.trees)
-
--- a close leaves them in the files
-abbrev pub CloseKeepsTrees : {D : Type 0} (g : Ghosts D) → View → Closed D → Type 0
-CloseKeepsTrees g found closed =
-    (IsClean found → IsAtRest found)
-    → CloseLeaves g closed (λ image. ∥ ((held : HoldsBooks image) × (trees_held held ≡ found.trees)) ∥₁)
-
--- and so do their rows
-abbrev pub CloseKeepsRows : {D : Type 0} (g : Ghosts D) → View → Closed D → Type 0
-CloseKeepsRows g found closed =
-    (IsClean found → IsAtRest found) → CloseLeavesRows g closed (λ trees. trees ≡ found.trees)
 
 -- Of a store that had no row a stop leaves new books; or, where they were not made, its tables as they
 -- were.

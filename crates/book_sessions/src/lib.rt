@@ -2,12 +2,14 @@
 //! files: what was opened is all that a session can touch, and it gives that back.
 #![tactic(auto)]
 
+mod audits;
 mod continued;
 mod ended;
 mod faults;
 mod new_books;
 mod visits;
 
+pub use audits::{audit, not_looked_through};
 pub use continued::resume;
 pub use ended::Ended;
 pub use faults::{fault_of, refused};

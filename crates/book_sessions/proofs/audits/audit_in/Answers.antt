@@ -7,7 +7,7 @@ use Rattle.book_restarts.proofs.OpenStores.{clean_before}
 use Rattle.book_restarts.specs.FileBooks.{file_names}
 use Rattle.named_books.specs.declared.repository.RepositoryFault.TheVariants.{Ledger}
 use Rattle.book_sessions.proofs.Causes.{mapped_ok}
-use Rattle.book_files.proofs.books.audit_in.Goals as goal
+use Rattle.book_sessions.proofs.audits.audit_in.Goals as goal
 
 pub returns : goal.returns
 returns g c =
