@@ -2,7 +2,6 @@
 #![tactic(auto)]
 
 mod backup;
-mod books;
 mod copies;
 mod dry_runs;
 mod laws;

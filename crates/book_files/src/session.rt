@@ -12,30 +12,24 @@ ghost use Rattle.book_sessions.specs.Audits.{HoldCounted, HoldSameTrees};
 ghost use Rattle.book_sessions.specs.Causes.{HaveBookRow, MightBeVisited, WhyNotAudited};
 ghost use Rattle.book_sessions.specs.Causes.{WhyNotContinued, WhyNotMade};
 ghost use Rattle.book_sessions.specs.Causes.{IsToldOfThis, WhyNotUpgraded, WhyNotVisited};
-ghost use Rattle.book_sessions.specs.Faults.{first_answer};
 ghost use Rattle.book_sessions.specs.NewBooks.{MayBeMade, NewBooksMade};
 ghost use Rattle.book_sessions.specs.Sessions.{AreAsFound, AreInHand, AreOpened, FileAloneGoesOn};
 ghost use Rattle.book_sessions.specs.Sessions.{FilesGoOn, KeepRows, KeepsLog, MayFollow, OpenOnly};
 ghost use Rattle.book_sessions.specs.Sessions.{RowsGoOn, TriesToMoveLog};
 ghost use Rattle.book_sessions.specs.Upgrades.{FilesBroughtOver, HoldsWhatIsTold, RowsBroughtOver};
-ghost use Rattle.book_sessions.specs.Upgrades.{TellsThisForm, upgrade_answer};
+ghost use Rattle.book_sessions.specs.Upgrades.{TellsThisForm};
 ghost use Rattle.book_restarts.specs.FileBooks.{HoldsHistory, done_by, file_names};
 ghost use Rattle.book_trees.specs.FirstForm.{HoldsFirstForm};
 ghost use Rattle.book_trees.specs.LedgerFiles.{HoldsBooks, HoldsEmptyBooks, HoldsFirstBooks};
 ghost use Rattle.book_trees.specs.LedgerFiles.{HoldsNothing};
 ghost use Rattle.book_trees.specs.StoreView.{ListsBooks};
 
-use crate::books::upgrade_and_close;
 use book_audit::{Audited, Watch};
-use book_core::LedgerFault;
-use book_sessions::{Ended, refused};
-use book_trees::{
-    CACHE_PAGES, FirstFault, LeftByLedger, create_at, look_through_at, open_at, open_first_at,
-};
+use book_sessions::Ended;
+use book_trees::{CACHE_PAGES, LeftByLedger, create_at, look_through_at, open_at, open_first_at};
 use named_books::{RepositoryFault, Upgraded, Visit};
 use sqlite_disk::{Disk, Start};
 use sqlite_std_file::FileFrom;
-use tree_tables::THIS_FORM;
 
 /// How many pages are kept in memory for a visit that looks at few: 1 MB.
 const BRIEF_PAGES: usize = 256;
@@ -196,27 +190,6 @@ pub fn audit_at<S: Start, W: Watch>(
     book_sessions::audit(rt.alloc(), opened, watch)
 }
 
-/// What is answered where books were brought over, or were not.
-fn told_upgraded(upgraded: Result<(), RepositoryFault>) -> Result<Upgraded, RepositoryFault>
-    ensures { result ≡ upgrade_answer upgraded }
-{
-    match upgraded {
-        Ok(()) => Ok(Upgraded::To(THIS_FORM)),
-        Err(fault) => Err(fault),
-    }
-}
-
-/// What it means that books of the first form were not opened.
-fn not_upgraded(fault: FirstFault) -> Result<Upgraded, RepositoryFault>
-    ensures { result ≡ first_answer fault }
-{
-    match fault {
-        FirstFault::Already => Ok(Upgraded::Already),
-        FirstFault::Pages => Err(RepositoryFault::Ledger(LedgerFault::Store)),
-        FirstFault::Open(fault) => Err(refused(fault)),
-    }
-}
-
 /// Brings the books in the file at the path from the first form to this one, in one commit, and
 /// closes it. Whatever may be found of the files next, and wherever a stop comes within this, holds
 /// the books of the history that they held: those of the old form, or those of the new one.
@@ -251,11 +224,6 @@ pub fn upgrade_at<S: Start>(
     ensures refused { IfErr result.0
         (WhyNotUpgraded ⟦<FileFrom<S> as Disk>⟧ (image_at S.Start) result.1) }
 {
-    match open_first_at(rt, path, seed, start) {
-        Ok(store) => {
-            let (upgraded, closed) = upgrade_and_close(rt.alloc(), store);
-            (told_upgraded(upgraded), Ended::Closed(closed))
-        }
-        Err((fault, files)) => (not_upgraded(fault), Ended::Refused(files)),
-    }
+    let opened = open_first_at(rt, path, seed, start);
+    book_sessions::upgrade(rt.alloc(), opened)
 }

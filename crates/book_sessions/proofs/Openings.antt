@@ -9,17 +9,22 @@ use Rattle.sqlite_trees.proofs.Doubt.{clean_of}
 use Rattle.sqlite_trees.specs.View.{IsClean}
 use Rattle.sqlite_wal.specs.Reads.{AreClean}
 use Rattle.sqlite_wal.specs.Recovery.{Image}
+use Rattle.book_trees.specs.FirstForm.{HoldsFirstForm, IsToldThis, IsUnopenedFirst, first_opening}
 use Rattle.book_trees.specs.Forms.{HoldNoNewer, HoldsThisForm}
-use Rattle.book_trees.specs.LedgerFiles.{AreEmptyTables, HoldsBooks, HoldsNothing, trees_held}
+use Rattle.book_trees.specs.LedgerFiles.{AreEmptyTables, HoldsBooks, HoldsFirstBooks, HoldsNothing}
+use Rattle.book_trees.specs.LedgerFiles.{trees_held}
 use Rattle.book_trees.specs.Looks.{IsUnopenedLook, look_opening}
 use Rattle.book_trees.specs.Refusals.{IsAsFound, IsBegun, IsRefusedWithout, IsUnopened, MayLeave}
-use Rattle.book_trees.specs.Schema.{books_schema}
+use Rattle.book_trees.specs.Schema.{books_schema, first_schema}
 use Rattle.book_trees.specs.StoreView.{ListsBooks}
 use Rattle.book_trees.specs.declared.closing.Closed.{Closed}
 use Rattle.book_trees.specs.declared.faults.OpenFault.{OpenFault}
+use Rattle.book_trees.specs.declared.first_form.FirstFault.{FirstFault}
+use Rattle.book_trees.specs.declared.first_form.FirstFault.TheVariants.{Already}
 use Rattle.book_trees.specs.declared.integrity.LookFault.{LookFault}
 use Rattle.book_trees.specs.declared.integrity.LookFault.TheVariants.{Pages}
-use Rattle.book_sessions.specs.Openings.{AreLeftAsFound, IsCreation, IsLooking, IsOpening}
+use Rattle.book_sessions.specs.Openings.{AreLeftAsFound, IsCreation, IsFirstOpening, IsLooking}
+use Rattle.book_sessions.specs.Openings.{IsOpening}
 use Rattle.book_sessions.specs.Sessions.{AreHonest, IsCarriedBy, OpenOnly, files_in_hand}
 use Rattle.book_sessions.specs.declared.ended.Ended.{Ended}
 use Rattle.book_sessions.specs.declared.ended.Ended.TheVariants.{Refused}
@@ -113,7 +118,7 @@ creation_at g found (Ok store) ready empty started there begun kept =
     record { ready = ready; empty = empty; started = started }
 creation_at g found (Err refusal) ready empty started there begun kept = (there, begun, kept)
 
--- the look through all pages of books
+-- the look through all of their pages
 pub looking_at : {D : Type 0} (g : Ghosts D) → ((file : D) → g.may_leave file (g.seen file))
     → (found : Image) (opened : Result (FileStore D g) (LookFault × Option (Files D)))
     → IfOk opened IsReady
@@ -131,3 +136,26 @@ looking_at g stays found (Ok store) ready shows held there lists kept =
     record { ready = ready; shows = shows; held = held }
 looking_at g stays found (Err refusal) ready shows held there lists kept =
     (there, left_as_found g stays found refusal.1 kept, lists)
+
+-- and the opening of books of the first form
+pub first_opening_at : {D : Type 0} (g : Ghosts D) → ((file : D) → g.may_leave file (g.seen file))
+    → (found : Image) (opened : Result (FileStore D g) (FirstFault × Option (Files D)))
+    → IfOk opened IsReady
+    → IfOk opened (λ store. IsTrue (state store).is_clean → (held : HoldsFirstBooks found)
+    → (view store).trees ≡ trees_held held)
+    → IfOk opened (λ store. IsTrue (state store).is_clean → ¬ HoldsBooks found)
+    → IfOk opened (λ store. IsTrue (state store).is_clean → ∥ HoldsFirstBooks found ∥₁)
+    → IfOk opened (λ store. IsTrue (state store).is_clean → HoldNoNewer first_schema found)
+    → IfErr opened (λ refusal. MatchOption refusal.1 (IsUnopenedFirst refusal.0)
+    (IsRefusedWithout g (HoldsFirstForm found) (first_opening refusal.0)))
+    → IfErr opened (λ refusal. (¬ IsToldThis refusal.0) → IfSome refusal.1
+    (IsRefusedWithout g (HoldsBooks found) (first_opening refusal.0)))
+    → IfErr opened (λ refusal. refusal.0 ≡ Already → IfSome refusal.1 (λ files.
+    AreClean g files.log files.db → ListsBooks found))
+    → IfErr opened (λ refusal. IfSome refusal.1 (λ files. (left : Image) → MayLeave g files left
+    → IsAsFound found left))
+    → IsFirstOpening g found opened
+first_opening_at g stays found (Ok store) ready shows older held form there this lists kept =
+    record { ready = ready; shows = shows; older = older; held = held; form = form }
+first_opening_at g stays found (Err refusal) ready shows older held form there this lists kept =
+    (there, left_as_found g stays found refusal.1 kept, this, lists)

@@ -31,7 +31,7 @@ use Rattle.table_ledger.specs.FirstForm.{with_details}
 use Rattle.table_ledger.specs.Ready.{IsStoredIn}
 use Rattle.book_trees.proofs.FirstTrees.{more_listed}
 use Rattle.book_trees.specs.FirstForm.{AddsDetails, HasFirstTrees, HoldsFirstForm, IsUnopenedFirst}
-use Rattle.book_trees.specs.FirstForm.{ListMore, first_opening}
+use Rattle.book_trees.specs.FirstForm.{IsToldThis, ListMore, first_opening}
 use Rattle.book_trees.specs.Forms.{HoldNoNewer, IsSaid}
 use Rattle.book_trees.specs.LedgerFiles.{HoldsBooks, HoldsFile, HoldsFirstBooks, rows_held}
 use Rattle.book_trees.specs.LedgerFiles.{trees_held}
@@ -42,16 +42,22 @@ use Rattle.book_trees.specs.declared.closing.Closed.{Closed}
 use Rattle.book_trees.specs.declared.first_form.FirstFault.{FirstFault}
 use Rattle.book_trees.specs.declared.first_form.FirstFault.TheVariants as fault
 use Rattle.book_sessions.specs.Faults.{first_answer}
+use Rattle.book_restarts.specs.FileBooks.{file_names}
+use Rattle.named_books.specs.declared.repository.Upgraded.{Upgraded}
+use Rattle.book_sessions.specs.Causes.{HasFaultCause, HaveNoFirstRow}
 use Rattle.book_sessions.specs.Openings.{AreLeftAsFound}
 use Rattle.book_sessions.specs.Sessions.{MayFollow}
 use Rattle.book_sessions.specs.Upgrades.{BringsOver, HoldsFirstBook, HoldsFirstHistory, HoldsUpgraded}
-use Rattle.book_sessions.specs.Upgrades.{HoldsWhatIsTold}
+use Rattle.book_sessions.specs.Upgrades.{AreUpgraded, HoldsWhatIsTold}
 use Rattle.book_sessions.specs.Upgrades.{IsBroughtOver, LeavesUpgraded, MayBringOver}
 use Rattle.book_sessions.specs.Upgrades.{RestsBroughtOver, TellsThisForm, upgrade_answer}
 use Rattle.book_sessions.specs.declared.ended.Ended.TheVariants.{Refused}
 use Rattle.book_sessions.specs.declared.ended.Ended.TheVariants as ended
 use Rattle.book_sessions.proofs.NewParts.{said_tables}
-use Rattle.book_sessions.proofs.SessionParts.{found_clean, opened_rests, refused_tables}
+use Rattle.book_sessions.proofs.Causes.{first_cause, refused_this}
+use Rattle.book_sessions.proofs.Openings.{some_so}
+use Rattle.book_sessions.proofs.SessionParts.{found_clean, opened_rests, refused_goes_on}
+use Rattle.book_sessions.proofs.SessionParts.{refused_tables}
 
 -- ---- what is written
 
@@ -310,3 +316,29 @@ module _ {D : Type 0} (g : Ghosts D) (found : Image) where
       λ image may. ∣ lists refl (found_clean g files image may) ∣₁
   refused_tells fault.Pages files lists = tt
   refused_tells (fault.Open why) files lists = tt
+
+-- All that is said of files that were not opened is so.
+pub unupgraded : {D : Type 0} (g : Ghosts D) (found : Image) (why : FirstFault)
+    (files : Option (Files D)) (result : Result Upgraded RepositoryFault) → result ≡ first_answer why
+    → MatchOption files (IsUnopenedFirst why)
+    (IsRefusedWithout g (HoldsFirstForm found) (first_opening why))
+    → IfSome files (AreLeftAsFound g found)
+    → ((IsToldThis why → ⊥)
+    → IfSome files (IsRefusedWithout g (HoldsBooks found) (first_opening why)))
+    → (why ≡ fault.Already
+    → IfSome files (λ files. AreClean g files.log files.db → ListsBooks found))
+    → AreUpgraded g found result (Refused files)
+unupgraded g found why files result is there same this lists =
+    subst (λ (told : Result Upgraded RepositoryFault). AreUpgraded g found told (Refused files)) (sym is)
+    (record {
+      history = λ form image may history held.
+          refused_brings g file_names found history image why files there same form may held;
+      rows = tt;
+      unopened = some_so files same (λ files same. same.kept);
+      kept = refused_goes_on g file_names found files same;
+      this = λ held. refused_this g found held why files there this;
+      listed = refused_tells g found why files lists;
+      in_hand = first_in_hand g (HoldsFirstForm found) why files there;
+      refused = first_cause g (HoldsFirstForm found) (HasFaultCause (HaveNoFirstRow found) ⊥) why files
+          there;
+    })

@@ -1,5 +1,5 @@
 -- Books of the first form that were to be brought to this one.
-use Rattle.std.specs.Prelude.{◌≡◌, ◌⊎◌, List, Result, Ok, Err, ⊤}
+use Rattle.std.specs.Prelude.{◌≡◌, ◌⊎◌, IfErr, IfOk, IsOk, List, Result, Ok, Err, ⊤}
 use Rattle.sqlite_disk.specs.declared.Disk.{Ghosts}
 use Rattle.sqlite_store.specs.Listing.{listed_from}
 use Rattle.sqlite_trees.specs.Objects.{catalog_tree}
@@ -7,15 +7,18 @@ use Rattle.sqlite_trees.specs.Tree.{Trees}
 use Rattle.sqlite_trees.specs.View.{View}
 use Rattle.sqlite_wal.specs.Recovery.{Image}
 use Rattle.book_model.specs.Words.{Book, Event, Naming, book_after, IsMadeByCalls}
+use Rattle.book_core.specs.Transition.{NoEvent}
 use Rattle.tree_tables.specs.Forms.{this_form}
 use Rattle.book_trees.specs.Closing.{MayBeFound}
-use Rattle.book_trees.specs.FirstForm.{ListMore}
+use Rattle.book_trees.specs.FirstForm.{HoldsFirstForm, ListMore}
 use Rattle.book_trees.specs.Forms.{HoldNoNewer}
-use Rattle.book_trees.specs.LedgerFiles.{HoldsFile, HoldsFirstBooks, rows_held, trees_held}
+use Rattle.book_trees.specs.LedgerFiles.{HoldsBooks, HoldsFile, HoldsFirstBooks, rows_held}
+use Rattle.book_trees.specs.LedgerFiles.{trees_held}
 use Rattle.book_trees.specs.Schema.{first_schema}
 use Rattle.book_trees.specs.StoreView.{ListsBooks}
 use Rattle.book_restarts.specs.FileBooks.{HoldsBook, HoldsHistory, RestsAt, file_names}
-use Rattle.book_sessions.specs.Sessions.{MayFollow}
+use Rattle.book_sessions.specs.Causes.{IsToldOfThis, WhyNotUpgraded}
+use Rattle.book_sessions.specs.Sessions.{AreAsFound, AreInHand, FilesGoOn, MayFollow}
 use Rattle.book_sessions.specs.declared.ended.Ended.{Ended}
 use Rattle.book_sessions.specs.declared.ended.Ended.TheVariants.{Closed, Refused}
 use Rattle.table_ledger.specs.FirstForm.{IsStoredInFirst, RestsAtFirst}
@@ -109,3 +112,20 @@ RowsBroughtOver g found told (Closed closed) =
     → (book : Book) → HoldsFirstBook file_names book found
     → ∥ ((file : HoldsFile image) × LeavesUpgraded file_names book told (rows_held file)) ∥₁
 RowsBroughtOver g found told (Refused files) = ⊤
+
+-- Books in files that were found so were brought from the first form to this one, or they were not:
+-- whatever may be found of them next holds the books of the history that they held, in one of the two
+-- forms, and so do their rows. Books of this form are left as they are, whatever is answered, and are
+-- told to be of it, or of a newer one. What is told stands in the files, which are in hand then; and that
+-- there are no books is told only of files that hold none of the first form, or not their row.
+pub record AreUpgraded {D : Type 0} (g : Ghosts D) (found : Image)
+    (result : Result Upgraded RepositoryFault) (ended : Ended D) : Type 0 where
+  pub history : HoldsFirstForm found → FilesBroughtOver g found result ended
+  pub rows : RowsBroughtOver g found result ended
+  pub unopened : AreAsFound g found ended
+  pub kept : FilesGoOn g NoEvent found ended
+  pub this : HoldsBooks found → IsToldOfThis g result ended
+  pub listed : IfOk result (λ upgraded. (image : Image) → MayFollow g ended image
+      → HoldsWhatIsTold found upgraded)
+  pub in_hand : IsOk result → AreInHand ended
+  pub refused : IfErr result (WhyNotUpgraded g found ended)

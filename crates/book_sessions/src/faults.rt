@@ -9,7 +9,7 @@ use named_books::RepositoryFault;
 use sqlite_trees::error::StoreError;
 
 /// What a fault of the store means.
-pub fn fault_of(error: StoreError) -> RepositoryFault
+pub(crate) fn fault_of(error: StoreError) -> RepositoryFault
     ensures { result ≡ store_fault error }
 {
     RepositoryFault::Ledger(match error {

@@ -7,11 +7,13 @@ mod continued;
 mod ended;
 mod faults;
 mod new_books;
+mod upgrades;
 mod visits;
 
 pub use audits::{audit, not_looked_through};
 pub use continued::resume;
 pub use ended::Ended;
-pub use faults::{fault_of, refused};
+pub use faults::refused;
 pub use new_books::make;
+pub use upgrades::upgrade;
 pub use visits::visit;

@@ -4,7 +4,7 @@ use Rattle.book_sessions.specs.Upgrades.{LeavesUpgraded}
 use Rattle.book_sessions.proofs.SessionParts.{close_rows, found_clean, to_be_moved}
 use Rattle.book_sessions.proofs.Causes.{err_so}
 use Rattle.book_sessions.proofs.UpgradeParts.{brought_holds, unbrought_holds}
-use Rattle.book_files.proofs.books.upgrade_and_close.Goals as goal
+use Rattle.book_sessions.proofs.upgrades.upgrade_and_close.Goals as goal
 
 pub returns-in-Ok-clause-left : goal.returns-in-Ok-clause-left
 returns-in-Ok-clause-left g c = λ book stands kept image may.

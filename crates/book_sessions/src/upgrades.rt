@@ -1,32 +1,39 @@
-//! The books in a store, and the store of a file, which is closed afterwards. What is done to open
-//! books is written for any store, so that it is proved once.
+//! Books of the first form are brought to this one.
 
-ghost use Rattle.std.specs.Prelude.{◌≡◌, false, IfErr, OnOk};
+ghost use Rattle.std.specs.Prelude.{◌≡◌, false, IfErr, IfOk, OnOk};
 ghost use Rattle.sqlite_store.specs.FileStore.{view};
 ghost use Rattle.sqlite_trees.specs.View.{IsClean};
 ghost use Rattle.sqlite_wal.specs.Reads.{AreClean};
+ghost use Rattle.sqlite_wal.specs.Recovery.{Image};
 ghost use Rattle.book_model.specs.Words.{Book};
+ghost use Rattle.book_restarts.specs.FileBooks.{file_names};
 ghost use Rattle.book_sessions.specs.Causes.{HasFaultCause};
+ghost use Rattle.book_sessions.specs.Faults.{first_answer};
+ghost use Rattle.book_sessions.specs.Openings.{IsFirstOpening};
+ghost use Rattle.book_sessions.specs.Sessions.{AreHonest, IsCarriedBy, TriesToMoveLog};
+ghost use Rattle.book_sessions.specs.Sessions.{files_in_hand};
 ghost use Rattle.book_sessions.specs.Stops.{CloseLeaves, CloseLeavesRows, CloseTriesToMoveLog};
 ghost use Rattle.book_sessions.specs.Stops.{StopLeaves};
-ghost use Rattle.book_sessions.specs.Upgrades.{HoldsUpgraded, LeavesUpgraded, MayBringOver};
-ghost use Rattle.book_sessions.specs.Upgrades.{RestsBroughtOver};
+ghost use Rattle.book_sessions.specs.Upgrades.{AreUpgraded, HoldsUpgraded, LeavesUpgraded};
+ghost use Rattle.book_sessions.specs.Upgrades.{MayBringOver, RestsBroughtOver, TellsThisForm};
+ghost use Rattle.book_sessions.specs.Upgrades.{upgrade_answer};
 ghost use Rattle.book_trees.specs.FirstForm.{HasFirstTrees};
-ghost use Rattle.book_restarts.specs.FileBooks.{file_names};
 ghost use Rattle.table_ledger.specs.FirstForm.{StandsAtFirst};
 ghost use Rattle.tree_tables.specs.Holds.{has_book};
 ghost use Rattle.tree_tables.specs.States.{Survives, state};
 
+use crate::ended::Ended;
+use crate::faults::{fault_of, refused};
 use book_core::LedgerFault;
-use book_sessions::fault_of;
-use book_trees::{Closed, add_details, close_books, close_first, commit_form};
-use named_books::RepositoryFault;
-use sqlite_disk::Disk;
+use book_trees::{Closed, FirstFault, add_details, close_books, close_first, commit_form};
+use named_books::{RepositoryFault, Upgraded};
+use sqlite_disk::{Disk, Files};
 use sqlite_store::FileStore;
 use sqlite_trees::error::StoreError;
 use sqlite_trees::store::{Alter, Store};
 use std::alloc::Global;
 use table_ledger::{fill_details, has_book_row};
+use tree_tables::THIS_FORM;
 
 /// Adds the details to books of the first form, and commits them with what their file says of its
 /// form: all of it at once, or nothing.
@@ -69,7 +76,7 @@ fn upgrade_in<S: Alter>(alloc: Global, store: S) -> (Result<(), RepositoryFault>
 
 /// Brings the books in a file of the first form to this one, and closes it: whatever may be found
 /// of it then, and wherever a stop comes within this, holds the same book, in one of the two.
-pub(crate) fn upgrade_and_close<D: Disk>(
+fn upgrade_and_close<D: Disk>(
     alloc: Global,
     store: FileStore<D>,
 ) -> (Result<(), RepositoryFault>, Closed<D>)
@@ -88,5 +95,51 @@ pub(crate) fn upgrade_and_close<D: Disk>(
     match upgraded {
         Ok(()) => (upgraded, close_books(store)),
         Err(_) => (upgraded, close_first(store)),
+    }
+}
+
+/// What is answered where books were brought over, or were not.
+fn told_upgraded(upgraded: Result<(), RepositoryFault>) -> Result<Upgraded, RepositoryFault>
+    ensures { result ≡ upgrade_answer upgraded }
+{
+    match upgraded {
+        Ok(()) => Ok(Upgraded::To(THIS_FORM)),
+        Err(fault) => Err(fault),
+    }
+}
+
+/// What it means that books of the first form were not opened.
+fn not_upgraded(fault: FirstFault) -> Result<Upgraded, RepositoryFault>
+    ensures { result ≡ first_answer fault }
+{
+    match fault {
+        FirstFault::Already => Ok(Upgraded::Already),
+        FirstFault::Pages => Err(RepositoryFault::Ledger(LedgerFault::Store)),
+        FirstFault::Open(fault) => Err(refused(fault)),
+    }
+}
+
+/// Brings the books in files of the first form to this one, where they were opened, in one commit, and
+/// closes them. Whatever may be found of the files next, and wherever a stop comes within this, holds
+/// the books of the history that they held: those of the old form, or those of the new one.
+pub fn upgrade<D: Disk>(
+    alloc: Global,
+    opened: Result<FileStore<D>, (FirstFault, Option<Files<D>>)>,
+) -> (Result<Upgraded, RepositoryFault>, Ended<D>)
+    requires { IfOk opened (λ store. IsClean (view store) → HasFirstTrees (view store)) }
+    ensures upgraded { (found : Image) → IsFirstOpening D.Disk found opened
+        → AreUpgraded D.Disk found result.0 result.1 }
+    ensures carried { IsCarriedBy opened result.1 }
+    ensures moves { TriesToMoveLog result.1 }
+    ensures clean { IfOk opened (λ store.
+        AreHonest D.Disk (files_in_hand result.1) → IsClean (view store)) }
+    ensures told { IfOk result.0 TellsThisForm }
+{
+    match opened {
+        Ok(store) => {
+            let (upgraded, closed) = upgrade_and_close(alloc, store);
+            (told_upgraded(upgraded), Ended::Closed(closed))
+        }
+        Err((fault, files)) => (not_upgraded(fault), Ended::Refused(files)),
     }
 }

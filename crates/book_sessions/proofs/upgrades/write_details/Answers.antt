@@ -2,7 +2,7 @@ use Rattle.tree_tables.proofs.Looking.{ok_so, survives, was_clean}
 use Rattle.table_ledger.proofs.SurvivalLemmas.{clean_before, survives_both, survives_then}
 use Rattle.book_restarts.specs.FileBooks.{file_names}
 use Rattle.book_sessions.proofs.UpgradeParts.{all_written, brought_rests, may_bring}
-use Rattle.book_files.proofs.books.write_details.Goals as goal
+use Rattle.book_sessions.proofs.upgrades.write_details.Goals as goal
 
 pub returns-clause-survives : goal.returns-clause-survives
 returns-clause-survives g c =
