@@ -6,7 +6,6 @@ use Rattle.sqlite_disk.specs.declared.files.Files.{Files}
 use Rattle.sqlite_store.specs.FileStore.{state, view, IsReady}
 use Rattle.sqlite_store.specs.declared.store.FileStore.{FileStore}
 use Rattle.sqlite_trees.proofs.Doubt.{clean_of}
-use Rattle.sqlite_trees.specs.View.{IsClean}
 use Rattle.sqlite_wal.specs.Reads.{AreClean}
 use Rattle.sqlite_wal.specs.Recovery.{Image}
 use Rattle.book_trees.specs.FirstForm.{HoldsFirstForm, IsToldThis, IsUnopenedFirst, first_opening}
@@ -24,8 +23,8 @@ use Rattle.book_trees.specs.declared.first_form.FirstFault.TheVariants.{Already}
 use Rattle.book_trees.specs.declared.integrity.LookFault.{LookFault}
 use Rattle.book_trees.specs.declared.integrity.LookFault.TheVariants.{Pages}
 use Rattle.book_sessions.specs.Openings.{AreLeftAsFound, IsCreation, IsFirstOpening, IsLooking}
-use Rattle.book_sessions.specs.Openings.{IsOpening}
-use Rattle.book_sessions.specs.Sessions.{AreHonest, IsCarriedBy, OpenOnly, files_in_hand}
+use Rattle.book_sessions.specs.Openings.{IsOpening, WasHonest}
+use Rattle.book_sessions.specs.Sessions.{IsCarriedBy, OpenOnly}
 use Rattle.book_sessions.specs.declared.ended.Ended.{Ended}
 use Rattle.book_sessions.specs.declared.ended.Ended.TheVariants.{Refused}
 use Rattle.book_sessions.specs.declared.ended.Ended.TheVariants as ended
@@ -69,8 +68,7 @@ of_no_store {S} {F} Says opened refusal is =
 pub open_only : {D F : Type 0} {g : Ghosts D} (Held : Type 0)
     (opened : Result (FileStore D g) (F × Option (Files D))) (last : Ended D)
     → IfOk opened (λ store. IsTrue (state store).is_clean → ∥ Held ∥₁)
-    → IfOk opened (λ store. AreHonest g (files_in_hand last) → IsClean (view store))
-    → IsCarriedBy opened last → OpenOnly g Held last
+    → WasHonest g opened last → IsCarriedBy opened last → OpenOnly g Held last
 open_only Held opened (Refused files) held clean carried = tt
 open_only Held (Ok store) (ended.Closed closed) held clean carried =
     λ honest. held (clean_of _ (clean honest))

@@ -1,9 +1,10 @@
 -- How files were opened for a session, by what they held before.
-use Rattle.std.specs.Prelude.{◌≡◌, IfSome, IsTrue, MatchOption, Option, Result, Ok, Err}
+use Rattle.std.specs.Prelude.{◌≡◌, IfOk, IfSome, IsTrue, MatchOption, Option, Result, Ok, Err}
 use Rattle.sqlite_disk.specs.declared.Disk.{Ghosts}
 use Rattle.sqlite_disk.specs.declared.files.Files.{Files}
 use Rattle.sqlite_store.specs.FileStore.{IsReady, state, view}
 use Rattle.sqlite_store.specs.declared.store.FileStore.{FileStore}
+use Rattle.sqlite_trees.specs.View.{IsClean}
 use Rattle.sqlite_wal.specs.Reads.{AreClean}
 use Rattle.sqlite_wal.specs.Recovery.{Image}
 use Rattle.book_trees.specs.FirstForm.{HoldsFirstForm, IsToldThis, IsUnopenedFirst, first_opening}
@@ -14,11 +15,19 @@ use Rattle.book_trees.specs.Looks.{IsUnopenedLook, look_opening}
 use Rattle.book_trees.specs.Refusals.{IsAsFound, IsBegun, IsRefusedWithout, IsUnopened, MayLeave}
 use Rattle.book_trees.specs.Schema.{books_schema, first_schema}
 use Rattle.book_trees.specs.StoreView.{ListsBooks}
+use Rattle.book_sessions.specs.Sessions.{AreHonest, files_in_hand}
+use Rattle.book_sessions.specs.declared.ended.Ended.{Ended}
 use Rattle.book_trees.specs.declared.faults.OpenFault.{OpenFault}
 use Rattle.book_trees.specs.declared.first_form.FirstFault.{FirstFault}
 use Rattle.book_trees.specs.declared.first_form.FirstFault.TheVariants.{Already}
 use Rattle.book_trees.specs.declared.integrity.LookFault.{LookFault}
 use Rattle.book_trees.specs.declared.integrity.LookFault.TheVariants.{Pages}
+
+-- No lie of a disk was taken as true in the store, if none was in the files that are in hand once it is
+-- closed.
+abbrev pub WasHonest : {D F : Type 0} (g : Ghosts D) → Result (FileStore D g) F → Ended D → Type 0
+WasHonest g opened ended =
+    IfOk opened (λ store. AreHonest g (files_in_hand ended) → IsClean (view store))
 
 -- A store was opened from files that held this: it shows the tables of books that they held, and they
 -- do not say that they are of a newer form.

@@ -3,7 +3,6 @@
 #![tactic(auto)]
 
 mod audits;
-mod continued;
 mod ended;
 mod faults;
 mod new_books;
@@ -11,9 +10,8 @@ mod upgrades;
 mod visits;
 
 pub use audits::{audit, not_looked_through};
-pub use continued::resume;
 pub use ended::Ended;
 pub use faults::refused;
-pub use new_books::make;
+pub use new_books::{make, resume};
 pub use upgrades::upgrade;
 pub use visits::visit;

@@ -9,9 +9,8 @@ ghost use Rattle.book_model.specs.Words.{Book};
 ghost use Rattle.book_restarts.specs.FileBooks.{file_names};
 ghost use Rattle.book_sessions.specs.Causes.{HasFaultCause};
 ghost use Rattle.book_sessions.specs.Faults.{first_answer};
-ghost use Rattle.book_sessions.specs.Openings.{IsFirstOpening};
-ghost use Rattle.book_sessions.specs.Sessions.{AreHonest, IsCarriedBy, TriesToMoveLog};
-ghost use Rattle.book_sessions.specs.Sessions.{files_in_hand};
+ghost use Rattle.book_sessions.specs.Openings.{IsFirstOpening, WasHonest};
+ghost use Rattle.book_sessions.specs.Sessions.{IsCarriedBy, TriesToMoveLog};
 ghost use Rattle.book_sessions.specs.Stops.{CloseLeaves, CloseLeavesRows, CloseTriesToMoveLog};
 ghost use Rattle.book_sessions.specs.Stops.{StopLeaves};
 ghost use Rattle.book_sessions.specs.Upgrades.{AreUpgraded, HoldsUpgraded, LeavesUpgraded};
@@ -131,8 +130,7 @@ pub fn upgrade<D: Disk>(
         → AreUpgraded D.Disk found result.0 result.1 }
     ensures carried { IsCarriedBy opened result.1 }
     ensures moves { TriesToMoveLog result.1 }
-    ensures clean { IfOk opened (λ store.
-        AreHonest D.Disk (files_in_hand result.1) → IsClean (view store)) }
+    ensures clean { WasHonest D.Disk opened result.1 }
     ensures told { IfOk result.0 TellsThisForm }
 {
     match opened {

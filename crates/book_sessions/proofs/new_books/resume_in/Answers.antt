@@ -7,7 +7,7 @@ use Rattle.book_sessions.specs.Causes.{HasFaultCause}
 use Rattle.book_sessions.specs.Unused.{are_unused}
 use Rattle.book_sessions.proofs.ResumeParts.{told_absent, told_filled, told_gone, told_in_vain}
 use Rattle.book_sessions.proofs.ResumeParts.{told_resumed, unwritten_stays}
-use Rattle.book_sessions.proofs.continued.resume_in.Goals as goal
+use Rattle.book_sessions.proofs.new_books.resume_in.Goals as goal
 
 pub returns-in_default-clause-held : goal.returns-in_default-clause-held
 returns-in_default-clause-held g c = λ book stands clean trees left.

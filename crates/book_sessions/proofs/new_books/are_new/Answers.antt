@@ -1,7 +1,7 @@
 use Rattle.std.proofs.Common.{◌≡◌, ◌∙◌, length}
 use Rattle.book_sessions.specs.Unused.{unused_by}
 use Rattle.book_sessions.proofs.ResumeParts.{looks_unused, says_unused}
-use Rattle.book_sessions.proofs.continued.are_new.Goals as goal
+use Rattle.book_sessions.proofs.new_books.are_new.Goals as goal
 
 pub returns-clause-looks : goal.returns-clause-looks
 returns-clause-looks g c =

@@ -27,7 +27,7 @@ use Rattle.book_sessions.proofs.SessionParts.{close_leaves, close_rows, found_cl
 use Rattle.book_sessions.proofs.SessionParts.{opened_stands, refused_goes_on, rows_as_found}
 use Rattle.book_sessions.proofs.SessionParts.{to_be_moved}
 use Rattle.book_sessions.proofs.UnusedBooks.{new_unused, none_resumed}
-use Rattle.book_sessions.proofs.continued.resume.Goals as goal
+use Rattle.book_sessions.proofs.new_books.resume.Goals as goal
 
 pub resume_in-requires : goal.resume_in-requires
 resume_in-requires g c = λ clean.
