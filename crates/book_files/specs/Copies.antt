@@ -30,8 +30,8 @@ abbrev pub CopyAloneGoesOn : {T A B : Type 0} (one : Ghosts A) (two : Ghosts B) 
 CopyAloneGoesOn one two Made found copied =
     AreHonest one copied.original → FileAloneGoesOn two Made found copied.copy
 
--- Files that were found so were read, and nothing else: a stop leaves what was found; and the history
--- that they held they hold, also where their log is short and is deleted.
+-- Files that were found so were read, and nothing else: a stop leaves what was found; and the
+-- history that they held they hold, also where their log is short and is deleted.
 pub record WereOnlyRead {D : Type 0} (g : Ghosts D) (found : Image) (files : Files D) : Type 0 where
   pub same : (image : Image) → MayLeave g files image → image ≡ found
   pub history : (image : Image) → MayBeFound g files image → GoesOn file_names NoEvent found image
@@ -46,8 +46,8 @@ abbrev pub IsCopyWithoutFiles : CopyFault → Type 0
 IsCopyWithoutFiles copies.Pages = ⊥
 IsCopyWithoutFiles (copies.Refused fault) = IsWithoutFiles fault
 
--- Why there is no copy of files that were found so, by what is in hand of them and of the copy, where
--- no disk lied: the copy was not looked through; or it was, and its books were not opened.
+-- Why there is no copy of files that were found so, by what is in hand of them and of the copy,
+-- where no disk lied: the copy was not looked through; or it was, and its books were not opened.
 abbrev pub WhyNotCopied : {A B : Type 0} (one : Ghosts A) (two : Ghosts B) → Image
     → Option (Files A) → Ended B → CopyFault → Type 0
 WhyNotCopied one two found None copy fault = IsCopyWithoutFiles fault

@@ -13,8 +13,8 @@ use Rattle.book_sessions.specs.declared.ended.Ended.TheVariants.{Closed, Refused
 use Rattle.named_books.specs.declared.repository.RepositoryFault.{RepositoryFault}
 use Rattle.named_books.specs.declared.repository.RepositoryFault.TheVariants.{Ledger}
 
--- The answer of a session is told as it is; or, where no memory was left to see that the closed files
--- hold books, this fault.
+-- The answer of a session is told as it is; or, where no memory was left to see that the closed
+-- files hold books, this fault.
 abbrev pub seen_answer : {A D : Type 0} → RepositoryFault → Result A RepositoryFault → Ended D
     → Result A RepositoryFault
 seen_answer fault answer (Closed closed) = if closed.is_kept then answer else Err fault

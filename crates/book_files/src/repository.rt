@@ -19,8 +19,8 @@ use std::io::ErrorKind;
 use std::{fs, io};
 
 /// Files, each with the books of one office. Nothing is known about what they hold: what is proved
-/// of an opening is proved whatever that is, as long as it is nothing, or tables of books, whoever
-/// wrote them.
+/// of an opening is proved whatever that is, as long as a file that lists the tables of books has
+/// them, whoever wrote them.
 #[derive(Drop)]
 pub struct Files<'a> {
     pub(crate) rt: &'a HostRuntime,

@@ -1,6 +1,7 @@
-//! One session on the books in a file, by its path: it is opened, visited and closed; or looked
-//! through; or new books are made in it, or continued; or old ones are brought over. A path is only
-//! opened here: what is done to the open files is done by `book_sessions`, which has no path.
+//! One session on the books in a file, by its path. A path is only opened here: what is done to the
+//! open files is done by `book_sessions`, which has no path. What each clause means stands there, at
+//! `AreVisited`, `AreMade`, `AreContinued`, `AreAudited` and `AreUpgraded`. No files are opened but
+//! those that hold what the session is for (`only`).
 
 ghost use Rattle.std.specs.Prelude.{◌≡◌, [], IfErr, IfOk, IsOk, List, MatchResult};
 ghost use Rattle.sqlite_wal.specs.Files.{image_at};
@@ -51,34 +52,18 @@ pub fn visit_at<S: LeftByLedger, V: Visit>(
 ) -> (Result<V::Answer, RepositoryFault>, Ended<FileFrom<S>>)
     ensures history { FilesGoOn ⟦<FileFrom<S> as Disk>⟧
         (done_by (V.Visit.work file_names visit.old visit.new) result.0) (image_at S.Start) result.1 }
-
-    // Their rows do so also where no memory was left to see that they are those of books.
     ensures rows { RowsGoOn ⟦<FileFrom<S> as Disk>⟧
         (done_by (V.Visit.work file_names visit.old visit.new) result.0) (image_at S.Start) result.1 }
-
-    // What is not visited has the rows that it had, also where no book can be read back from them.
     ensures same { IfErr result.0 (λ fault.
         KeepRows ⟦<FileFrom<S> as Disk>⟧ (image_at S.Start) result.1) }
-
-    // Where the log is left short, the file alone, without any log, holds all of that.
     ensures alone { FileAloneGoesOn ⟦<FileFrom<S> as Disk>⟧
         (done_by (V.Visit.work file_names visit.old visit.new) result.0) (image_at S.Start) result.1 }
     ensures moves { TriesToMoveLog result.1 }
-
-    // Files that are not opened are left as they were, whatever they hold, and none are opened but
-    // those that list the tables of books.
     ensures unopened { AreAsFound ⟦<FileFrom<S> as Disk>⟧ (image_at S.Start) result.1 }
     ensures only { OpenOnly ⟦<FileFrom<S> as Disk>⟧ (ListsBooks (image_at S.Start)) result.1 }
-
     ensures came { MatchResult result.0 (V.Visit.comes visit.old visit.new)
         (λ _. visit.new ≡ visit.old) }
-
-    // An answer is given only of files that were opened.
     ensures in_hand { IsOk result.0 → AreOpened result.1 }
-
-    // There are books exactly where their row is there: that there are none is answered only of
-    // files that hold none of this form, or not their row, and without it none are visited, nor are
-    // any that say that they are of a newer form.
     ensures there { IfOk result.0 (λ answer.
         MightBeVisited ⟦<FileFrom<S> as Disk>⟧ (image_at S.Start) result.1) }
     ensures refused { IfErr result.0
@@ -100,8 +85,6 @@ pub fn make_at<S: Start>(
 ) -> (Result<(), RepositoryFault>, Ended<FileFrom<S>>)
     ensures made { HoldsNothing (image_at S.Start)
         → NewBooksMade ⟦<FileFrom<S> as Disk>⟧ result.0 result.1 }
-
-    // In files that hold something no books are made, and nothing is written.
     ensures new { IfOk result.0 (λ made. (image : Image)
         → MayBeMade ⟦<FileFrom<S> as Disk>⟧ result.1 image → ∥ HoldsNothing (image_at S.Start) ∥₁) }
     ensures in_hand { IsOk result.0 → AreOpened result.1 }
@@ -127,9 +110,6 @@ pub fn resume_at<S: LeftByLedger>(
     start: S,
 ) -> (Result<(), RepositoryFault>, Ended<FileFrom<S>>)
     ensures history { FilesGoOn ⟦<FileFrom<S> as Disk>⟧ NoEvent (image_at S.Start) result.1 }
-
-    // Where the row of a book is there all rows stay, also where no book can be read back from them,
-    // or no memory was left to see that they are those of books.
     ensures rows { HaveBookRow (image_at S.Start)
         → KeepRows ⟦<FileFrom<S> as Disk>⟧ (image_at S.Start) result.1 }
     ensures unopened { AreAsFound ⟦<FileFrom<S> as Disk>⟧ (image_at S.Start) result.1 }
@@ -141,8 +121,6 @@ pub fn resume_at<S: LeftByLedger>(
         → NewBooksMade ⟦<FileFrom<S> as Disk>⟧ result.0 result.1 }
     ensures in_hand { IsOk result.0 → AreOpened result.1 }
     ensures moves { TriesToMoveLog result.1 }
-
-    // That books are there is answered of files that hold none of ours, or books that are not new.
     ensures refused { IfErr result.0
         (WhyNotContinued ⟦<FileFrom<S> as Disk>⟧ (image_at S.Start) result.1) }
 {
@@ -163,17 +141,10 @@ pub fn audit_at<S: Start, W: Watch>(
     ensures history { FilesGoOn ⟦<FileFrom<S> as Disk>⟧ NoEvent (image_at S.Start) result.1 }
     ensures unopened { AreAsFound ⟦<FileFrom<S> as Disk>⟧ (image_at S.Start) result.1 }
     ensures only { OpenOnly ⟦<FileFrom<S> as Disk>⟧ (HoldsBooks (image_at S.Start)) result.1 }
-
-    // The trees of books stay as they were, also where no book can be read back from them.
     ensures same { (image : Image) → MayFollow ⟦<FileFrom<S> as Disk>⟧ result.1 image
         → HoldSameTrees (image_at S.Start) image }
-
-    // So do their rows, also where no memory was left to see that they are those of books.
     ensures rows { KeepRows ⟦<FileFrom<S> as Disk>⟧ (image_at S.Start) result.1 }
     ensures log { KeepsLog result.1 }
-
-    // Files that are called sound hold a book, whoever wrote them, and the counts are its own. Any
-    // other answer too is given of no files but those that list the tables of books.
     ensures book { IfOk result.0 (λ audited. (counts : Counts) → audited ≡ Audited.Sound counts
         → (image : Image) → MayFollow ⟦<FileFrom<S> as Disk>⟧ result.1 image
         → HoldCounted counts (image_at S.Start)) }
@@ -181,8 +152,6 @@ pub fn audit_at<S: Start, W: Watch>(
         → MayFollow ⟦<FileFrom<S> as Disk>⟧ result.1 image
         → ∥ ListsBooks (image_at S.Start) ∥₁) }
     ensures in_hand { IsOk result.0 → AreInHand result.1 }
-
-    // That there are no books is told only of files that hold none of this form.
     ensures refused { IfErr result.0
         (WhyNotAudited ⟦<FileFrom<S> as Disk>⟧ (image_at S.Start) result.1) }
 {
@@ -201,16 +170,11 @@ pub fn upgrade_at<S: Start>(
 ) -> (Result<Upgraded, RepositoryFault>, Ended<FileFrom<S>>)
     ensures history { HoldsFirstForm (image_at S.Start)
         → FilesBroughtOver ⟦<FileFrom<S> as Disk>⟧ (image_at S.Start) result.0 result.1 }
-
-    // So do their rows, also where no memory was left to see that they are those of books.
     ensures rows { RowsBroughtOver ⟦<FileFrom<S> as Disk>⟧ (image_at S.Start) result.0 result.1 }
     ensures moves { TriesToMoveLog result.1 }
     ensures unopened { AreAsFound ⟦<FileFrom<S> as Disk>⟧ (image_at S.Start) result.1 }
     ensures only { OpenOnly ⟦<FileFrom<S> as Disk>⟧ (HoldsFirstBooks (image_at S.Start))
         result.1 }
-
-    // Books of this form are left as they are, whatever is answered, and are told to be of it, or of
-    // a newer one. No other form than this one is told of books that were brought over.
     ensures kept { FilesGoOn ⟦<FileFrom<S> as Disk>⟧ NoEvent (image_at S.Start) result.1 }
     ensures this { HoldsBooks (image_at S.Start)
         → IsToldOfThis ⟦<FileFrom<S> as Disk>⟧ result.0 result.1 }
@@ -219,8 +183,6 @@ pub fn upgrade_at<S: Start>(
         → MayFollow ⟦<FileFrom<S> as Disk>⟧ result.1 image
         → HoldsWhatIsTold (image_at S.Start) upgraded) }
     ensures in_hand { IsOk result.0 → AreInHand result.1 }
-
-    // Of files that hold books of the first form, and their row, it is not told that there are none.
     ensures refused { IfErr result.0
         (WhyNotUpgraded ⟦<FileFrom<S> as Disk>⟧ (image_at S.Start) result.1) }
 {

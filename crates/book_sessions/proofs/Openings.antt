@@ -35,13 +35,13 @@ pub some_so : {A : Type 0} {One Other : A → Type 0} (files : Option A) → IfS
 some_so None one so = tt
 some_so (Some it) one so = so it one
 
--- Of a session that was begun with a store it is known that its files are closed,
+-- A session that was begun with a store has closed files in hand,
 pub carried_closed : {S F D : Type 0} (opened : Result S (F × Option (Files D))) (store : S)
     (closed : Closed D) → opened ≡ Ok store → IsCarriedBy opened (ended.Closed closed)
 carried_closed {S} {F} {D} opened store closed is =
     subst (λ (it : Result S (F × Option (Files D))). IsCarriedBy it (ended.Closed closed)) (sym is) tt
 
--- and of one that was not, that it has what the opening gave back.
+-- and one that was not has what the opening gave back.
 pub carried_refused : {S F D : Type 0} (opened : Result S (F × Option (Files D))) (fault : F)
     (files : Option (Files D)) → opened ≡ Err (fault, files) → IsCarriedBy opened (Refused files)
 carried_refused {S} {F} {D} opened fault files is =

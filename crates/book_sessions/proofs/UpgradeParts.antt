@@ -1,5 +1,5 @@
--- Books of the first form that were brought over, or not: what is written of them, and what is found of
--- their files.
+-- Books of the first form that were brought over, or not: what is written of them, and what is
+-- found of their files.
 use Rattle.std.proofs.Common.{◌≡◌, ◌∙◌, ◌<◌, ℕ, List, [], IsTrue, Option, None, Some, Result, Ok, Err}
 use Rattle.std.proofs.Common.{false, inl, inr, refl, subst, sym, ap, arith, true≢false}
 use Rattle.std.proofs.Math.Logic.{∥∥₁_elim, ∥∥₁_map, ∥∥₁_prop}

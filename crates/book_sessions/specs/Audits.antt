@@ -27,23 +27,26 @@ SoundAreOurs =
     (counts : Counts) (image : Image) → HoldCounted counts image
     → ∥ HoldsOurBooks file_names image ∥₁
 
--- Whatever trees of books files held, they hold them, also where no book can be read back from them.
+-- Whatever trees of books files held, they hold them, also where no book can be read back from
+-- them.
 abbrev pub HoldSameTrees : Image → Image → Type 0
 HoldSameTrees found image =
     (held : HoldsBooks found)
     → ∥ ((left : HoldsBooks image) × (trees_held left ≡ trees_held held)) ∥₁
 
--- Files that were found so were looked through and audited, or they were not: the trees of books stay as
--- they were, and so does the history that the files held. Files that are called sound hold a book,
--- whoever wrote them, and the counts are its own; any other answer too is given of no files but those
--- that list the tables of books, and only with the files in hand. That there are no books is told only of
--- files that hold none of this form.
+-- Files that were found so were looked through and audited, or they were not.
 pub record AreAudited {D : Type 0} (g : Ghosts D) (found : Image)
     (result : Result Audited RepositoryFault) (ended : Ended D) : Type 0 where
+  -- Whatever may be found of them next holds the history that they held. The trees of books stay as
+  -- they were, also where no book can be read back from them; and so do their rows, also where no
+  -- memory was left to see that they are those of books.
   pub history : FilesGoOn g NoEvent found ended
   pub unopened : AreAsFound g found ended
   pub same : (image : Image) → MayFollow g ended image → HoldSameTrees found image
   pub rows : KeepRows g found ended
+  -- Files that are called sound hold a book, whoever wrote them, and the counts are its own. Any
+  -- other answer too is given of no files but those that list the tables of books, and with the
+  -- files in hand; and that there are no books is told only of files that hold none of this form.
   pub book : IfOk result (λ audited. (counts : Counts) → audited ≡ Sound counts → (image : Image)
       → MayFollow g ended image → HoldCounted counts found)
   pub listed : IfOk result (λ audited. (image : Image) → MayFollow g ended image

@@ -35,8 +35,8 @@ HaveBookRow found = (held : HoldsBooks found) → has_book (trees_held held) ≡
 abbrev pub MayBeVisited : Image → Type 0
 MayBeVisited found = HaveBookRow found × HoldNoNewer books_schema found
 
--- where no disk lied, the files that are in hand were found with the row of their book, and did not say
--- that they are of a newer form
+-- where no disk lied, the files that are in hand were found with the row of their book, and did not
+-- say that they are of a newer form
 abbrev pub MightBeVisited : {D : Type 0} (g : Ghosts D) → Image → Ended D → Type 0
 MightBeVisited g found ended = AreHonest g (files_in_hand ended) → MayBeVisited found
 
@@ -56,8 +56,9 @@ HaveNoFirstRow found = (held : HoldsFirstBooks found) → has_book (trees_held h
 abbrev pub IsWithoutFiles : RepositoryFault → Type 0
 IsWithoutFiles fault = (fault ≡ Ledger ledger.Memory) ⊎ ((fault ≡ Busy) ⊎ (fault ≡ Io))
 
--- Files are in hand, and a fault has its cause in them: that there are no books of this form, or that
--- books are there. One of memory or of the store may be told of any files. No other fault comes then.
+-- Files are in hand, and a fault has its cause in them: that there are no books of this form, or
+-- that books are there. One of memory or of the store may be told of any files. No other fault
+-- comes then.
 abbrev pub HasFaultCause : Type 0 → Type 0 → RepositoryFault → Type 0
 HasFaultCause Absent There (Ledger ledger.NotBooks) = Absent
 HasFaultCause Absent There (Ledger ledger.OldForm) = Absent
@@ -68,8 +69,8 @@ HasFaultCause Absent There Exists = There
 HasFaultCause Absent There _ = ⊥
 
 -- Books were to be continued, and this says whether anything was submitted to them: they are new
--- where it was answered that all went well; and that books are there is answered only where they are
--- not.
+-- where it was answered that all went well; and that books are there is answered only where they
+-- are not.
 abbrev pub IsResumedBy : {A : Type 0} → Bool → Result A RepositoryFault → Type 0
 IsResumedBy unused (Ok made) = unused ≡ true
 IsResumedBy unused (Err fault) = HasFaultCause ⊥ (unused ≡ false) fault
@@ -78,8 +79,8 @@ IsResumedBy unused (Err fault) = HasFaultCause ⊥ (unused ≡ false) fault
 abbrev pub IsResumed : {A : Type 0} → Book → Result A RepositoryFault → Type 0
 IsResumed book result = IsResumedBy (are_unused (tables_of file_names book)) result
 
--- Why a session has no answer, by what is in hand of its files, where no disk lied: what is said of a
--- fault where they were not opened, and where they were.
+-- Why a session has no answer, by what is in hand of its files, where no disk lied: what is said of
+-- a fault where they were not opened, and where they were.
 abbrev pub HasNoAnswerFor : {D : Type 0} (g : Ghosts D) → (RepositoryFault → Type 0)
     → (RepositoryFault → Type 0) → RepositoryFault → Ended D → Type 0
 HasNoAnswerFor g Unopened Opened fault (Refused None) = IsWithoutFiles fault
@@ -114,14 +115,15 @@ module _ {D : Type 0} (g : Ghosts D) (found : Image) (ended : Ended D) where
   WhyNotAudited fault =
       HasNoAnswerFor g (HasFaultCause (¬ HoldsThisForm found) ⊥) (λ other. ⊤) fault ended
 
-  -- why books were not brought to this form: the files hold none of the first form, or not their row
+  -- why books were not brought to this form: the files hold none of the first form, or not their
+  -- row
   abbrev pub WhyNotUpgraded : RepositoryFault → Type 0
   WhyNotUpgraded fault =
       HasNoAnswerFor g (HasFaultCause (¬ HoldsFirstForm found) ⊥)
       (HasFaultCause (HaveNoFirstRow found) ⊥) fault ended
 
--- What is answered of files that hold books of this form: that they are of it; or that they are of a
--- newer one; or that memory ran out, or that the store failed. No such files are opened.
+-- What is answered of files that hold books of this form: that they are of it; or that they are of
+-- a newer one; or that memory ran out, or that the store failed. No such files are opened.
 abbrev pub IsToldOfThis : {D : Type 0} (g : Ghosts D) → Result Upgraded RepositoryFault → Ended D
     → Type 0
 IsToldOfThis g (Ok Already) ended = ⊤

@@ -49,37 +49,43 @@ MayBeMade g (Closed closed) image = IsTrue closed.is_kept × MayBeFound g closed
 MayBeMade g (Refused (Some files)) image = MayLeave g files image
 MayBeMade g (Refused None) image = ⊥
 
--- Whatever the next call may find of files in which new books were to be made: these books, if that was
--- answered; or what such a making may leave.
+-- Whatever the next call may find of files in which new books were to be made: these books, if that
+-- was answered; or what such a making may leave.
 abbrev pub NewBooksMade : {D A F : Type 0} (g : Ghosts D) → Result A F → Ended D → Type 0
 NewBooksMade g made ended =
     (image : Image) → MayBeMade g ended image → MakesBooks file_names made image
 
--- New books were made in files that were found so, or they were not: whatever may be found of files that
--- held nothing next are the books of no history, or what the next call goes on with. In files that hold
--- something none are made, and nothing is written. That they were made is answered only where the files
--- were opened; and that something is there is told only where it is.
+-- New books were made in files that were found so, or they were not.
 pub record AreMade {A D : Type 0} (g : Ghosts D) (found : Image) (result : Result A RepositoryFault)
     (ended : Ended D) : Type 0 where
+  -- Whatever may be found next of files that held nothing are the books of no history; or, where
+  -- they were not made, what the next call goes on with.
   pub made : HoldsNothing found → NewBooksMade g result ended
+  -- In files that hold something no books are made, and nothing is written.
   pub new : IfOk result (λ done. (image : Image) → MayBeMade g ended image → ∥ HoldsNothing found ∥₁)
   pub unopened : (¬ HoldsNothing found) → AreAsFound g found ended
+  -- That they were made is answered only of files that were opened, and that something is there is
+  -- told only where it is.
   pub in_hand : IsOk result → AreOpened ended
   pub refused : IfErr result (WhyNotMade g found ended)
 
--- Books in files that were found so were continued, where a stop left them while they were made, or they
--- were not: whatever may be found of them next holds the history that they held, and of any history but
--- that of new books it is not answered that all went well. Where the row of the book is there all rows
--- stay; where no table had a row new books are made, as ever; and files that were not opened are as they
--- were found. That books are there is told only of files that hold none of this form, or books that are
--- not new.
+-- Books in files that were found so were continued, where a stop left them while they were made, or
+-- they were not.
 pub record AreContinued {A D : Type 0} (g : Ghosts D) (found : Image)
     (result : Result A RepositoryFault) (ended : Ended D) : Type 0 where
+  -- Whatever may be found of them next holds the history that they held. Where the row of a book is
+  -- there all rows stay, also where no book can be read back from them, or no memory was left to
+  -- see that they are those of books; and files that are not opened are left as they were, whatever
+  -- they hold.
   pub history : FilesGoOn g NoEvent found ended
   pub rows : HaveBookRow found → KeepRows g found ended
   pub unopened : AreAsFound g found ended
+  -- That all went well is answered of no history alone; and where no table had a row yet, new books
+  -- are made, as ever.
   pub none : (image : Image) → MayFollow g ended image → (history : List Event)
       → HoldsHistory file_names history found → IfOk result (λ done. history ≡ [])
   pub made : HoldsEmptyBooks found → NewBooksMade g result ended
+  -- It is answered only of files that were opened; and that books are there is told only of files
+  -- that hold none of this form, or books that are not new.
   pub in_hand : IsOk result → AreOpened ended
   pub refused : IfErr result (WhyNotContinued g found ended)

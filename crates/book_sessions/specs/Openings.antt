@@ -23,14 +23,14 @@ use Rattle.book_trees.specs.declared.first_form.FirstFault.TheVariants.{Already}
 use Rattle.book_trees.specs.declared.integrity.LookFault.{LookFault}
 use Rattle.book_trees.specs.declared.integrity.LookFault.TheVariants.{Pages}
 
--- No lie of a disk was taken as true in the store, if none was in the files that are in hand once it is
--- closed.
+-- No lie of a disk was taken as true in the store, if none was in the files that are in hand once
+-- it is closed.
 abbrev pub WasHonest : {D F : Type 0} (g : Ghosts D) → Result (FileStore D g) F → Ended D → Type 0
 WasHonest g opened ended =
     IfOk opened (λ store. AreHonest g (files_in_hand ended) → IsClean (view store))
 
--- A store was opened from files that held this: it shows the tables of books that they held, and they
--- do not say that they are of a newer form.
+-- A store was opened from files that held this: it shows the tables of books that they held, and
+-- they do not say that they are of a newer form.
 pub record IsOpenedFrom {D : Type 0} {g : Ghosts D} (found : Image) (store : FileStore D g) : Type 0
   where
     pub ready : IsReady store
@@ -38,8 +38,8 @@ pub record IsOpenedFrom {D : Type 0} {g : Ghosts D} (found : Image) (store : Fil
         → (view store).trees ≡ trees_held held
     pub form : IsTrue (state store).is_clean → HoldNoNewer books_schema found
 
--- A stop leaves files that were not opened as they were found, or standing for the same pages; and it
--- may leave their log as it is seen.
+-- A stop leaves files that were not opened as they were found, or standing for the same pages; and
+-- it may leave their log as it is seen.
 pub record AreLeftAsFound {D : Type 0} (g : Ghosts D) (found : Image) (files : Files D) : Type 0 where
   pub kept : (left : Image) → MayLeave g files left → IsAsFound found left
   pub log : g.may_leave files.log (g.seen files.log)
@@ -51,8 +51,8 @@ pub record IsCreatedFrom {D : Type 0} {g : Ghosts D} (found : Image) (store : Fi
     pub empty : IsTrue (state store).is_clean → AreEmptyTables (view store).committed
     pub started : IsTrue (state store).is_clean → ∥ HoldsNothing found ∥₁
 
--- Files that held this were opened as books; or they were not, and are left as they were found: they
--- hold none of this form where that is told, and none are in hand where they are out of reach.
+-- Files that held this were opened as books; or they were not, and are left as they were found:
+-- they hold none of this form where that is told, and none are in hand where they are out of reach.
 abbrev pub IsOpening : {D : Type 0} (g : Ghosts D) → Image
     → Result (FileStore D g) (OpenFault × Option (Files D)) → Type 0
 IsOpening g found (Ok store) = IsOpenedFrom found store
@@ -60,9 +60,9 @@ IsOpening g found (Err refusal) =
     MatchOption refusal.1 (IsUnopened refusal.0) (IsRefusedWithout g (HoldsThisForm found) refusal.0)
     × IfSome refusal.1 (AreLeftAsFound g found)
 
--- Files that held this got the tables of books; or they did not, and something was there where that is
--- told: files that held nothing hold a part of nothing, or all tables with no row, and others are as
--- they were found.
+-- Files that held this got the tables of books; or they did not, and something was there where that
+-- is told: files that held nothing hold a part of nothing, or all tables with no row, and others
+-- are as they were found.
 abbrev pub IsCreation : {D : Type 0} (g : Ghosts D) → Image
     → Result (FileStore D g) (OpenFault × Option (Files D)) → Type 0
 IsCreation g found (Ok store) = IsCreatedFrom found store
@@ -73,8 +73,8 @@ IsCreation g found (Err refusal) =
     × ((¬ HoldsNothing found)
     → IfSome refusal.1 (λ files. (left : Image) → MayLeave g files left → IsAsFound found left))
 
--- All pages of files that held this were looked through, and a store was opened from them: they held
--- books, whose tables it shows.
+-- All pages of files that held this were looked through, and a store was opened from them: they
+-- held books, whose tables it shows.
 pub record IsLookedFrom {D : Type 0} {g : Ghosts D} (found : Image) (store : FileStore D g) : Type 0
   where
     pub ready : IsReady store
@@ -82,8 +82,9 @@ pub record IsLookedFrom {D : Type 0} {g : Ghosts D} (found : Image) (store : Fil
         → (view store).trees ≡ trees_held held
     pub held : IsTrue (state store).is_clean → ∥ HoldsBooks found ∥₁
 
--- Files that held this were looked through; or they were not, and are left as they were found: they hold
--- no books of this form where that is told, and list their tables where their pages are called wrong.
+-- Files that held this were looked through; or they were not, and are left as they were found: they
+-- hold no books of this form where that is told, and list their tables where their pages are called
+-- wrong.
 abbrev pub IsLooking : {D : Type 0} (g : Ghosts D) → Image
     → Result (FileStore D g) (LookFault × Option (Files D)) → Type 0
 IsLooking g found (Ok store) = IsLookedFrom found store
@@ -94,8 +95,8 @@ IsLooking g found (Err refusal) =
     × (refusal.0 ≡ Pages
     → IfSome refusal.1 (λ files. AreClean g files.log files.db → ListsBooks found))
 
--- A store was opened from files that held this: books of the first form, whose tables it shows. They do
--- not say that they are of a newer form, and there are none of this one.
+-- A store was opened from files that held this: books of the first form, whose tables it shows.
+-- They do not say that they are of a newer form, and there are none of this one.
 pub record IsFirstFrom {D : Type 0} {g : Ghosts D} (found : Image) (store : FileStore D g) : Type 0
   where
     pub ready : IsReady store
@@ -105,9 +106,10 @@ pub record IsFirstFrom {D : Type 0} {g : Ghosts D} (found : Image) (store : File
     pub held : IsTrue (state store).is_clean → ∥ HoldsFirstBooks found ∥₁
     pub form : IsTrue (state store).is_clean → HoldNoNewer first_schema found
 
--- Files that held this were opened as books of the first form; or they were not, and are left as they
--- were found: they hold none of it where that is told, no books of this form but where these are told to
--- be of it or of a newer one, and list the tables of this form where they are told to be of it.
+-- Files that held this were opened as books of the first form; or they were not, and are left as
+-- they were found: they hold none of it where that is told, no books of this form but where these
+-- are told to be of it or of a newer one, and list the tables of this form where they are told to
+-- be of it.
 abbrev pub IsFirstOpening : {D : Type 0} (g : Ghosts D) → Image
     → Result (FileStore D g) (FirstFault × Option (Files D)) → Type 0
 IsFirstOpening g found (Ok store) = IsFirstFrom found store

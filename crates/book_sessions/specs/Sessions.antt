@@ -1,5 +1,6 @@
 -- What may be found of the files of books after a session.
-use Rattle.std.specs.Prelude.{◌≡◌, ◌≢◌, Option, None, Some, IfSome, IsSome, IsTrue, Result, Ok, Err, [], ⊤}
+use Rattle.std.specs.Prelude.{◌≡◌, ◌≢◌, IfSome, IsSome, IsTrue, Option, None, Some, Result, Ok, Err}
+use Rattle.std.specs.Prelude.{[], ⊤}
 use Rattle.sqlite_disk.specs.declared.Disk.{Ghosts}
 use Rattle.sqlite_disk.specs.declared.files.Files.{Files}
 use Rattle.sqlite_wal.specs.Reads.{AreClean}
@@ -21,15 +22,15 @@ MayFollow g (Closed closed) image = IsTrue closed.is_kept × MayBeFound g closed
 MayFollow g (Refused (Some files)) image = MayBeFound g files image
 MayFollow g (Refused None) image = ⊥
 
--- Whatever the next session may find of the files goes on from what this one found, with what was made
--- in it.
+-- Whatever the next session may find of the files goes on from what this one found, with what was
+-- made in it.
 abbrev pub FilesGoOn : {D : Type 0} (g : Ghosts D) → Transition → Image → Ended D → Type 0
 FilesGoOn g Made found ended =
     (image : Image) → MayFollow g ended image → GoesOn file_names Made found image
 
--- Files that were closed are a sound file of some tables, whether or not they are seen to be those of
--- books: whatever may be found of it has the rows of the book that this session found, gone on with
--- what was made in it.
+-- Files that were closed are a sound file of some tables, whether or not they are seen to be those
+-- of books: whatever may be found of it has the rows of the book that this session found, gone on
+-- with what was made in it.
 abbrev pub RowsGoOn : {D : Type 0} (g : Ghosts D) → Transition → Image → Ended D → Type 0
 RowsGoOn g Made found (Closed closed) =
     (image : Image) → MayBeFound g closed.files image
@@ -37,16 +38,17 @@ RowsGoOn g Made found (Closed closed) =
     → ∥ ((file : HoldsFile image) × LeavesTrees file_names Made book (rows_held file)) ∥₁
 RowsGoOn g Made found (Refused files) = ⊤
 
--- Whatever rows the tables of books in the files had, files that were closed are a sound file that has
--- them and lists those tables, whether or not they are seen to be those of books, and also where no book
--- can be read back from them.
+-- Whatever rows the tables of books in the files had, files that were closed are a sound file that
+-- has them and lists those tables, whether or not they are seen to be those of books, and also
+-- where no book can be read back from them.
 abbrev pub KeepRows : {D : Type 0} (g : Ghosts D) → Image → Ended D → Type 0
 KeepRows g found (Closed closed) =
     (image : Image) → MayBeFound g closed.files image → (held : HoldsBooks found)
     → ∥ ((file : HoldsFile image) × (rows_held file ≡ trees_held held)) ∥₁
 KeepRows g found (Refused files) = ⊤
 
--- Files that were not opened are as they were found, or stand for the same pages, whatever they hold.
+-- Files that were not opened are as they were found, or stand for the same pages, whatever they
+-- hold.
 abbrev pub AreAsFound : {D : Type 0} (g : Ghosts D) → Image → Ended D → Type 0
 AreAsFound g found (Closed closed) = ⊤
 AreAsFound g found (Refused files) =
@@ -67,8 +69,8 @@ abbrev pub AreOpened : {D : Type 0} → Ended D → Type 0
 AreOpened (Closed closed) = ⊤
 AreOpened (Refused files) = ⊥
 
--- A session that began with a store gives back its files, closed. One that did not gives back what the
--- opening did: so no files are in hand only where the opening opened none.
+-- A session that began with a store gives back its files, closed. One that did not gives back what
+-- the opening did: so no files are in hand only where the opening opened none.
 abbrev pub IsCarriedBy : {S F D : Type 0} → Result S (F × Option (Files D)) → Ended D → Type 0
 IsCarriedBy (Ok store) ended = AreOpened ended
 IsCarriedBy (Err refusal) ended = ended ≡ Refused refusal.1

@@ -25,7 +25,8 @@ abbrev pub CloseLeaves : {D : Type 0} (g : Ghosts D) → Closed D → (Image →
 CloseLeaves g closed So =
     IsTrue closed.is_kept → (image : Image) → MayBeFound g closed.files image → So image
 
--- they are a sound file of some tables, whose rows are so, whether or not they are known to hold books
+-- they are a sound file of some tables, whose rows are so, whether or not they are known to hold
+-- books
 abbrev pub CloseLeavesRows : {D : Type 0} (g : Ghosts D) → Closed D → (Trees → Type 0) → Type 0
 CloseLeavesRows g closed So =
     (image : Image) → MayBeFound g closed.files image
@@ -51,8 +52,8 @@ abbrev pub StopKeepsTrees : View → State → Type 0
 StopKeepsTrees found left =
     (IsClean found → IsAtRest found) → StopLeaves left (λ trees. trees ≡ found.trees)
 
--- Of a store that had no row a stop leaves new books; or, where they were not made, its tables as they
--- were.
+-- Of a store that had no row a stop leaves new books; or, where they were not made, its tables as
+-- they were.
 abbrev pub StopLeavesNew : {A F : Type 0} → View → Result A F → State → Type 0
 StopLeavesNew found made left =
     (IsClean found → IsEmpty found) → StopLeaves left (LeavesNew file_names found made)

@@ -56,8 +56,8 @@ abbrev pub RestsBroughtOver : Naming → View → View → Type 0
 RestsBroughtOver naming old new =
     (book : Book) → RestsAtFirst naming book old → ListMore new.trees × RestsAt naming book new
 
--- Trees that held a book in the first form hold it in this one; or, where it was not brought over, in
--- one of the two.
+-- Trees that held a book in the first form hold it in this one; or, where it was not brought over,
+-- in one of the two.
 abbrev pub LeavesUpgraded : {A F : Type 0} → Naming → Book → Result A F → Trees → Type 0
 LeavesUpgraded naming book (Ok done) trees = IsBroughtOver naming book trees
 LeavesUpgraded naming book (Err fault) trees =
@@ -94,17 +94,17 @@ BringsOver naming history (Ok Already) image = ⊥
 BringsOver naming history (Err fault) image =
     ∥ (HoldsFirstHistory naming history image ⊎ HoldsHistory naming history image) ∥₁
 
--- Whatever the next session may find of files that held the books of a history in the first form: books
--- of this history, in this form; or, where they were not brought over, in one of the two.
+-- Whatever the next session may find of files that held the books of a history in the first form:
+-- books of this history, in this form; or, where they were not brought over, in one of the two.
 abbrev pub FilesBroughtOver : {D : Type 0} (g : Ghosts D) → Image → Result Upgraded RepositoryFault
     → Ended D → Type 0
 FilesBroughtOver g found told ended =
     (image : Image) → MayFollow g ended image → (history : List Event)
     → HoldsFirstHistory file_names history found → BringsOver file_names history told image
 
--- Files that were closed are a sound file of some tables, whether or not they are seen to be those of
--- books: whatever may be found of it has the rows of the book that they held in the first form, in this
--- one; or, where it was not brought over, in one of the two.
+-- Files that were closed are a sound file of some tables, whether or not they are seen to be those
+-- of books: whatever may be found of it has the rows of the book that they held in the first form,
+-- in this one; or, where it was not brought over, in one of the two.
 abbrev pub RowsBroughtOver : {D : Type 0} (g : Ghosts D) → Image → Result Upgraded RepositoryFault
     → Ended D → Type 0
 RowsBroughtOver g found told (Closed closed) =
@@ -113,18 +113,21 @@ RowsBroughtOver g found told (Closed closed) =
     → ∥ ((file : HoldsFile image) × LeavesUpgraded file_names book told (rows_held file)) ∥₁
 RowsBroughtOver g found told (Refused files) = ⊤
 
--- Books in files that were found so were brought from the first form to this one, or they were not:
--- whatever may be found of them next holds the books of the history that they held, in one of the two
--- forms, and so do their rows. Books of this form are left as they are, whatever is answered, and are
--- told to be of it, or of a newer one. What is told stands in the files, which are in hand then; and that
--- there are no books is told only of files that hold none of the first form, or not their row.
+-- Books in files that were found so were brought from the first form to this one, or they were not.
 pub record AreUpgraded {D : Type 0} (g : Ghosts D) (found : Image)
     (result : Result Upgraded RepositoryFault) (ended : Ended D) : Type 0 where
+  -- Whatever may be found of them next holds the books of the history that they held, in one of the
+  -- two forms; and so do their rows, also where no memory was left to see that they are those of
+  -- books.
   pub history : HoldsFirstForm found → FilesBroughtOver g found result ended
   pub rows : RowsBroughtOver g found result ended
+  -- Files that are not opened are left as they were, whatever they hold. Books of this form are
+  -- left as they are, whatever is answered, and are told to be of it, or of a newer one.
   pub unopened : AreAsFound g found ended
   pub kept : FilesGoOn g NoEvent found ended
   pub this : HoldsBooks found → IsToldOfThis g result ended
+  -- What is told stands in the files, which are in hand then; and that there are no books is told
+  -- only of files that hold none of the first form, or not their row.
   pub listed : IfOk result (λ upgraded. (image : Image) → MayFollow g ended image
       → HoldsWhatIsTold found upgraded)
   pub in_hand : IsOk result → AreInHand ended
