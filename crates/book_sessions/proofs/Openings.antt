@@ -6,6 +6,7 @@ use Rattle.sqlite_disk.specs.declared.files.Files.{Files}
 use Rattle.sqlite_store.specs.FileStore.{state, view, IsReady}
 use Rattle.sqlite_store.specs.declared.store.FileStore.{FileStore}
 use Rattle.sqlite_trees.proofs.Doubt.{clean_of}
+use Rattle.sqlite_trees.specs.View.{IsClean}
 use Rattle.sqlite_wal.specs.Reads.{AreClean}
 use Rattle.sqlite_wal.specs.Recovery.{Image}
 use Rattle.book_trees.specs.FirstForm.{HoldsFirstForm, IsToldThis, IsUnopenedFirst, first_opening}
@@ -22,9 +23,9 @@ use Rattle.book_trees.specs.declared.first_form.FirstFault.{FirstFault}
 use Rattle.book_trees.specs.declared.first_form.FirstFault.TheVariants.{Already}
 use Rattle.book_trees.specs.declared.integrity.LookFault.{LookFault}
 use Rattle.book_trees.specs.declared.integrity.LookFault.TheVariants.{Pages}
-use Rattle.book_sessions.specs.Openings.{AreLeftAsFound, IsCreation, IsFirstOpening, IsLooking}
-use Rattle.book_sessions.specs.Openings.{IsOpening, WasHonest}
-use Rattle.book_sessions.specs.Sessions.{IsCarriedBy, OpenOnly}
+use Rattle.book_sessions.specs.Openings.{AreLeftAsFound, IsCarriedBy, IsCreation, IsFirstOpening}
+use Rattle.book_sessions.specs.Openings.{IsLooking, IsOpening}
+use Rattle.book_sessions.specs.Sessions.{OpenOnly}
 use Rattle.book_sessions.specs.declared.ended.Ended.{Ended}
 use Rattle.book_sessions.specs.declared.ended.Ended.TheVariants.{Refused}
 use Rattle.book_sessions.specs.declared.ended.Ended.TheVariants as ended
@@ -35,44 +36,40 @@ pub some_so : {A : Type 0} {One Other : A → Type 0} (files : Option A) → IfS
 some_so None one so = tt
 some_so (Some it) one so = so it one
 
--- A session that was begun with a store has closed files in hand,
-pub carried_closed : {S F D : Type 0} (opened : Result S (F × Option (Files D))) (store : S)
-    (closed : Closed D) → opened ≡ Ok store → IsCarriedBy opened (ended.Closed closed)
-carried_closed {S} {F} {D} opened store closed is =
-    subst (λ (it : Result S (F × Option (Files D))). IsCarriedBy it (ended.Closed closed)) (sym is) tt
-
--- and one that was not has what the opening gave back.
-pub carried_refused : {S F D : Type 0} (opened : Result S (F × Option (Files D))) (fault : F)
-    (files : Option (Files D)) → opened ≡ Err (fault, files) → IsCarriedBy opened (Refused files)
-carried_refused {S} {F} {D} opened fault files is =
-    subst (λ (it : Result S (F × Option (Files D))). IsCarriedBy it (Refused files)) (sym is) refl
-
--- What is known of the store of an opening is known of the one that there is,
-pub of_store : {S F : Type 0} (Says : S → Type 0) (opened : Result S F) (store : S)
-    → opened ≡ Ok store → Says store → IfOk opened Says
-of_store {S} {F} Says opened store is says =
-    subst (λ (it : Result S F). IfOk it Says) (sym is) says
-
+-- what is known of the store of an opening is known of the one that there is
 pub the_store : {S F : Type 0} (Says : S → Type 0) (opened : Result S F) (store : S)
     → opened ≡ Ok store → IfOk opened Says → Says store
 the_store {S} {F} Says opened store is says =
     subst (λ (it : Result S F). IfOk it Says) is says
 
--- and of none there is nothing to say
-pub of_no_store : {S F : Type 0} (Says : S → Type 0) (opened : Result S F) (refusal : F)
-    → opened ≡ Err refusal → IfOk opened Says
-of_no_store {S} {F} Says opened refusal is =
-    subst (λ (it : Result S F). IfOk it Says) (sym is) tt
+-- A session that was begun with a store has closed files in hand,
+pub carried_closed : {D F : Type 0} {g : Ghosts D}
+    (opened : Result (FileStore D g) (F × Option (Files D))) (store : FileStore D g)
+    (closed : Closed D) → opened ≡ Ok store
+    → (AreClean g closed.files.log closed.files.db → IsClean (view store))
+    → IsCarriedBy g opened (ended.Closed closed)
+carried_closed {D} {F} {g} opened store closed is clean =
+    subst (λ (it : Result (FileStore D g) (F × Option (Files D))).
+    IsCarriedBy g it (ended.Closed closed)) (sym is) (record { back = tt; honest = clean })
+
+-- and one that was not has what the opening gave back.
+pub carried_refused : {D F : Type 0} {g : Ghosts D}
+    (opened : Result (FileStore D g) (F × Option (Files D))) (fault : F) (files : Option (Files D))
+    → opened ≡ Err (fault, files) → IsCarriedBy g opened (Refused files)
+carried_refused {D} {F} {g} opened fault files is =
+    subst (λ (it : Result (FileStore D g) (F × Option (Files D))). IsCarriedBy g it (Refused files))
+    (sym is) (record { back = refl; honest = tt })
 
 -- no files were opened but those of which the opening says what they held
 pub open_only : {D F : Type 0} {g : Ghosts D} (Held : Type 0)
     (opened : Result (FileStore D g) (F × Option (Files D))) (last : Ended D)
     → IfOk opened (λ store. IsTrue (state store).is_clean → ∥ Held ∥₁)
-    → WasHonest g opened last → IsCarriedBy opened last → OpenOnly g Held last
-open_only Held opened (Refused files) held clean carried = tt
-open_only Held (Ok store) (ended.Closed closed) held clean carried =
-    λ honest. held (clean_of _ (clean honest))
-open_only Held (Err refusal) (ended.Closed closed) held clean carried = absurd (cc)
+    → IsCarriedBy g opened last → OpenOnly g Held last
+open_only Held opened (Refused files) held carried = tt
+open_only Held (Ok store) (ended.Closed closed) held carried =
+    λ honest. held (clean_of _ (carried.honest honest))
+open_only Held (Err refusal) (ended.Closed closed) held carried =
+    absurd (let never : ended.Closed closed ≡ Refused refusal.1 = carried.back in cc)
 
 -- refused files are left as they were found
 pub left_as_found : {D : Type 0} (g : Ghosts D) → ((file : D) → g.may_leave file (g.seen file))

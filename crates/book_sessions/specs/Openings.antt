@@ -15,7 +15,7 @@ use Rattle.book_trees.specs.Looks.{IsUnopenedLook, look_opening}
 use Rattle.book_trees.specs.Refusals.{IsAsFound, IsBegun, IsRefusedWithout, IsUnopened, MayLeave}
 use Rattle.book_trees.specs.Schema.{books_schema, first_schema}
 use Rattle.book_trees.specs.StoreView.{ListsBooks}
-use Rattle.book_sessions.specs.Sessions.{AreHonest, files_in_hand}
+use Rattle.book_sessions.specs.Sessions.{AreHonest, GivesBack, files_in_hand}
 use Rattle.book_sessions.specs.declared.ended.Ended.{Ended}
 use Rattle.book_trees.specs.declared.faults.OpenFault.{OpenFault}
 use Rattle.book_trees.specs.declared.first_form.FirstFault.{FirstFault}
@@ -23,11 +23,12 @@ use Rattle.book_trees.specs.declared.first_form.FirstFault.TheVariants.{Already}
 use Rattle.book_trees.specs.declared.integrity.LookFault.{LookFault}
 use Rattle.book_trees.specs.declared.integrity.LookFault.TheVariants.{Pages}
 
--- No lie of a disk was taken as true in the store, if none was in the files that are in hand once
--- it is closed.
-abbrev pub WasHonest : {D F : Type 0} (g : Ghosts D) → Result (FileStore D g) F → Ended D → Type 0
-WasHonest g opened ended =
-    IfOk opened (λ store. AreHonest g (files_in_hand ended) → IsClean (view store))
+-- A session gives back what it was begun with; and no lie of a disk was taken as true in its store, if
+-- none was in the files that are in hand once it is closed.
+pub record IsCarriedBy {D F : Type 0} (g : Ghosts D)
+    (opened : Result (FileStore D g) (F × Option (Files D))) (ended : Ended D) : Type 0 where
+  pub back : GivesBack opened ended
+  pub honest : IfOk opened (λ store. AreHonest g (files_in_hand ended) → IsClean (view store))
 
 -- A store was opened from files that held this: it shows the tables of books that they held, and
 -- they do not say that they are of a newer form.

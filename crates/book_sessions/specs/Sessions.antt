@@ -69,11 +69,11 @@ abbrev pub AreOpened : {D : Type 0} → Ended D → Type 0
 AreOpened (Closed closed) = ⊤
 AreOpened (Refused files) = ⊥
 
--- A session that began with a store gives back its files, closed. One that did not gives back what
--- the opening did: so no files are in hand only where the opening opened none.
-abbrev pub IsCarriedBy : {S F D : Type 0} → Result S (F × Option (Files D)) → Ended D → Type 0
-IsCarriedBy (Ok store) ended = AreOpened ended
-IsCarriedBy (Err refusal) ended = ended ≡ Refused refusal.1
+-- Of an opening that gave a store, the files are given back closed; of one that did not, what it gave
+-- back itself. So no files are in hand only where the opening opened none.
+abbrev pub GivesBack : {S F D : Type 0} → Result S (F × Option (Files D)) → Ended D → Type 0
+GivesBack (Ok store) ended = AreOpened ended
+GivesBack (Err refusal) ended = ended ≡ Refused refusal.1
 
 -- those that are in hand
 abbrev pub files_in_hand : {D : Type 0} → Ended D → Option (Files D)

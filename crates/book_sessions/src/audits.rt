@@ -9,8 +9,8 @@ ghost use Rattle.book_audit.specs.declared.audited.Counts.{Counts};
 ghost use Rattle.book_restarts.specs.FileBooks.{file_names};
 ghost use Rattle.book_sessions.specs.Audits.{AreAudited};
 ghost use Rattle.book_sessions.specs.Faults.{look_answer};
-ghost use Rattle.book_sessions.specs.Openings.{IsLooking, WasHonest};
-ghost use Rattle.book_sessions.specs.Sessions.{IsCarriedBy, KeepsLog};
+ghost use Rattle.book_sessions.specs.Openings.{IsCarriedBy, IsLooking};
+ghost use Rattle.book_sessions.specs.Sessions.{KeepsLog};
 ghost use Rattle.book_sessions.specs.Stops.{StopKeepsTrees};
 ghost use Rattle.tree_tables.specs.Holds.{HasShapes};
 ghost use Rattle.tree_tables.specs.States.{state};
@@ -66,9 +66,8 @@ pub fn audit<D: Disk, W: Watch>(
     requires { IfOk opened (λ store. HasShapes (view store)) }
     ensures audited { (found : Image) → IsLooking D.Disk found opened
         → AreAudited D.Disk found result.0 result.1 }
-    ensures carried { IsCarriedBy opened result.1 }
+    ensures carried { IsCarriedBy D.Disk opened result.1 }
     ensures log { KeepsLog result.1 }
-    ensures clean { WasHonest D.Disk opened result.1 }
 {
     match opened {
         Ok(store) => {

@@ -9,8 +9,8 @@ ghost use Rattle.book_restarts.specs.FileBooks.{StandsAt, file_names};
 ghost use Rattle.book_sessions.specs.Causes.{HasFaultCause, IsResumed};
 ghost use Rattle.book_sessions.specs.Faults.{resume_fault};
 ghost use Rattle.book_sessions.specs.NewBooks.{AreContinued, AreMade};
-ghost use Rattle.book_sessions.specs.Openings.{IsCreation, IsOpening, WasHonest};
-ghost use Rattle.book_sessions.specs.Sessions.{IsCarriedBy, TriesToMoveLog};
+ghost use Rattle.book_sessions.specs.Openings.{IsCarriedBy, IsCreation, IsOpening};
+ghost use Rattle.book_sessions.specs.Sessions.{TriesToMoveLog};
 ghost use Rattle.book_sessions.specs.Stops.{StopKeepsBook, StopKeepsTrees, StopLeavesNew};
 ghost use Rattle.book_sessions.specs.Unused.{SaysUnused, unused_by};
 ghost use Rattle.tree_tables.specs.Holds.{HasShapes, has_book};
@@ -68,9 +68,8 @@ pub fn make<D: Disk>(
     requires { IfOk opened (λ store. HasShapes (view store)) }
     ensures made { (found : Image) → IsCreation D.Disk found opened
         → AreMade D.Disk found result.0 result.1 }
-    ensures carried { IsCarriedBy opened result.1 }
+    ensures carried { IsCarriedBy D.Disk opened result.1 }
     ensures moves { TriesToMoveLog result.1 }
-    ensures clean { WasHonest D.Disk opened result.1 }
 {
     match opened {
         Ok(store) => {
@@ -169,9 +168,8 @@ pub fn resume<D: Disk>(
     requires { IfOk opened (λ store. HasShapes (view store)) }
     ensures continued { (found : Image) → IsOpening D.Disk found opened
         → AreContinued D.Disk found result.0 result.1 }
-    ensures carried { IsCarriedBy opened result.1 }
+    ensures carried { IsCarriedBy D.Disk opened result.1 }
     ensures moves { TriesToMoveLog result.1 }
-    ensures clean { WasHonest D.Disk opened result.1 }
 {
     match opened {
         Ok(store) => {

@@ -9,8 +9,8 @@ ghost use Rattle.book_model.specs.Words.{Book};
 ghost use Rattle.book_restarts.specs.FileBooks.{file_names};
 ghost use Rattle.book_sessions.specs.Causes.{HasFaultCause};
 ghost use Rattle.book_sessions.specs.Faults.{first_answer};
-ghost use Rattle.book_sessions.specs.Openings.{IsFirstOpening, WasHonest};
-ghost use Rattle.book_sessions.specs.Sessions.{IsCarriedBy, TriesToMoveLog};
+ghost use Rattle.book_sessions.specs.Openings.{IsCarriedBy, IsFirstOpening};
+ghost use Rattle.book_sessions.specs.Sessions.{TriesToMoveLog};
 ghost use Rattle.book_sessions.specs.Stops.{CloseLeaves, CloseLeavesRows, CloseTriesToMoveLog};
 ghost use Rattle.book_sessions.specs.Stops.{StopLeaves};
 ghost use Rattle.book_sessions.specs.Upgrades.{AreUpgraded, HoldsUpgraded, LeavesUpgraded};
@@ -128,9 +128,8 @@ pub fn upgrade<D: Disk>(
     requires { IfOk opened (λ store. IsClean (view store) → HasFirstTrees (view store)) }
     ensures upgraded { (found : Image) → IsFirstOpening D.Disk found opened
         → AreUpgraded D.Disk found result.0 result.1 }
-    ensures carried { IsCarriedBy opened result.1 }
+    ensures carried { IsCarriedBy D.Disk opened result.1 }
     ensures moves { TriesToMoveLog result.1 }
-    ensures clean { WasHonest D.Disk opened result.1 }
     ensures told { IfOk result.0 TellsThisForm }
 {
     match opened {

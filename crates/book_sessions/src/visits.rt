@@ -6,8 +6,8 @@ ghost use Rattle.sqlite_trees.specs.View.{IsClean};
 ghost use Rattle.sqlite_wal.specs.Recovery.{Image};
 ghost use Rattle.book_restarts.specs.FileBooks.{done_by, file_names};
 ghost use Rattle.book_sessions.specs.Causes.{HasFaultCause};
-ghost use Rattle.book_sessions.specs.Openings.{IsOpening, WasHonest};
-ghost use Rattle.book_sessions.specs.Sessions.{IsCarriedBy, TriesToMoveLog};
+ghost use Rattle.book_sessions.specs.Openings.{IsCarriedBy, IsOpening};
+ghost use Rattle.book_sessions.specs.Sessions.{TriesToMoveLog};
 ghost use Rattle.book_sessions.specs.Stops.{StopGoesOn, StopKeepsTrees};
 ghost use Rattle.book_sessions.specs.Visits.{AreVisited};
 ghost use Rattle.tree_tables.specs.Holds.{HasShapes, has_book};
@@ -68,9 +68,8 @@ pub fn visit<D: Disk, V: Visit>(
     requires { IfOk opened (λ store. HasShapes (view store)) }
     ensures visited { (found : Image) → IsOpening D.Disk found opened → AreVisited D.Disk
         (V.Visit.work file_names visit.old visit.new) found result.0 result.1 }
-    ensures carried { IsCarriedBy opened result.1 }
+    ensures carried { IsCarriedBy D.Disk opened result.1 }
     ensures moves { TriesToMoveLog result.1 }
-    ensures clean { WasHonest D.Disk opened result.1 }
     ensures came { MatchResult result.0 (V.Visit.comes visit.old visit.new)
         (λ _. visit.new ≡ visit.old) }
 {

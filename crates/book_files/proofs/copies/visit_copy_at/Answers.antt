@@ -7,7 +7,6 @@ use Rattle.sqlite_wal.specs.Recovery.{Image}
 use Rattle.book_core.specs.Transition.{Transition}
 use Rattle.book_restarts.specs.FileBooks.{file_names}
 use Rattle.book_trees.specs.LedgerFiles.{image_of, HoldsBooks}
-use Rattle.book_trees.specs.declared.faults.OpenFault.{OpenFault}
 use Rattle.book_sessions.proofs.Causes.{err_given, mapped_err, mapped_ok, ok_each, ok_given}
 use Rattle.book_sessions.proofs.Openings.{open_only}
 use Rattle.book_sessions.specs.Causes.{MightBeVisited}
@@ -99,10 +98,10 @@ returns-in-Ok-copy_to-clause-books g c =
     mapped_ok (λ answer. AreHonest one (Some c.copy_to.new.from) → OpenOnly two (HoldsBooks first) copy)
     copies.Refused visited.result.0 c.map_err.result c.map_err.ensures.cases
     (ok_each visited.result.0 (λ answer honest.
-    open_only {F = OpenFault} (HoldsBooks first) (Ok c.in-Ok-copy_to.store) copy
+    open_only (HoldsBooks first) (Ok c.in-Ok-copy_to.store) copy
     (λ clean. subst (λ (i : Image). ∥ HoldsBooks i ∥₁) c.in-Ok.ensures.held
     (c.in-Ok-copy_to.ensures.books clean honest))
-    visited.ensures.clean visited.ensures.carried))
+    visited.ensures.carried))
 
 pub returns-in-Ok-copy_to-clause-original : goal.returns-in-Ok-copy_to-clause-original
 returns-in-Ok-copy_to-clause-original g c =
@@ -111,7 +110,7 @@ returns-in-Ok-copy_to-clause-original g c =
     c.in-Ok.ensures.kept c.copy_to.ensures.read
 
 pub returns-in-Ok-copy_to-clause-copied : goal.returns-in-Ok-copy_to-clause-copied
-returns-in-Ok-copy_to-clause-copied g c = λ answered. c.visit-answer.ensures.carried
+returns-in-Ok-copy_to-clause-copied g c = λ answered. c.visit-answer.ensures.carried.back
 
 pub returns-in-Err-copy_to-clause-original : goal.returns-in-Err-copy_to-clause-original
 returns-in-Err-copy_to-clause-original g c =
@@ -151,4 +150,4 @@ returns-in-Ok-copy_to-clause-refused g c =
     c.map_err.result c.map_err.ensures.cases
     (err_given visited.result.0
     (λ (honest : AreHonest one (Some original)). (visited.ensures.visited first (opened honest)).refused))
-    (λ fault cause. unvisited_cause one two first original copy visited.ensures.carried fault cause)
+    (λ fault cause. unvisited_cause one two first original copy visited.ensures.carried.back fault cause)

@@ -20,8 +20,7 @@ returns g c =
     record {
       history = audited.history;
       unopened = audited.unopened;
-      only = open_only (HoldsBooks first) opened c.audit.result.1 from.held session.clean
-          session.carried;
+      only = open_only (HoldsBooks first) opened c.audit.result.1 from.held session.carried;
       same = audited.same;
       rows = audited.rows;
       log = session.log;

@@ -22,7 +22,6 @@ returns g c =
       in_hand = made.in_hand;
       moves = session.moves;
       unopened = made.unopened;
-      only = open_only (HoldsNothing first) opened c.make.result.1 from.started session.clean
-          session.carried;
+      only = open_only (HoldsNothing first) opened c.make.result.1 from.started session.carried;
       refused = made.refused;
     }

@@ -23,8 +23,7 @@ returns g c =
       rows = continued.rows;
       unopened = continued.unopened;
       only = open_only (ListsBooks first) opened c.resume.result.1
-          (ok_so opened from.read (λ store read clean. ∣ (read clean).lists ∣₁)) session.clean
-          session.carried;
+          (ok_so opened from.read (λ store read clean. ∣ (read clean).lists ∣₁)) session.carried;
       none = continued.none;
       made = continued.made;
       in_hand = continued.in_hand;

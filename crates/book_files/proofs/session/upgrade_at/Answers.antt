@@ -23,8 +23,7 @@ returns g c =
       rows = upgraded.rows;
       moves = session.moves;
       unopened = upgraded.unopened;
-      only = open_only (HoldsFirstBooks first) opened c.upgrade.result.1 from.held session.clean
-          session.carried;
+      only = open_only (HoldsFirstBooks first) opened c.upgrade.result.1 from.held session.carried;
       kept = upgraded.kept;
       this = upgraded.this;
       told = session.told;

@@ -26,8 +26,7 @@ returns g c =
       moves = session.moves;
       unopened = visited.unopened;
       only = open_only (ListsBooks first) opened c.visit.result.1
-          (ok_so opened from.read (λ store read clean. ∣ (read clean).lists ∣₁)) session.clean
-          session.carried;
+          (ok_so opened from.read (λ store read clean. ∣ (read clean).lists ∣₁)) session.carried;
       came = session.came;
       in_hand = visited.in_hand;
       there = visited.there;

@@ -3,7 +3,6 @@ use Rattle.std.proofs.Math.Logic.{∥∥₁_map}
 use Rattle.sqlite_store.specs.FileStore.{view}
 use Rattle.sqlite_trees.proofs.Doubt.{clean_of, no_doubt}
 use Rattle.sqlite_trees.specs.Tree.{Trees}
-use Rattle.sqlite_trees.specs.View.{IsClean}
 use Rattle.sqlite_wal.specs.Recovery.{Image}
 use Rattle.book_audit.specs.OfBook.{AreOfBook}
 use Rattle.book_restarts.specs.FileBooks.{file_names}
@@ -11,12 +10,11 @@ use Rattle.book_trees.proofs.ListingLemmas.{books_listed}
 use Rattle.tree_tables.specs.Holds.{HasShapes}
 use Rattle.book_sessions.specs.Audits.{HoldSameTrees}
 use Rattle.book_sessions.specs.Openings.{IsLookedFrom, IsLooking}
-use Rattle.book_sessions.specs.Sessions.{AreHonest, MayFollow, files_in_hand}
-use Rattle.book_sessions.specs.declared.ended.Ended.TheVariants.{Closed, Refused}
+use Rattle.book_sessions.specs.Sessions.{MayFollow}
+use Rattle.book_sessions.specs.declared.ended.Ended.TheVariants.{Closed}
 use Rattle.book_sessions.proofs.AuditParts.{audited_same, same_goes_on, unaudited}
 use Rattle.book_sessions.proofs.Causes.{err_each, ok_each, ok_so}
-use Rattle.book_sessions.proofs.Openings.{carried_closed, carried_refused, of_no_store, of_store}
-use Rattle.book_sessions.proofs.Openings.{the_store}
+use Rattle.book_sessions.proofs.Openings.{carried_closed, carried_refused, the_store}
 use Rattle.book_sessions.proofs.SessionParts.{close_leaves, close_rows, found_clean, rows_as_found}
 use Rattle.book_sessions.proofs.audits.audit.Goals as goal
 
@@ -73,18 +71,8 @@ returns-in-Ok-clause-audited g c = λ found opening.
       refused = err_each audited.result.0 (λ fault honest. tt);
     }
 
-pub returns-in-Ok-clause-carried : goal.returns-in-Ok-clause-carried
-returns-in-Ok-clause-carried g c =
-    carried_closed c.args.opened c.in-Ok.store c.close_unchanged.result c.in-Ok.is
-
 pub returns-in-Ok-clause-log : goal.returns-in-Ok-clause-log
 returns-in-Ok-clause-log g c = c.close_unchanged.ensures.log
-
-pub returns-in-Ok-clause-clean : goal.returns-in-Ok-clause-clean
-returns-in-Ok-clause-clean g c =
-    of_store (λ store. AreHonest g.D.Disk (files_in_hand (Closed c.close_unchanged.result))
-    → IsClean (view store)) c.args.opened c.in-Ok.store c.in-Ok.is (λ honest.
-    c.audit_in-audited.ensures.clean (no_doubt _ (c.close_unchanged.ensures.honest honest)))
 
 pub returns-in-Err-clause-audited : goal.returns-in-Err-clause-audited
 returns-in-Err-clause-audited g c = λ found opening.
@@ -92,11 +80,11 @@ returns-in-Err-clause-audited g c = λ found opening.
     unaudited g.D.Disk found c.in-Err.fault c.in-Err.files c.not_looked_through.result
     c.not_looked_through.ensures refusal.0 refusal.1 refusal.2
 
+pub returns-in-Ok-clause-carried : goal.returns-in-Ok-clause-carried
+returns-in-Ok-clause-carried g c =
+    carried_closed c.args.opened c.in-Ok.store c.close_unchanged.result c.in-Ok.is (λ honest.
+    c.audit_in-audited.ensures.clean (no_doubt _ (c.close_unchanged.ensures.honest honest)))
+
 pub returns-in-Err-clause-carried : goal.returns-in-Err-clause-carried
 returns-in-Err-clause-carried g c =
     carried_refused c.args.opened c.in-Err.fault c.in-Err.files c.in-Err.is
-
-pub returns-in-Err-clause-clean : goal.returns-in-Err-clause-clean
-returns-in-Err-clause-clean g c =
-    of_no_store (λ store. AreHonest g.D.Disk (files_in_hand (Refused c.in-Err.files))
-    → IsClean (view store)) c.args.opened (c.in-Err.fault, c.in-Err.files) c.in-Err.is

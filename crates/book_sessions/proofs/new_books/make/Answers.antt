@@ -2,19 +2,16 @@ use Rattle.std.proofs.Common.{subst, sym, true≢false}
 use Rattle.sqlite_store.specs.FileStore.{view}
 use Rattle.sqlite_trees.proofs.Doubt.{clean_of, no_doubt}
 use Rattle.sqlite_trees.specs.Tree.{Trees}
-use Rattle.sqlite_trees.specs.View.{IsClean}
 use Rattle.book_restarts.specs.FileBooks.{file_names}
 use Rattle.book_trees.specs.LedgerFiles.{HoldsNothing}
 use Rattle.tree_tables.specs.Holds.{HasShapes}
 use Rattle.book_sessions.specs.Causes.{HasFaultCause, WhyNotMade}
 use Rattle.book_sessions.specs.NewBooks.{LeavesNew}
 use Rattle.book_sessions.specs.Openings.{IsCreatedFrom, IsCreation}
-use Rattle.book_sessions.specs.Sessions.{AreHonest, files_in_hand}
-use Rattle.book_sessions.specs.declared.ended.Ended.TheVariants.{Closed, Refused}
+use Rattle.book_sessions.specs.declared.ended.Ended.TheVariants.{Refused}
 use Rattle.book_sessions.proofs.Causes.{err_so, ok_each, refused_cause}
 use Rattle.book_sessions.proofs.NewParts.{made_at, refused_begun}
-use Rattle.book_sessions.proofs.Openings.{carried_closed, carried_refused, of_no_store, of_store}
-use Rattle.book_sessions.proofs.Openings.{the_store}
+use Rattle.book_sessions.proofs.Openings.{carried_closed, carried_refused, the_store}
 use Rattle.book_sessions.proofs.SessionParts.{close_leaves, found_clean, to_be_moved}
 use Rattle.book_sessions.proofs.new_books.make.Goals as goal
 
@@ -43,19 +40,9 @@ returns-in-Ok-clause-made g c = λ found opening.
       refused = err_so made.result.0 made.ensures.kinds (λ fault kinds honest. kinds);
     }
 
-pub returns-in-Ok-clause-carried : goal.returns-in-Ok-clause-carried
-returns-in-Ok-clause-carried g c =
-    carried_closed c.args.opened c.in-Ok.store c.close_books.result c.in-Ok.is
-
 pub returns-in-Ok-clause-moves : goal.returns-in-Ok-clause-moves
 returns-in-Ok-clause-moves g c =
     to_be_moved g.D.Disk c.make_in-made.result.1 c.close_books.result c.close_books.ensures.log
-
-pub returns-in-Ok-clause-clean : goal.returns-in-Ok-clause-clean
-returns-in-Ok-clause-clean g c =
-    of_store (λ store. AreHonest g.D.Disk (files_in_hand (Closed c.close_books.result))
-    → IsClean (view store)) c.args.opened c.in-Ok.store c.in-Ok.is (λ honest.
-    c.make_in-made.ensures.clean (no_doubt _ (c.close_books.ensures.honest honest)))
 
 pub returns-in-Err-clause-made : goal.returns-in-Err-clause-made
 returns-in-Err-clause-made g c = λ found opening.
@@ -71,11 +58,11 @@ returns-in-Err-clause-made g c = λ found opening.
           refusal.0);
     }
 
+pub returns-in-Ok-clause-carried : goal.returns-in-Ok-clause-carried
+returns-in-Ok-clause-carried g c =
+    carried_closed c.args.opened c.in-Ok.store c.close_books.result c.in-Ok.is (λ honest.
+    c.make_in-made.ensures.clean (no_doubt _ (c.close_books.ensures.honest honest)))
+
 pub returns-in-Err-clause-carried : goal.returns-in-Err-clause-carried
 returns-in-Err-clause-carried g c =
     carried_refused c.args.opened c.in-Err.fault c.in-Err.files c.in-Err.is
-
-pub returns-in-Err-clause-clean : goal.returns-in-Err-clause-clean
-returns-in-Err-clause-clean g c =
-    of_no_store (λ store. AreHonest g.D.Disk (files_in_hand (Refused c.in-Err.files))
-    → IsClean (view store)) c.args.opened (c.in-Err.fault, c.in-Err.files) c.in-Err.is

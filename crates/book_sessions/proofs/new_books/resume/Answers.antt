@@ -2,7 +2,6 @@ use Rattle.std.proofs.Common.{◌≡◌, subst, sym, true, true≢false}
 use Rattle.sqlite_store.specs.FileStore.{view}
 use Rattle.sqlite_trees.proofs.Doubt.{clean_of, no_doubt}
 use Rattle.sqlite_trees.specs.Tree.{Trees}
-use Rattle.sqlite_trees.specs.View.{IsClean}
 use Rattle.sqlite_wal.specs.Reads.{AreClean}
 use Rattle.book_model.specs.Words.{book_after, new_book}
 use Rattle.book_restarts.specs.FileBooks.{file_names}
@@ -15,13 +14,11 @@ use Rattle.book_sessions.specs.Causes.{HasFaultCause, HaveBookRow, HaveUsedBook,
 use Rattle.book_sessions.specs.Causes.{WhyNotContinued}
 use Rattle.book_sessions.specs.NewBooks.{LeavesNew}
 use Rattle.book_sessions.specs.Openings.{IsOpenedFrom, IsOpening}
-use Rattle.book_sessions.specs.Sessions.{AreHonest, files_in_hand}
 use Rattle.book_sessions.specs.Unused.{are_unused}
-use Rattle.book_sessions.specs.declared.ended.Ended.TheVariants.{Closed, Refused}
+use Rattle.book_sessions.specs.declared.ended.Ended.TheVariants.{Refused}
 use Rattle.book_sessions.proofs.Causes.{cause_so, err_so, told_by_row, unresumed_cause}
 use Rattle.book_sessions.proofs.NewParts.{refused_still, resumed_at}
-use Rattle.book_sessions.proofs.Openings.{carried_closed, carried_refused, of_no_store, of_store}
-use Rattle.book_sessions.proofs.Openings.{some_so, the_store}
+use Rattle.book_sessions.proofs.Openings.{carried_closed, carried_refused, some_so, the_store}
 use Rattle.book_sessions.proofs.ResumeParts.{resumed_unused, why_unresumed}
 use Rattle.book_sessions.proofs.SessionParts.{close_leaves, close_rows, found_clean, held_goes_on}
 use Rattle.book_sessions.proofs.SessionParts.{opened_stands, refused_goes_on, rows_as_found}
@@ -84,19 +81,9 @@ returns-in-Ok-clause-continued g c = λ found opening.
           (no_doubt _ (closed.ensures.honest honest))));
     }
 
-pub returns-in-Ok-clause-carried : goal.returns-in-Ok-clause-carried
-returns-in-Ok-clause-carried g c =
-    carried_closed c.args.opened c.in-Ok.store c.close_books.result c.in-Ok.is
-
 pub returns-in-Ok-clause-moves : goal.returns-in-Ok-clause-moves
 returns-in-Ok-clause-moves g c =
     to_be_moved g.D.Disk c.resume_in-made.result.1 c.close_books.result c.close_books.ensures.log
-
-pub returns-in-Ok-clause-clean : goal.returns-in-Ok-clause-clean
-returns-in-Ok-clause-clean g c =
-    of_store (λ store. AreHonest g.D.Disk (files_in_hand (Closed c.close_books.result))
-    → IsClean (view store)) c.args.opened c.in-Ok.store c.in-Ok.is (λ honest.
-    c.resume_in-made.ensures.clean (no_doubt _ (c.close_books.ensures.honest honest)))
 
 pub returns-in-Err-clause-continued : goal.returns-in-Err-clause-continued
 returns-in-Err-clause-continued g c = λ found opening.
@@ -114,11 +101,11 @@ returns-in-Err-clause-continued g c = λ found opening.
           c.in-Err.fault files refusal.0);
     }
 
+pub returns-in-Ok-clause-carried : goal.returns-in-Ok-clause-carried
+returns-in-Ok-clause-carried g c =
+    carried_closed c.args.opened c.in-Ok.store c.close_books.result c.in-Ok.is (λ honest.
+    c.resume_in-made.ensures.clean (no_doubt _ (c.close_books.ensures.honest honest)))
+
 pub returns-in-Err-clause-carried : goal.returns-in-Err-clause-carried
 returns-in-Err-clause-carried g c =
     carried_refused c.args.opened c.in-Err.fault c.in-Err.files c.in-Err.is
-
-pub returns-in-Err-clause-clean : goal.returns-in-Err-clause-clean
-returns-in-Err-clause-clean g c =
-    of_no_store (λ store. AreHonest g.D.Disk (files_in_hand (Refused c.in-Err.files))
-    → IsClean (view store)) c.args.opened (c.in-Err.fault, c.in-Err.files) c.in-Err.is

@@ -15,12 +15,11 @@ use Rattle.named_books.specs.declared.repository.Upgraded.{Upgraded}
 use Rattle.tree_tables.specs.Holds.{has_book}
 use Rattle.book_sessions.specs.Causes.{HaveNoFirstRow, IsToldOfThis, WhyNotUpgraded}
 use Rattle.book_sessions.specs.Openings.{IsFirstFrom, IsFirstOpening}
-use Rattle.book_sessions.specs.Sessions.{AreHonest, MayFollow, files_in_hand}
+use Rattle.book_sessions.specs.Sessions.{MayFollow}
 use Rattle.book_sessions.specs.Upgrades.{BringsOver, HoldsWhatIsTold, LeavesUpgraded, TellsThisForm}
-use Rattle.book_sessions.specs.declared.ended.Ended.TheVariants.{Closed, Refused}
+use Rattle.book_sessions.specs.declared.ended.Ended.TheVariants.{Closed}
 use Rattle.book_sessions.proofs.Causes.{cause_so, err_so, opened_not_this}
-use Rattle.book_sessions.proofs.Openings.{carried_closed, carried_refused, of_no_store, of_store}
-use Rattle.book_sessions.proofs.Openings.{the_store}
+use Rattle.book_sessions.proofs.Openings.{carried_closed, carried_refused, the_store}
 use Rattle.book_sessions.proofs.SessionParts.{found_clean}
 use Rattle.book_sessions.proofs.UpgradeParts.{brings_over, first_tells, opened_tells}
 use Rattle.book_sessions.proofs.UpgradeParts.{rows_brought_over, tells_form, told_why, unupgraded}
@@ -75,18 +74,8 @@ returns-in-Ok-clause-upgraded g c = λ found opening.
           (λ never. never) fault (cause honest))));
     }
 
-pub returns-in-Ok-clause-carried : goal.returns-in-Ok-clause-carried
-returns-in-Ok-clause-carried g c =
-    carried_closed c.args.opened c.in-Ok.store c.upgrade_and_close-upgraded.result.1 c.in-Ok.is
-
 pub returns-in-Ok-clause-moves : goal.returns-in-Ok-clause-moves
 returns-in-Ok-clause-moves g c = c.upgrade_and_close-upgraded.ensures.moves
-
-pub returns-in-Ok-clause-clean : goal.returns-in-Ok-clause-clean
-returns-in-Ok-clause-clean g c =
-    of_store (λ store. AreHonest g.D.Disk (files_in_hand (Closed c.upgrade_and_close-upgraded.result.1))
-    → IsClean (view store)) c.args.opened c.in-Ok.store c.in-Ok.is
-    (λ honest. c.upgrade_and_close-upgraded.ensures.clean honest)
 
 pub returns-in-Ok-clause-told : goal.returns-in-Ok-clause-told
 returns-in-Ok-clause-told g c =
@@ -99,16 +88,16 @@ returns-in-Err-clause-upgraded g c = λ found opening.
     unupgraded g.D.Disk found c.in-Err.fault c.in-Err.files c.not_upgraded.result
     c.not_upgraded.ensures refusal.0 refusal.1 refusal.2 refusal.3
 
-pub returns-in-Err-clause-carried : goal.returns-in-Err-clause-carried
-returns-in-Err-clause-carried g c =
-    carried_refused c.args.opened c.in-Err.fault c.in-Err.files c.in-Err.is
-
-pub returns-in-Err-clause-clean : goal.returns-in-Err-clause-clean
-returns-in-Err-clause-clean g c =
-    of_no_store (λ store. AreHonest g.D.Disk (files_in_hand (Refused c.in-Err.files))
-    → IsClean (view store)) c.args.opened (c.in-Err.fault, c.in-Err.files) c.in-Err.is
-
 pub returns-in-Err-clause-told : goal.returns-in-Err-clause-told
 returns-in-Err-clause-told g c =
     subst (λ result. IfOk result TellsThisForm) (sym c.not_upgraded.ensures)
     (first_tells c.in-Err.fault)
+
+pub returns-in-Ok-clause-carried : goal.returns-in-Ok-clause-carried
+returns-in-Ok-clause-carried g c =
+    carried_closed c.args.opened c.in-Ok.store c.upgrade_and_close-upgraded.result.1 c.in-Ok.is
+    c.upgrade_and_close-upgraded.ensures.clean
+
+pub returns-in-Err-clause-carried : goal.returns-in-Err-clause-carried
+returns-in-Err-clause-carried g c =
+    carried_refused c.args.opened c.in-Err.fault c.in-Err.files c.in-Err.is

@@ -3,18 +3,16 @@ use Rattle.std.proofs.Math.Logic.{∥∥₁_map}
 use Rattle.sqlite_store.specs.FileStore.{view}
 use Rattle.sqlite_trees.proofs.Doubt.{clean_of, no_doubt}
 use Rattle.sqlite_trees.specs.Tree.{Trees}
-use Rattle.sqlite_trees.specs.View.{IsClean}
 use Rattle.book_restarts.proofs.SessionLemmas.{held_leaves}
 use Rattle.book_restarts.specs.FileBooks.{LeavesTrees, done_by, file_names}
 use Rattle.book_trees.specs.Forms.{HoldsThisForm}
 use Rattle.tree_tables.specs.Holds.{HasShapes}
 use Rattle.book_sessions.specs.Causes.{HasFaultCause, HaveNoBookRow, WhyNotVisited}
 use Rattle.book_sessions.specs.Openings.{IsOpenedFrom, IsOpening}
-use Rattle.book_sessions.specs.Sessions.{AreHonest, FilesGoOn, files_in_hand}
+use Rattle.book_sessions.specs.Sessions.{FilesGoOn}
 use Rattle.book_sessions.specs.declared.ended.Ended.TheVariants.{Closed, Refused}
 use Rattle.book_sessions.proofs.Causes.{err_so, ok_so, refused_cause, told_by_row, visited_cause}
-use Rattle.book_sessions.proofs.Openings.{carried_closed, carried_refused, of_no_store, of_store}
-use Rattle.book_sessions.proofs.Openings.{some_so, the_store}
+use Rattle.book_sessions.proofs.Openings.{carried_closed, carried_refused, some_so, the_store}
 use Rattle.book_sessions.proofs.SessionParts.{alone_follows, close_leaves, close_rows, done_answered}
 use Rattle.book_sessions.proofs.SessionParts.{found_clean, left_of_book, refused_goes_on}
 use Rattle.book_sessions.proofs.SessionParts.{rows_as_found, session_goes_on, to_be_moved}
@@ -69,19 +67,9 @@ returns-in-Ok-clause-visited g c = λ found opening.
           visited_cause found store opened.shows (visited.ensures.clean after) fault (cause after));
     }
 
-pub returns-in-Ok-clause-carried : goal.returns-in-Ok-clause-carried
-returns-in-Ok-clause-carried g c =
-    carried_closed c.args.opened c.in-Ok.store c.close_books.result c.in-Ok.is
-
 pub returns-in-Ok-clause-moves : goal.returns-in-Ok-clause-moves
 returns-in-Ok-clause-moves g c =
     to_be_moved g.D.Disk c.visit_in-answer.result.1 c.close_books.result c.close_books.ensures.log
-
-pub returns-in-Ok-clause-clean : goal.returns-in-Ok-clause-clean
-returns-in-Ok-clause-clean g c =
-    of_store (λ store. AreHonest g.D.Disk (files_in_hand (Closed c.close_books.result))
-    → IsClean (view store)) c.args.opened c.in-Ok.store c.in-Ok.is (λ honest.
-    c.visit_in-answer.ensures.clean (no_doubt _ (c.close_books.ensures.honest honest)))
 
 pub returns-in-Err-clause-visited : goal.returns-in-Err-clause-visited
 returns-in-Err-clause-visited g c = λ found opening.
@@ -100,11 +88,11 @@ returns-in-Err-clause-visited g c = λ found opening.
           c.in-Err.fault files refusal.0);
     }
 
+pub returns-in-Ok-clause-carried : goal.returns-in-Ok-clause-carried
+returns-in-Ok-clause-carried g c =
+    carried_closed c.args.opened c.in-Ok.store c.close_books.result c.in-Ok.is (λ honest.
+    c.visit_in-answer.ensures.clean (no_doubt _ (c.close_books.ensures.honest honest)))
+
 pub returns-in-Err-clause-carried : goal.returns-in-Err-clause-carried
 returns-in-Err-clause-carried g c =
     carried_refused c.args.opened c.in-Err.fault c.in-Err.files c.in-Err.is
-
-pub returns-in-Err-clause-clean : goal.returns-in-Err-clause-clean
-returns-in-Err-clause-clean g c =
-    of_no_store (λ store. AreHonest g.D.Disk (files_in_hand (Refused c.in-Err.files))
-    → IsClean (view store)) c.args.opened (c.in-Err.fault, c.in-Err.files) c.in-Err.is
