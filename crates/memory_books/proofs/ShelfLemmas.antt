@@ -13,7 +13,7 @@ use Rattle.book_audit.specs.declared.audited.Audited.TheVariants.{Sound}
 use Rattle.book_audit.specs.declared.audited.Counts.{Counts}
 use Rattle.named_books.specs.Shelves.{HoldsMore, IsDoneTo, IsMade, IsUntouched, TriesOn}
 use Rattle.named_books.specs.declared.repository.RepositoryFault.{RepositoryFault}
-use Rattle.named_books.specs.declared.repository.RepositoryFault.TheVariants.{Exists, Io}
+use Rattle.named_books.specs.declared.repository.RepositoryFault.TheVariants.{Io}
 use Rattle.named_books.proofs.ShelfLemmas.{untouched}
 use Rattle.memory_books.specs.declared.places.Kept.{Kept}
 use Rattle.memory_books.specs.Kept.{Keeps, Puts, books_at}
@@ -173,10 +173,6 @@ module _ {L : Type 0} (seen : L → Seen) (names : Naming)
   pub refused_none : (name : List ℕ) (kept : List (Kept L)) → books_at kept name ≡ None
       → RefusedFor Io (books_at kept name)
   refused_none name kept none = subst (RefusedFor Io) (sym none) tt
-
-  pub refused_some : (name : List ℕ) (kept : List (Kept L)) (one : L) → books_at kept name ≡ Some one
-      → RefusedFor Exists (books_at kept name)
-  refused_some name kept one here = subst (RefusedFor Exists) (sym here) tt
 
   -- books were counted
   pub audited_counts : (name : List ℕ) (kept : List (Kept L)) (one : L) (counts : Counts)

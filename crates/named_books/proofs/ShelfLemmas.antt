@@ -9,7 +9,7 @@ use Rattle.named_books.specs.declared.repository.RepositoryFault.{RepositoryFaul
 use Rattle.named_books.specs.declared.repository.RepositoryFault.TheVariants.{Unseen}
 use Rattle.named_books.specs.declared.repository.Upgraded.{Upgraded}
 use Rattle.named_books.specs.Shelves.{Shelf, unknown, OpenedAnew, GoOn, IsDoneTo, IsOpened, IsMade}
-use Rattle.named_books.specs.Shelves.{ComesBy, IsSameShelf, IsThere, IsTried, IsUntouched, TakesName}
+use Rattle.named_books.specs.Shelves.{ComesBy, IsThere, IsTried, IsUntouched, TakesName}
 use Rattle.named_books.specs.Shelves.{WhereUnopened}
 
 -- books that nothing was done to
@@ -27,16 +27,6 @@ untouched book shelf = record {
   here = stays (shelf.holds book);
   elsewhere = λ other _. stays (shelf.holds other);
   free = λ other _ free. free;
-}
-
-pub same_shelf : (shelf : Shelf) → IsSameShelf shelf shelf
-same_shelf shelf = record {
-  naming = refl;
-  holds = λ book history held. held;
-  free = λ book free. free;
-  refuses = λ book fault refused. refused;
-  upgrades = λ book told may. may;
-  audits = λ book text may. may;
 }
 
 -- work, seen as other work
