@@ -1,9 +1,7 @@
 -- Which record of an identity was chosen last.
 use Rattle.std.specs.Prelude.{ℕ, Bool, false, List, Option}
 use Rattle.std.specs.BTreeMap.{get_by}
-use Rattle.std.specs.Cmp.Lexicographic.{slice_cmp}
-use Rattle.std.specs.Option.{option_map_or}
-use Rattle.std.specs.Ordering.{nat_cmp}
+use Rattle.book_model.specs.Std.{slice_cmp, option_map_or, nat_cmp}
 use Rattle.book_model.specs.Words.{same_bytes}
 use Rattle.book_audit.specs.declared.choices.Chosen.{Chosen}
 

@@ -1,14 +1,8 @@
 -- What the row of a record has to say, by the bytes of the record and the tariffs.
 use Rattle.std.specs.Prelude.{◌≡◌, ◌≤◌, ℕ, ℤ, Bool, not, int_lt, find, length, reverse, List}
-use Rattle.std.specs.Prelude.{Option, Some}
-use Rattle.std.specs.Option.{option_map}
+use Rattle.std.specs.Prelude.{Option, Some, option_map}
 use Rattle.sha2.specs.Sha256.{sha256}
-use Rattle.smf_frames.specs.Framed.{most_data, record_with}
-use Rattle.smf_type30.specs.Class.{IsUsage}
-use Rattle.smf_type30.specs.Usage.{day_of}
-use Rattle.tariff_rules.specs.Price.{price_by}
-use Rattle.tariff_rules.specs.Terms.{Terms}
-use Rattle.tariff_rules.specs.declared.priced.Priced.{Priced}
+use Rattle.book_model.specs.Words.{most_data, record_with, IsUsage, day_of, price_by, Terms, Priced}
 use Rattle.tree_tables.specs.declared.stored_record.StoredRecord.{StoredRecord}
 use Rattle.book_audit.specs.Rules.{identity_under}
 use Rattle.book_audit.specs.declared.rulings.Rulings.{Rulings}

@@ -1,11 +1,10 @@
 -- The charge rows that are due.
 use Rattle.std.specs.Prelude.{◌≡◌, ℕ, ℤ, Bool, true, not, List, None, int_lt, map}
-use Rattle.std.specs.List.{last_or}
-use Rattle.std.specs.Option.{option_map_or}
 use Rattle.sqlite_value.specs.Order.{Row}
+use Rattle.book_model.specs.Std.{last_or, option_map_or}
 use Rattle.book_model.specs.declared.row.ChargeRow.{ChargeRow}
 use Rattle.book_model.specs.declared.row.RowKey.{RowKey}
-use Rattle.table_model.specs.TablesOf.{row_key}
+use Rattle.table_model.specs.Words.{row_key}
 use Rattle.tree_tables.specs.Columns.{day_columns}
 use Rattle.consistent_tables.specs.DueRows.{due_entry}
 use Rattle.book_audit.specs.declared.day_sums.DayRow.{DayRow}

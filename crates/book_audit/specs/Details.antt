@@ -1,14 +1,12 @@
 -- The rows of details, one after the other.
 use Rattle.std.specs.Prelude.{◌≡◌, ◌∷◌, [], ℕ, ℤ, pos, true, List, map}
-use Rattle.std.specs.List.{AllByRecursion}
 use Rattle.sqlite_trees.specs.Tree.{Trees}
 use Rattle.sqlite_value.specs.Order.{Row, column}
 use Rattle.sqlite_value.specs.declared.value.Value.TheVariants.{Blob, Int, Text}
-use Rattle.tariff_rules.specs.declared.priced.Priced.{Priced}
-use Rattle.book_model.specs.Words.{detail_with}
+use Rattle.book_model.specs.Std.{AllByRecursion}
+use Rattle.book_model.specs.Words.{Priced, detail_with}
 use Rattle.book_model.specs.declared.detail.Detail.{Detail}
-use Rattle.table_model.specs.BookIn.{row_record}
-use Rattle.table_model.specs.Tables.{RecordRow}
+use Rattle.table_model.specs.Words.{row_record, RecordRow}
 use Rattle.tree_rows.specs.Rows.{Finds}
 use Rattle.tree_tables.specs.Columns.{detail_columns, record_columns}
 use Rattle.book_audit.specs.Records.{HasPast}

@@ -2,8 +2,7 @@
 use Rattle.sha2.specs.Sha256.{sha256}
 use Rattle.sqlite_trees.specs.Tree.{Trees}
 use Rattle.book_model.specs.Words.{Book, Naming}
-use Rattle.table_model.specs.Readable.{IsReadable}
-use Rattle.table_model.specs.TablesOf.{tables_of}
+use Rattle.table_model.specs.Words.{IsReadable, tables_of}
 use Rattle.tree_tables.specs.Holds.{Holds}
 use Rattle.book_audit.specs.Counts.{AreCountsOf}
 use Rattle.book_audit.specs.declared.audited.Counts.{Counts}

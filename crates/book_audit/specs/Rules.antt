@@ -1,9 +1,8 @@
 -- The rule of identity of books: what their row says of it, and which work a record measures by it.
-use Rattle.std.specs.Prelude.{ℕ, Bool, true, false, ◌==◌, ◌&&◌, nat_le, nat_lt, List}
-use Rattle.std.specs.Prelude.{Option, Some, None, if◌then◌else◌}
-use Rattle.smf_type30.specs.Usage.{identity_of, identity2_of}
-use Rattle.book_model.specs.Words.{first_rule, second_rule, last_period}
-use Rattle.table_model.specs.Tables.{never_adopted}
+use Rattle.std.specs.Prelude.{ℕ, Bool, true, false, ◌==◌, ◌&&◌, nat_le, nat_lt, List, Option, Some}
+use Rattle.std.specs.Prelude.{None, if◌then◌else◌}
+use Rattle.book_model.specs.Words.{identity_of, identity2_of, first_rule, second_rule, last_period}
+use Rattle.table_model.specs.Words.{never_adopted}
 use Rattle.book_audit.specs.declared.identity_rule.IdentityRule.{IdentityRule}
 use Rattle.book_audit.specs.declared.identity_rule.IdentityRule.TheVariants.{First, SecondSince}
 

@@ -1,15 +1,11 @@
 -- The rows of the tariffs, the closes and the choices, as a list of each.
-use Rattle.std.specs.Prelude.{◌≡◌, ◌+◌, ◌∷◌, [], ℕ, ℤ, All, List, None, Ok, Some, length, map, int_lt}
-use Rattle.std.specs.Prelude.{true}
-use Rattle.std.specs.List.{AllByRecursion, last_or}
-use Rattle.std.specs.List.Sorted.{IsStrictlySortedBy}
-use Rattle.std.specs.Option.{option_map_or}
-use Rattle.std.specs.Ordering.{int_cmp}
-use Rattle.std.specs.Str.{IsUtf8}
+use Rattle.std.specs.Prelude.{◌≡◌, ◌+◌, ◌∷◌, [], ℕ, ℤ, All, List, None, Ok, Some, length, map}
+use Rattle.std.specs.Prelude.{int_lt, true, IsUtf8}
 use Rattle.sqlite_value.specs.Order.{Row}
+use Rattle.book_model.specs.Std.{AllByRecursion, last_or, IsStrictlySortedBy, option_map_or}
+use Rattle.book_model.specs.Std.{int_cmp}
 use Rattle.book_model.specs.Words.{AcceptedTerms, IsDay, Terms, terms_in}
-use Rattle.table_model.specs.Readable.{IsTexted}
-use Rattle.table_model.specs.TablesOf.{close_entries, tariff_entries}
+use Rattle.table_model.specs.Words.{IsTexted, close_entries, tariff_entries}
 use Rattle.tree_tables.specs.Columns.{book_columns, closed_columns, tariff_columns}
 use Rattle.tree_tables.specs.Stored.{close_entry}
 use Rattle.tree_tables.specs.declared.closed_rows.Close.{Close}

@@ -1,14 +1,13 @@
 -- How far a walk through a tree has come.
 use Rattle.std.specs.Prelude.{◌≡◌, ◌++◌, ◌∷◌, [], ℕ, Bool, true, false, List, length, take}
-use Rattle.std.specs.List.{AllByRecursion}
-use Rattle.std.specs.declared.cmp.Ordering.TheVariants.{Less}
 use Rattle.sqlite_trees.specs.Tree.{IsAscending, Trees}
 use Rattle.sqlite_value.specs.Order.{Row, row_cmp}
+use Rattle.book_model.specs.Std.{AllByRecursion, Less}
 use Rattle.tree_tables.specs.Walks.{rows_past}
 use Rattle.book_audit.specs.declared.finding.Tree.{Tree}
-use Rattle.book_audit.specs.declared.finding.Tree.TheVariants.{Book, Tariffs, Closes, Records}
-use Rattle.book_audit.specs.declared.finding.Tree.TheVariants.{Days, Lines, Identities, Marks}
-use Rattle.book_audit.specs.declared.finding.Tree.TheVariants.{Choices, ChoiceNames, Details}
+use Rattle.book_audit.specs.declared.finding.Tree.TheVariants.{Book, Tariffs, Closes, Records, Days}
+use Rattle.book_audit.specs.declared.finding.Tree.TheVariants.{Lines, Identities, Marks, Choices}
+use Rattle.book_audit.specs.declared.finding.Tree.TheVariants.{ChoiceNames, Details}
 use Rattle.book_audit.specs.declared.walk.Walk.{Walk}
 use Rattle.book_audit.specs.Trees.{tree_number}
 

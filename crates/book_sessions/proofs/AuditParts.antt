@@ -1,39 +1,27 @@
 -- What an audit says of files.
 use Rattle.std.proofs.Common.{◌≡◌, ◌∙◌, Option, None, Some, IsTrue, refl, subst, sym, true≢false}
-use Rattle.std.proofs.Common.{Result}
-use Rattle.std.proofs.Math.Logic.{∥∥₁_elim, ∥∥₁_map, ∥∥₁_prop}
-use Rattle.std.specs.Prelude.{IfOk, IfSome, IsOk, IsSome, MatchOption, ⊤}
-use Rattle.sqlite_disk.specs.declared.Disk.{Ghosts}
-use Rattle.sqlite_disk.specs.declared.files.Files.{Files}
-use Rattle.sqlite_store.specs.FileStore.{state, view, IsReady}
-use Rattle.sqlite_store.specs.declared.store.FileStore.{FileStore}
-use Rattle.sqlite_trees.specs.Tree.{Trees}
-use Rattle.sqlite_trees.specs.View.{IsClean}
-use Rattle.sqlite_wal.specs.Reads.{AreClean}
-use Rattle.sqlite_wal.specs.Recovery.{Image}
+use Rattle.std.proofs.Common.{Result, IfOk, IfSome, IsOk, IsSome, MatchOption}
+use Rattle.std.specs.Prelude.{⊤}
 use Rattle.book_model.specs.Words.{Naming}
-use Rattle.book_core.specs.Transition.{NoEvent}
+use Rattle.book_core.specs.Words.{NoEvent}
 use Rattle.table_ledger.specs.Commits.{IsAtRest}
-use Rattle.table_ledger.specs.Ready.{IsStoredIn}
 use Rattle.book_audit.specs.declared.audited.Audited.{Audited}
 use Rattle.book_audit.specs.declared.audited.Audited.TheVariants.{Sound}
 use Rattle.book_audit.specs.declared.audited.Counts.{Counts}
-use Rattle.book_trees.specs.Forms.{HoldsThisForm}
-use Rattle.book_trees.specs.LedgerFiles.{HoldsBooks, trees_held}
 use Rattle.book_trees.specs.Looks.{IsUnopenedLook, look_opening}
-use Rattle.book_trees.specs.Refusals.{IsRefusedWithout}
-use Rattle.book_trees.specs.Schema.{books_schema}
 use Rattle.book_trees.specs.StoreView.{ListsBooks}
 use Rattle.book_trees.specs.declared.integrity.LookFault.{LookFault}
 use Rattle.book_trees.specs.declared.integrity.LookFault.TheVariants.{Pages, Open}
-use Rattle.book_restarts.specs.FileBooks.{GoesOn, file_names}
+use Rattle.book_restarts.specs.FileBooks.{GoesOn}
 use Rattle.book_restarts.proofs.SessionLemmas.{still_held}
 use Rattle.book_sessions.specs.Audits.{AreAudited, HoldCounted, HoldSameTrees, SoundAreOurs}
 use Rattle.book_sessions.specs.Faults.{look_answer}
-use Rattle.book_sessions.specs.Openings.{AreLeftAsFound}
-use Rattle.book_sessions.specs.Sessions.{MayFollow}
+use Rattle.book_sessions.proofs.Words.{∥∥₁_elim, ∥∥₁_map, ∥∥₁_prop, Ghosts, Files, state, view}
+use Rattle.book_sessions.proofs.Words.{IsReady, FileStore, Trees, IsClean, AreClean, Image}
+use Rattle.book_sessions.proofs.Words.{IsStoredIn, HoldsThisForm, HoldsBooks, trees_held}
+use Rattle.book_sessions.proofs.Words.{IsRefusedWithout, books_schema, file_names, AreLeftAsFound}
+use Rattle.book_sessions.proofs.Words.{MayFollow, RepositoryFault}
 use Rattle.book_sessions.specs.declared.ended.Ended.TheVariants.{Refused}
-use Rattle.named_books.specs.declared.repository.RepositoryFault.{RepositoryFault}
 use Rattle.book_sessions.proofs.Causes.{look_cause}
 use Rattle.book_sessions.proofs.Openings.{some_so}
 use Rattle.book_sessions.proofs.SessionParts.{found_clean, opened_rests, refused_goes_on}

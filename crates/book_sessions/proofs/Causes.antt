@@ -1,40 +1,31 @@
 -- Why a session has no answer.
-use Rattle.std.proofs.Common.{◌≡◌, Bool, Result, Ok, Err, Option, None, Some, inl, inr, refl}
-use Rattle.std.proofs.Common.{◌≢◌, false, subst, sym, IsTrue}
-use Rattle.std.specs.Prelude.{IfErr, IfOk, IfSome, IsErrAnd, MatchOption, MatchResult}
-use Rattle.sqlite_disk.specs.declared.Disk.{Ghosts}
-use Rattle.sqlite_disk.specs.declared.files.Files.{Files}
-use Rattle.sqlite_store.specs.FileStore.{state, view}
-use Rattle.sqlite_store.specs.declared.store.FileStore.{FileStore}
-use Rattle.sqlite_trees.proofs.Doubt.{clean_of}
-use Rattle.sqlite_trees.specs.Tree.{Trees}
-use Rattle.sqlite_trees.specs.View.{IsClean}
-use Rattle.sqlite_wal.specs.Reads.{AreClean}
-use Rattle.sqlite_wal.specs.Recovery.{Image}
+use Rattle.std.proofs.Common.{◌≡◌, Bool, Result, Ok, Err, Option, None, Some, inl, inr, refl, ◌≢◌}
+use Rattle.std.proofs.Common.{false, subst, sym, IsTrue, IfErr, IfOk, IfSome, IsErrAnd, MatchOption}
+use Rattle.std.proofs.Common.{MatchResult}
 use Rattle.book_model.specs.declared.fault.LedgerFault.{LedgerFault}
-use Rattle.book_model.specs.declared.fault.LedgerFault.TheVariants as ledger
 use Rattle.book_trees.specs.FirstForm.{HoldsFirstForm, IsToldThis, IsUnopenedFirst, first_opening}
-use Rattle.book_trees.specs.LedgerFiles.{HoldsBooks, trees_held}
 use Rattle.book_trees.specs.Looks.{IsUnopenedLook, look_opening}
-use Rattle.book_trees.specs.Refusals.{IsRefusedWithout, IsUnopened}
-use Rattle.book_trees.specs.declared.closing.Closed.{Closed}
+use Rattle.book_trees.specs.Refusals.{IsUnopened}
 use Rattle.book_trees.specs.declared.faults.OpenFault.{OpenFault}
-use Rattle.book_trees.specs.declared.faults.OpenFault.TheVariants as opening
 use Rattle.book_trees.specs.declared.first_form.FirstFault.{FirstFault}
-use Rattle.book_trees.specs.declared.first_form.FirstFault.TheVariants as form
 use Rattle.book_trees.specs.declared.integrity.LookFault.{LookFault}
 use Rattle.book_trees.specs.declared.integrity.LookFault.TheVariants.{Pages, Open}
-use Rattle.book_sessions.specs.Causes.{HasFaultCause, HasNoAnswerFor, HaveNoBookRow, IsToldOfThis}
-use Rattle.book_sessions.specs.Causes.{IsWithoutFiles}
+use Rattle.book_sessions.proofs.Words.{Ghosts, Files, state, view, FileStore, clean_of, Trees}
+use Rattle.book_sessions.proofs.Words.{IsClean, AreClean, Image, HoldsBooks, trees_held}
+use Rattle.book_sessions.proofs.Words.{IsRefusedWithout, Closed, HasFaultCause, RepositoryFault}
+use Rattle.book_sessions.proofs.Words.{has_book}
+use Rattle.book_sessions.specs.Causes.{HasNoAnswerFor, HaveNoBookRow, IsToldOfThis, IsWithoutFiles}
 use Rattle.book_sessions.specs.Faults.{first_answer, look_answer, open_fault, resume_fault}
 use Rattle.book_sessions.specs.Upgrades.{upgrade_answer}
 use Rattle.book_sessions.specs.declared.ended.Ended.TheVariants.{Refused}
-use Rattle.book_sessions.specs.declared.ended.Ended.TheVariants as ended
 use Rattle.book_sessions.proofs.SessionParts.{found_clean}
-use Rattle.named_books.specs.declared.repository.RepositoryFault.{RepositoryFault}
-use Rattle.named_books.specs.declared.repository.RepositoryFault.TheVariants.{Io, Exists, Busy, Ledger}
+use Rattle.named_books.specs.declared.repository.RepositoryFault.TheVariants.{Io, Exists, Busy}
+use Rattle.named_books.specs.declared.repository.RepositoryFault.TheVariants.{Ledger}
 use Rattle.table_ledger.specs.Loaded.{IsOpenFault}
-use Rattle.tree_tables.specs.Holds.{has_book}
+use Rattle.book_model.specs.declared.fault.LedgerFault.TheVariants as ledger
+use Rattle.book_trees.specs.declared.faults.OpenFault.TheVariants as opening
+use Rattle.book_trees.specs.declared.first_form.FirstFault.TheVariants as form
+use Rattle.book_sessions.specs.declared.ended.Ended.TheVariants as ended
 
 -- what is said of an answer, or of an error, may be said in other words
 pub ok_so : {A E : Type 0} {One Other : A → Type 0} (result : Result A E) → IfOk result One

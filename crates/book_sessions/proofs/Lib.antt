@@ -2,6 +2,7 @@
 -- new books are made; where they are continued; that books to which nothing was submitted are those
 -- of no history; why a session has no answer; what becomes of books of the first form; what an
 -- audit says.
+mod Words
 pub mod SessionParts
 pub mod Openings
 pub mod NewParts

@@ -1,38 +1,27 @@
 -- What is left where new books are made.
-use Rattle.std.proofs.Common.{◌≡◌, ◌∙◌, ℕ, Bool, [], ◌⊎◌, inl, inr, sym, subst, true≢false}
-use Rattle.std.proofs.Common.{IsTrue, Option, None, Some, Result, Ok, Err, ap, arith}
-use Rattle.std.proofs.Math.Logic.{∥∥₁_map}
-use Rattle.std.specs.Prelude.{IfSome}
-use Rattle.sqlite_disk.specs.declared.files.Files.{Files}
-use Rattle.sqlite_disk.specs.declared.Disk.{Ghosts}
+use Rattle.std.proofs.Common.{◌≡◌, ◌∙◌, ℕ, Bool, [], ◌⊎◌, inl, inr, sym, subst, true≢false, IsTrue}
+use Rattle.std.proofs.Common.{Option, None, Some, Result, Ok, Err, ap, arith, IfSome}
 use Rattle.sqlite_store.proofs.ListingLemmas.{past_version}
-use Rattle.sqlite_store.specs.FileStore.{state, view, IsReady}
-use Rattle.sqlite_store.specs.declared.store.FileStore.{FileStore}
 use Rattle.sqlite_trees.specs.Objects.{with_version}
-use Rattle.sqlite_trees.specs.Tree.{Trees}
-use Rattle.sqlite_trees.specs.View.{View, IsClean}
-use Rattle.sqlite_wal.specs.Recovery.{Image}
-use Rattle.book_model.proofs.SoundLemmas.{none_in}
+use Rattle.sqlite_trees.specs.View.{View}
+use Rattle.book_model.proofs.Lemmas.{none_in}
 use Rattle.book_model.specs.Words.{Book, Naming, new_book}
-use Rattle.book_core.specs.Ledgers.{IsOpenAt}
-use Rattle.sqlite_trees.proofs.Doubt.{clean_of}
-use Rattle.book_trees.specs.LedgerFiles.{HoldsBooks, trees_held, AreEmptyTables, HoldsEmptyBooks}
+use Rattle.book_core.specs.Words.{IsOpenAt}
+use Rattle.book_trees.specs.LedgerFiles.{AreEmptyTables, HoldsEmptyBooks}
 use Rattle.book_trees.specs.Refusals.{IsAsFound, IsBegun, MayLeave}
-use Rattle.book_trees.specs.Schema.{books_schema}
 use Rattle.book_restarts.specs.FileBooks.{HoldsHistory}
-use Rattle.book_sessions.specs.NewBooks.{HaveSameTables, IsEmpty, LeavesNew, MakesBooks}
-use Rattle.book_sessions.specs.NewBooks.{MayBeMade}
-use Rattle.book_sessions.specs.Openings.{AreLeftAsFound}
+use Rattle.book_sessions.specs.NewBooks.{HaveSameTables, IsEmpty, LeavesNew, MakesBooks, MayBeMade}
+use Rattle.book_sessions.proofs.Words.{∥∥₁_map, Files, Ghosts, state, view, IsReady, FileStore}
+use Rattle.book_sessions.proofs.Words.{Trees, IsClean, Image, clean_of, HoldsBooks, trees_held}
+use Rattle.book_sessions.proofs.Words.{books_schema, AreLeftAsFound, IsStoredIn}
 use Rattle.book_sessions.specs.declared.ended.Ended.TheVariants.{Refused}
 use Rattle.book_sessions.proofs.SessionParts.{held_still, opened_rests}
 use Rattle.table_model.proofs.EventLemmas.{tables_follow}
-use Rattle.table_model.specs.TablesAfter.{new_tables}
-use Rattle.table_model.specs.TablesOf.{tables_of}
+use Rattle.table_model.specs.Words.{new_tables, tables_of}
 use Rattle.table_model.proofs.CallsLemmas.{calls_stay}
 use Rattle.table_model.proofs.ReadableLemmas.{calls_read}
 use Rattle.tree_tables.specs.Holds.{Holds}
 use Rattle.table_ledger.specs.LedgerState.{seen_of}
-use Rattle.table_ledger.specs.Ready.{IsStoredIn}
 use Rattle.table_ledger.specs.ReadyBooks.{LeavesTheLast, settled_on, book_of_stored}
 use Rattle.table_ledger.specs.declared.summary.Summary.{Summary}
 

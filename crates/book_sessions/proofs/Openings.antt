@@ -1,30 +1,24 @@
 -- What is known of the call that opened the files of a session.
 use Rattle.std.proofs.Common.{◌≡◌, IsTrue, Option, None, Some, Result, Ok, Err, refl, subst, sym}
-use Rattle.std.specs.Prelude.{IfErr, IfOk, IfSome, MatchOption}
-use Rattle.sqlite_disk.specs.declared.Disk.{Ghosts}
-use Rattle.sqlite_disk.specs.declared.files.Files.{Files}
-use Rattle.sqlite_store.specs.FileStore.{state, view, IsReady}
-use Rattle.sqlite_store.specs.declared.store.FileStore.{FileStore}
-use Rattle.sqlite_trees.proofs.Doubt.{clean_of}
-use Rattle.sqlite_trees.specs.View.{IsClean}
-use Rattle.sqlite_wal.specs.Reads.{AreClean}
-use Rattle.sqlite_wal.specs.Recovery.{Image}
+use Rattle.std.proofs.Common.{IfErr, IfOk, IfSome, MatchOption}
 use Rattle.book_trees.specs.FirstForm.{HoldsFirstForm, IsToldThis, IsUnopenedFirst, first_opening}
-use Rattle.book_trees.specs.Forms.{HoldNoNewer, HoldsThisForm}
-use Rattle.book_trees.specs.LedgerFiles.{AreEmptyTables, HoldsBooks, HoldsFirstBooks, HoldsNothing}
-use Rattle.book_trees.specs.LedgerFiles.{trees_held}
+use Rattle.book_trees.specs.Forms.{HoldNoNewer}
+use Rattle.book_trees.specs.LedgerFiles.{AreEmptyTables, HoldsFirstBooks, HoldsNothing}
 use Rattle.book_trees.specs.Looks.{IsUnopenedLook, look_opening}
-use Rattle.book_trees.specs.Refusals.{IsAsFound, IsBegun, IsRefusedWithout, IsUnopened, MayLeave}
-use Rattle.book_trees.specs.Schema.{books_schema, first_schema}
+use Rattle.book_trees.specs.Refusals.{IsAsFound, IsBegun, IsUnopened, MayLeave}
+use Rattle.book_trees.specs.Schema.{first_schema}
 use Rattle.book_trees.specs.StoreView.{ListsBooks}
-use Rattle.book_trees.specs.declared.closing.Closed.{Closed}
 use Rattle.book_trees.specs.declared.faults.OpenFault.{OpenFault}
 use Rattle.book_trees.specs.declared.first_form.FirstFault.{FirstFault}
 use Rattle.book_trees.specs.declared.first_form.FirstFault.TheVariants.{Already}
 use Rattle.book_trees.specs.declared.integrity.LookFault.{LookFault}
 use Rattle.book_trees.specs.declared.integrity.LookFault.TheVariants.{Pages}
-use Rattle.book_sessions.specs.Openings.{AreLeftAsFound, IsCarriedBy, IsCreation, IsFirstOpening}
-use Rattle.book_sessions.specs.Openings.{IsLooking, IsOpening}
+use Rattle.book_sessions.proofs.Words.{Ghosts, Files, state, view, IsReady, FileStore, clean_of}
+use Rattle.book_sessions.proofs.Words.{IsClean, AreClean, Image, HoldsThisForm, HoldsBooks}
+use Rattle.book_sessions.proofs.Words.{trees_held, IsRefusedWithout, books_schema, Closed}
+use Rattle.book_sessions.proofs.Words.{AreLeftAsFound}
+use Rattle.book_sessions.specs.Openings.{IsCarriedBy, IsCreation, IsFirstOpening, IsLooking}
+use Rattle.book_sessions.specs.Openings.{IsOpening}
 use Rattle.book_sessions.specs.Sessions.{OpenOnly}
 use Rattle.book_sessions.specs.declared.ended.Ended.{Ended}
 use Rattle.book_sessions.specs.declared.ended.Ended.TheVariants.{Refused}

@@ -1,37 +1,32 @@
 -- New books are continued: a look whether anything was submitted to them, and what is left.
 use Rattle.std.proofs.Common.{◌≡◌, ◌∙◌, Bool, true, false, List, Option, None, Some, Result, Ok}
-use Rattle.std.proofs.Common.{Err, IsTrue, length, ap, inl, inr, is_some, subst, sym}
-use Rattle.std.proofs.Common.{true≢false}
-use Rattle.std.proofs.lemmas.List.{length-map}
-use Rattle.std.proofs.Math.Logic.{∥∥₁_elim}
-use Rattle.std.specs.Prelude.{IfErr, IfOk}
-use Rattle.std.specs.Option.{option_map}
-use Rattle.sqlite_trees.specs.Tree.{Trees}
-use Rattle.sqlite_trees.specs.View.{View, IsClean}
+use Rattle.std.proofs.Common.{Err, IsTrue, length, ap, inl, inr, is_some, subst, sym, true≢false}
+use Rattle.std.proofs.Common.{IfErr, IfOk, option_map}
+use Rattle.sqlite_trees.specs.View.{View}
 use Rattle.sqlite_trees.specs.declared.error.StoreError.{StoreError}
-use Rattle.sqlite_trees.specs.declared.error.StoreError.TheVariants as store
+use Rattle.book_model.proofs.Std.{length-map}
 use Rattle.book_model.specs.Words.{Book, Naming}
-use Rattle.book_model.specs.declared.fault.LedgerFault.TheVariants as ledger
-use Rattle.table_model.specs.Tables.{Tables}
-use Rattle.table_model.specs.TablesOf.{tables_of}
-use Rattle.named_books.specs.declared.repository.RepositoryFault.{RepositoryFault}
+use Rattle.table_model.specs.Words.{Tables, tables_of}
 use Rattle.named_books.specs.declared.repository.RepositoryFault.TheVariants.{Exists, Ledger}
 use Rattle.tree_tables.proofs.Looking.{looks_also, was_clean}
 use Rattle.tree_tables.proofs.TheBook.{book_absent, book_held}
 use Rattle.tree_tables.specs.Answers.{FindsBook, ListsCloses, ListsTariffs}
-use Rattle.tree_tables.specs.Holds.{has_book}
 use Rattle.tree_tables.specs.States.{State, HasCleanDisk, Survives}
 use Rattle.tree_tables.specs.Steps.{Looks, Sees}
 use Rattle.tree_tables.specs.Stored.{book_entry, close_entry, tariff_of}
 use Rattle.tree_tables.specs.declared.book_row.StoredBook.{StoredBook}
 use Rattle.tree_tables.specs.declared.closed_rows.Close.{Close}
 use Rattle.tree_tables.specs.declared.tariff_rows.StoredTariff.{StoredTariff}
-use Rattle.book_restarts.specs.FileBooks.{RestsAt, StandsAt, file_names}
-use Rattle.book_sessions.specs.Causes.{HasFaultCause, IsResumedBy}
+use Rattle.book_restarts.specs.FileBooks.{RestsAt, StandsAt}
+use Rattle.book_sessions.proofs.Words.{∥∥₁_elim, Trees, IsClean, RepositoryFault, has_book}
+use Rattle.book_sessions.proofs.Words.{file_names, HasFaultCause, are_unused}
+use Rattle.book_sessions.specs.Causes.{IsResumedBy}
 use Rattle.book_sessions.specs.Faults.{store_fault}
 use Rattle.book_sessions.specs.NewBooks.{IsEmpty}
 use Rattle.book_sessions.specs.Stops.{StopKeepsTrees}
-use Rattle.book_sessions.specs.Unused.{SaysUnused, are_unused, unused_by}
+use Rattle.book_sessions.specs.Unused.{SaysUnused, unused_by}
+use Rattle.sqlite_trees.specs.declared.error.StoreError.TheVariants as store
+use Rattle.book_model.specs.declared.fault.LedgerFault.TheVariants as ledger
 
 -- what the row and the two lists say
 pub says_unused : (tables : Tables) (found : Option StoredBook) (book : StoredBook)

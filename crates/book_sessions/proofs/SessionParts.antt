@@ -1,36 +1,23 @@
 -- What a session leaves of files, part by part.
-use Rattle.std.proofs.Common.{◌≡◌, ◌∙◌, IsTrue, List, ◌++◌, ℕ, sym, ap, subst, inl, inr}
-use Rattle.std.proofs.Common.{Option, None, Some, Result, Ok, Err}
-use Rattle.std.proofs.Math.Logic.{∥∥₁_elim, ∥∥₁_map, ∥∥₁_prop}
-use Rattle.std.specs.Prelude.{IfSome}
-use Rattle.sqlite_disk.specs.declared.Disk.{Ghosts}
-use Rattle.sqlite_disk.specs.declared.files.Files.{Files}
+use Rattle.std.proofs.Common.{◌≡◌, ◌∙◌, IsTrue, List, ◌++◌, ℕ, sym, ap, subst, inl, inr, Option}
+use Rattle.std.proofs.Common.{None, Some, Result, Ok, Err, IfSome}
 use Rattle.sqlite_pool.specs.StoredLaws.{carried}
-use Rattle.sqlite_store.specs.FileStore.{state, view, recovers, IsReady}
+use Rattle.sqlite_store.specs.FileStore.{recovers}
 use Rattle.sqlite_store.specs.declared.catalog.Wanted.{Wanted}
-use Rattle.sqlite_store.specs.declared.store.FileStore.{FileStore}
-use Rattle.sqlite_trees.proofs.Doubt.{clean_of, no_doubt}
-use Rattle.sqlite_trees.specs.Tree.{Trees}
-use Rattle.sqlite_trees.specs.View.{IsClean}
-use Rattle.sqlite_wal.specs.Reads.{AreClean}
-use Rattle.sqlite_wal.specs.Recovery.{Image}
 use Rattle.book_model.specs.Words.{Book, Event, IsMadeByCalls, Naming}
-use Rattle.book_core.specs.Follow.{MakesAnswered}
-use Rattle.book_core.specs.Transition.{Transition, NoEvent}
+use Rattle.book_core.specs.Words.{MakesAnswered, Transition, NoEvent}
 use Rattle.book_trees.specs.Closing.{IsWithoutLog, LeavesLog, LeavesRows, MayBeFound}
-use Rattle.book_trees.specs.declared.closing.Closed.{Closed}
-use Rattle.book_trees.specs.LedgerFiles.{HoldsBooks, HoldsFile, HoldsTables, page_size, rows_held}
-use Rattle.book_trees.specs.LedgerFiles.{trees_held, without_log}
+use Rattle.book_trees.specs.LedgerFiles.{HoldsFile, HoldsTables, page_size, rows_held, without_log}
 use Rattle.book_trees.specs.Refusals.{IsAsFound}
-use Rattle.book_trees.specs.Schema.{books_schema}
 use Rattle.book_trees.proofs.UnusedLogs.{short_alone}
 use Rattle.table_ledger.specs.Commits.{IsAtRest}
-use Rattle.table_ledger.specs.Ready.{IsStoredIn}
-use Rattle.book_restarts.specs.FileBooks.{HoldsBook, LeavesBook}
-use Rattle.book_restarts.specs.FileBooks.{GoesOn, StandsAt, done_by}
+use Rattle.book_restarts.specs.FileBooks.{HoldsBook, LeavesBook, GoesOn, StandsAt, done_by}
 use Rattle.book_restarts.proofs.SessionLemmas.{book_goes_on, still_held}
-use Rattle.book_sessions.specs.Openings.{AreLeftAsFound}
-use Rattle.book_sessions.specs.Sessions.{IsFileAlone, MayFollow}
+use Rattle.book_sessions.proofs.Words.{∥∥₁_elim, ∥∥₁_map, ∥∥₁_prop, Ghosts, Files, state, view}
+use Rattle.book_sessions.proofs.Words.{IsReady, FileStore, clean_of, no_doubt, Trees, IsClean}
+use Rattle.book_sessions.proofs.Words.{AreClean, Image, Closed, HoldsBooks, trees_held}
+use Rattle.book_sessions.proofs.Words.{books_schema, IsStoredIn, AreLeftAsFound, MayFollow}
+use Rattle.book_sessions.specs.Sessions.{IsFileAlone}
 use Rattle.book_sessions.specs.Stops.{CloseLeaves, CloseLeavesRows, CloseTriesToMoveLog}
 use Rattle.book_sessions.specs.declared.ended.Ended.TheVariants.{Refused}
 use Rattle.book_sessions.specs.declared.ended.Ended.TheVariants as ended

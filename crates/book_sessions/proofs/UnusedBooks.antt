@@ -1,34 +1,25 @@
 -- Books to which nothing was submitted are those of no history.
-use Rattle.std.proofs.Common.{◌≡◌, ◌∙◌, ℕ, ℤ, suc, true, List, [], ◌∷◌, ◌++◌, ◌||◌}
-use Rattle.std.proofs.Common.{Option, Some, Result, Ok, Err, length, ap, arith, refl}
-use Rattle.std.proofs.Common.{subst, sym, true≢false, unwrap_or, length-append}
-use Rattle.std.specs.Prelude.{◌&&◌, ◌==◌, IfOk}
-use Rattle.std.specs.FinMap as fin
-use Rattle.std.specs.FinMap.{entries, len-empty, len-entries}
-use Rattle.std.specs.List.{list_any}
-use Rattle.std.specs.Ordering.{int_cmp, nat_cmp}
-use Rattle.std.proofs.Math.Logic.{∥∥₁_elim}
-use Rattle.std.proofs.lemmas.Bool.{eq-eqb, eqb-true}
+use Rattle.std.proofs.Common.{◌≡◌, ◌∙◌, ℕ, ℤ, suc, true, List, [], ◌∷◌, ◌++◌, ◌||◌, Option, Some}
+use Rattle.std.proofs.Common.{Result, Ok, Err, length, ap, arith, refl, subst, sym, true≢false}
+use Rattle.std.proofs.Common.{unwrap_or, length-append, ◌&&◌, ◌==◌, IfOk, int_cmp, nat_cmp, eq-eqb}
+use Rattle.std.proofs.Common.{eqb-true}
 use Rattle.std.proofs.lemmas.List.Elements.{All-pop}
-use Rattle.sqlite_wal.specs.Recovery.{Image}
-use Rattle.book_model.proofs.FilterLemmas.{no_length}
-use Rattle.book_model.proofs.RecordSets.{first_of, has_with, is, is_itself, second_of}
+use Rattle.book_model.proofs.Std.{entries, len-empty, len-entries, list_any}
+use Rattle.book_model.proofs.Lemmas.{no_length, first_of, has_with, is, is_itself, second_of}
 use Rattle.book_model.specs.Words.{AcceptedTerms, Book, Choice, Event, Naming, Records}
 use Rattle.book_model.specs.Words.{PeriodClosed, RecordChosen, RecordKept, RulingGiven}
 use Rattle.book_model.specs.Words.{SecondRuleAdopted, TariffAccepted, book_after, has, members}
-use Rattle.book_model.specs.Words.{new_book, open_by}
-use Rattle.book_model.specs.Sound.{IsChoiceOf}
-use Rattle.book_trees.specs.LedgerFiles.{HoldsBooks, trees_held}
+use Rattle.book_model.specs.Words.{new_book, open_by, IsChoiceOf}
 use Rattle.table_model.proofs.RulingsReading.{tariffs_kept}
 use Rattle.table_model.proofs.UnderNumbers.{entries-numbers}
-use Rattle.table_model.specs.Readable.{IsReadable}
-use Rattle.table_model.specs.Tables.{Tables}
-use Rattle.table_model.specs.TablesAfter.{new_tables}
-use Rattle.table_model.specs.TablesOf.{close_entries, tables_of, tariff_entries}
-use Rattle.table_ledger.specs.Ready.{IsStoredIn}
+use Rattle.table_model.specs.Words.{IsReadable, Tables, new_tables, close_entries, tables_of}
+use Rattle.table_model.specs.Words.{tariff_entries}
 use Rattle.book_restarts.specs.FileBooks.{HoldsHistory}
-use Rattle.book_sessions.specs.Unused.{are_unused, unused_by}
+use Rattle.book_sessions.proofs.Words.{∥∥₁_elim, Image, HoldsBooks, trees_held, IsStoredIn}
+use Rattle.book_sessions.proofs.Words.{are_unused}
+use Rattle.book_sessions.specs.Unused.{unused_by}
 use Rattle.book_sessions.proofs.NewParts.{new_follow}
+use Rattle.std.specs.FinMap as fin
 
 -- there are as many rows as tariffs
 tariffs_many : (tariffs : List AcceptedTerms) → length (tariff_entries tariffs) ≡ length tariffs

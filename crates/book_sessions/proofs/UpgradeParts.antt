@@ -1,63 +1,51 @@
 -- Books of the first form that were brought over, or not: what is written of them, and what is
 -- found of their files.
-use Rattle.std.proofs.Common.{◌≡◌, ◌∙◌, ◌<◌, ℕ, List, [], IsTrue, Option, None, Some, Result, Ok, Err}
-use Rattle.std.proofs.Common.{false, inl, inr, refl, subst, sym, ap, arith, true≢false}
-use Rattle.std.proofs.Math.Logic.{∥∥₁_elim, ∥∥₁_map, ∥∥₁_prop}
+use Rattle.std.proofs.Common.{◌≡◌, ◌∙◌, ◌<◌, ℕ, List, [], IsTrue, Option, None, Some, Result, Ok}
+use Rattle.std.proofs.Common.{Err, false, inl, inr, refl, subst, sym, ap, arith, true≢false, ◌==◌}
+use Rattle.std.proofs.Common.{IfErr, IfOk, IfSome, IsOk, IsSome, MatchOption}
 use Rattle.std.proofs.lemmas.Bool.{cases_Bool}
-use Rattle.std.proofs.lemmas.Bool.Decides.{nat_tests}
-use Rattle.std.specs.Prelude.{◌==◌, IfErr, IfOk, IfSome, IsOk, IsSome, MatchOption}
-use Rattle.sqlite_disk.specs.declared.Disk.{Ghosts}
-use Rattle.sqlite_disk.specs.declared.files.Files.{Files}
-use Rattle.sqlite_store.specs.FileStore.{recovers, state, view, IsReady}
+use Rattle.sqlite_store.specs.FileStore.{recovers}
 use Rattle.sqlite_store.specs.Listing.{all_trees, listed_from}
-use Rattle.sqlite_store.specs.declared.store.FileStore.{FileStore}
-use Rattle.sqlite_trees.proofs.Doubt.{clean_of}
 use Rattle.sqlite_trees.specs.Objects.{IsListed, catalog_tree, with_version}
-use Rattle.sqlite_trees.specs.Tree.{Trees}
 use Rattle.sqlite_trees.specs.View.{IsOrdered, IsShaped, View}
 use Rattle.sqlite_trees.specs.declared.store.Shape.{Shape}
-use Rattle.sqlite_wal.specs.Reads.{AreClean}
-use Rattle.sqlite_wal.specs.Recovery.{Image}
+use Rattle.book_model.proofs.Std.{nat_tests}
 use Rattle.book_model.specs.Words.{Book, Event, Naming, book_after}
-use Rattle.named_books.specs.declared.repository.RepositoryFault.{RepositoryFault}
-use Rattle.table_model.specs.Tables.{Tables}
-use Rattle.table_model.specs.TablesOf.{tables_of}
+use Rattle.table_model.specs.Words.{Tables, tables_of}
 use Rattle.tree_tables.specs.Forms.{this_form}
 use Rattle.tree_tables.specs.Holds.{Holds}
 use Rattle.tree_tables.specs.Steps.{Changes}
 use Rattle.table_ledger.proofs.FirstDetails.{details_are}
 use Rattle.table_ledger.specs.FirstForm.{IsStoredInFirst, RestsAtFirst, StandsAtFirst, uncounted}
 use Rattle.table_ledger.specs.FirstForm.{with_details}
-use Rattle.table_ledger.specs.Ready.{IsStoredIn}
 use Rattle.book_trees.proofs.FirstTrees.{more_listed}
 use Rattle.book_trees.specs.FirstForm.{AddsDetails, HasFirstTrees, HoldsFirstForm, IsUnopenedFirst}
 use Rattle.book_trees.specs.FirstForm.{IsToldThis, ListMore, first_opening}
 use Rattle.book_trees.specs.Forms.{HoldNoNewer, IsSaid}
-use Rattle.book_trees.specs.LedgerFiles.{HoldsBooks, HoldsFile, HoldsFirstBooks, rows_held}
-use Rattle.book_trees.specs.LedgerFiles.{trees_held}
-use Rattle.book_trees.specs.Refusals.{IsRefusedWithout}
+use Rattle.book_trees.specs.LedgerFiles.{HoldsFile, HoldsFirstBooks, rows_held}
 use Rattle.book_trees.specs.Schema.{first_schema}
 use Rattle.book_trees.specs.StoreView.{ListsBooks}
-use Rattle.book_trees.specs.declared.closing.Closed.{Closed}
 use Rattle.book_trees.specs.declared.first_form.FirstFault.{FirstFault}
-use Rattle.book_trees.specs.declared.first_form.FirstFault.TheVariants as fault
 use Rattle.book_sessions.specs.Faults.{first_answer}
-use Rattle.book_restarts.specs.FileBooks.{file_names}
 use Rattle.named_books.specs.declared.repository.Upgraded.{Upgraded}
-use Rattle.book_sessions.specs.Causes.{HasFaultCause, HaveNoFirstRow}
-use Rattle.book_sessions.specs.Openings.{AreLeftAsFound}
-use Rattle.book_sessions.specs.Sessions.{MayFollow}
-use Rattle.book_sessions.specs.Upgrades.{BringsOver, HoldsFirstBook, HoldsFirstHistory, HoldsUpgraded}
-use Rattle.book_sessions.specs.Upgrades.{AreUpgraded, HoldsWhatIsTold}
-use Rattle.book_sessions.specs.Upgrades.{IsBroughtOver, LeavesUpgraded, MayBringOver}
-use Rattle.book_sessions.specs.Upgrades.{RestsBroughtOver, TellsThisForm, upgrade_answer}
+use Rattle.book_sessions.proofs.Words.{∥∥₁_elim, ∥∥₁_map, ∥∥₁_prop, Ghosts, Files, state, view}
+use Rattle.book_sessions.proofs.Words.{IsReady, FileStore, clean_of, Trees, AreClean, Image}
+use Rattle.book_sessions.proofs.Words.{RepositoryFault, IsStoredIn, HoldsBooks, trees_held}
+use Rattle.book_sessions.proofs.Words.{IsRefusedWithout, Closed, file_names, HasFaultCause}
+use Rattle.book_sessions.proofs.Words.{AreLeftAsFound, MayFollow}
+use Rattle.book_sessions.specs.Causes.{HaveNoFirstRow}
+use Rattle.book_sessions.specs.Upgrades.{BringsOver, HoldsFirstBook, HoldsFirstHistory}
+use Rattle.book_sessions.specs.Upgrades.{HoldsUpgraded, AreUpgraded, HoldsWhatIsTold, IsBroughtOver}
+use Rattle.book_sessions.specs.Upgrades.{LeavesUpgraded, MayBringOver, RestsBroughtOver}
+use Rattle.book_sessions.specs.Upgrades.{TellsThisForm, upgrade_answer}
 use Rattle.book_sessions.specs.declared.ended.Ended.TheVariants.{Refused}
-use Rattle.book_sessions.specs.declared.ended.Ended.TheVariants as ended
 use Rattle.book_sessions.proofs.NewParts.{said_tables}
 use Rattle.book_sessions.proofs.Causes.{first_cause, refused_this}
 use Rattle.book_sessions.proofs.Openings.{some_so}
 use Rattle.book_sessions.proofs.SessionParts.{found_clean, opened_rests, refused_goes_on}
 use Rattle.book_sessions.proofs.SessionParts.{refused_tables}
+use Rattle.book_trees.specs.declared.first_form.FirstFault.TheVariants as fault
+use Rattle.book_sessions.specs.declared.ended.Ended.TheVariants as ended
 
 -- ---- what is written
 

@@ -1,38 +1,37 @@
 -- One request of a client, from books that are open only while they are asked.
-use Rattle.std.proofs.Common.{◌≡◌, ◌∙◌, ◌<◌, Bool, true, false, List, [], ◌++◌, ℕ, refl, sym}
-use Rattle.std.proofs.Common.{ap, subst, inl, inr, Option, Result, Ok, Err, true≢false}
+use Rattle.std.proofs.Common.{◌≡◌, ◌∙◌, ◌<◌, Bool, true, false, List, [], ◌++◌, ℕ, refl, sym, ap}
+use Rattle.std.proofs.Common.{subst, inl, inr, Option, Result, Ok, Err, true≢false}
 use Rattle.streams.specs.declared.source.Source.{Source}
 use Rattle.streams.specs.Sources.{has_ended, has_failed, reader_of}
 use Rattle.book_model.specs.Words.{Book, Event}
-use Rattle.book_core.specs.Ledgers.{Seen}
-use Rattle.book_core.specs.Transition.{IsTransition, NoEvent}
-use Rattle.book_core.proofs.TransitionLemmas.{work_as}
+use Rattle.book_core.specs.Words.{Seen, IsTransition, NoEvent}
 use Rattle.book_reports.specs.declared.streamed_details.DetailReport.{DetailReport}
 use Rattle.book_http.specs.declared.answer.Answer.{Answer}
 use Rattle.book_http.specs.declared.requested.Requested.{Requested}
-use Rattle.book_http.specs.declared.requested.Requested.TheVariants as requested
 use Rattle.book_http.specs.declared.served.Served.{Served}
-use Rattle.book_http.specs.declared.served.Served.TheVariants as served
 use Rattle.book_http.specs.declared.status.Status.TheVariants.{Unavailable}
 use Rattle.book_http.specs.Answer.{RefusesRequest, most_gathered}
-use Rattle.book_http.specs.Reads.{AreDue, IsDue, ReadOutcome, ReadsOn}
-use Rattle.book_http.specs.Reads.{bytes_read, ended_after, failed_after}
+use Rattle.book_http.specs.Reads.{AreDue, IsDue, ReadOutcome, ReadsOn, bytes_read, ended_after}
+use Rattle.book_http.specs.Reads.{failed_after}
 use Rattle.book_http.specs.Replies.{Reply, refusal, reply_of}
 use Rattle.book_http.specs.Requested.{AnswersRequest, AreAsking, request_seen}
-use Rattle.book_http.specs.Served.{IsSent, IsSentAsRead, SendsReplyAsRead}
-use Rattle.book_http.specs.Served.{is_read_fault, is_unanswered}
+use Rattle.book_http.specs.Served.{IsSent, IsSentAsRead, SendsReplyAsRead, is_read_fault}
+use Rattle.book_http.specs.Served.{is_unanswered}
 use Rattle.book_http.proofs.ServeLemmas.{bytes_answered}
 use Rattle.book_http.proofs.StreamLemmas.{AnswersSized}
-use Rattle.named_books.specs.declared.repository.RepositoryFault.{RepositoryFault}
-use Rattle.named_books.specs.declared.repository.RepositoryFault.TheVariants as shelf
-use Rattle.named_books.specs.Shelves.{ComesBy, IsDoneTo, IsOpened, IsUntouched, Shelf}
-use Rattle.named_books.proofs.ShelfLemmas.{done_as, untouched}
+use Rattle.named_books.specs.Shelves.{IsUntouched}
+use Rattle.named_books.proofs.ShelfLemmas.{untouched}
 use Rattle.chargectl.specs.declared.client_requests.Told.{Told}
-use Rattle.chargectl.specs.declared.client_requests.Told.TheVariants as tells
 use Rattle.chargectl.specs.ClientRequests.{AsksOpen, ComesOpen, EndsBy, EndsUnseen, FailsBefore}
 use Rattle.chargectl.specs.ClientRequests.{IsAnsweredFrom, IsReplied, IsServedByReads, IsServedFrom}
 use Rattle.chargectl.specs.ClientRequests.{SendsOpen, StreamsAnswer, away_reply, is_streamed}
 use Rattle.chargectl.specs.Serving.{AnswersSome, Fits, Replies, ServesOne, is_answered}
+use Rattle.chargectl.proofs.Words.{work_as, RepositoryFault, ComesBy, IsDoneTo, IsOpened, Shelf}
+use Rattle.chargectl.proofs.Words.{done_as}
+use Rattle.book_http.specs.declared.requested.Requested.TheVariants as requested
+use Rattle.book_http.specs.declared.served.Served.TheVariants as served
+use Rattle.named_books.specs.declared.repository.RepositoryFault.TheVariants as shelf
+use Rattle.chargectl.specs.declared.client_requests.Told.TheVariants as tells
 
 -- ---- what is sent
 

@@ -1,35 +1,25 @@
 -- What commands ask, and what they tell.
-use Rattle.std.proofs.Common.{◌≡◌, List, ℕ, Option, Some, None, Result, Ok, Err}
-use Rattle.std.proofs.Common.{◌⊎◌, sym, subst, refl, take, length, inl, inr}
+use Rattle.std.proofs.Common.{◌≡◌, List, ℕ, Option, Some, None, Result, Ok, Err, ◌⊎◌, sym, subst}
+use Rattle.std.proofs.Common.{refl, take, length, inl, inr, IsErr, IsErrAnd}
 use Rattle.std.proofs.KnownBytes.{Appends-kept}
 use Rattle.std.proofs.Math.Seq.{take-length}
-use Rattle.std.specs.Prelude.{IsErr, IsErrAnd}
-use Rattle.std.specs.Io.KnownBytes.{Appends, Keeps}
-use Rattle.smf_text.specs.Day.{day_of_text_of}
+use Rattle.std.specs.Io.KnownBytes.{Appends}
 use Rattle.streams.specs.InputOutput.{Input, Output}
-use Rattle.book_model.specs.declared.fault.LedgerFault.{LedgerFault}
-use Rattle.book_core.specs.Ledgers.{Books}
-use Rattle.book_core.specs.Transition.{IsTransition}
-use Rattle.book_core.proofs.TransitionLemmas.{work_as}
-use Rattle.book_reports.specs.declared.fault.ReportFault.{ReportFault}
+use Rattle.book_model.specs.Words.{day_of_text_of}
+use Rattle.book_core.specs.Words.{Books, IsTransition}
 use Rattle.book_reports.specs.Reports.{IsWritten}
-use Rattle.named_books.specs.declared.repository.RepositoryFault.{RepositoryFault}
-use Rattle.office.specs.declared.request.Answer.{Answer}
-use Rattle.office.specs.declared.request.Asked.{Asked}
-use Rattle.office.specs.Requests.{Asks, IsAsked, response_by}
-use Rattle.named_books.specs.Shelves.{Shelf}
+use Rattle.office.specs.Requests.{Asks, IsAsked}
 use Rattle.named_books.proofs.ShelfLemmas.{untouched}
 use Rattle.command_line.specs.declared.request.BookRequest.{BookRequest}
-use Rattle.command_line.specs.declared.request.BookRequest.TheVariants as to_books
-use Rattle.command_line.specs.declared.request.Ruling.TheVariants as ruling
 use Rattle.program_output.specs.Names.{name_in}
-use Rattle.without_books.specs.declared.command_fault.CommandFault.{CommandFault}
 use Rattle.without_books.specs.Inputs.{Files}
 use Rattle.chargectl.specs.declared.answered.Answered.{Answered}
-use Rattle.chargectl.specs.Commands.{AsksNothing, AsksOnceBy, ComesOf}
-use Rattle.chargectl.specs.Commands.{IsFileFault, IsShelfFault}
-use Rattle.chargectl.specs.Commands.{IsTariffFault, IsTextFault, IsWordFault, report_of}
-use Rattle.chargectl.specs.Commands.{what_if_of}
+use Rattle.chargectl.specs.Commands.{AsksNothing, AsksOnceBy, ComesOf, IsFileFault, IsShelfFault}
+use Rattle.chargectl.specs.Commands.{IsTariffFault, IsTextFault, IsWordFault, report_of, what_if_of}
+use Rattle.chargectl.proofs.Words.{Keeps, LedgerFault, work_as, ReportFault, RepositoryFault}
+use Rattle.chargectl.proofs.Words.{Answer, Asked, response_by, Shelf, CommandFault}
+use Rattle.command_line.specs.declared.request.BookRequest.TheVariants as to_books
+use Rattle.command_line.specs.declared.request.Ruling.TheVariants as ruling
 
 -- a request with its answer
 pub asked_once : (asked : Asked) (had : Option (List ℕ)) (answer : Result Answer LedgerFault)

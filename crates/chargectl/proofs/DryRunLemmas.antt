@@ -2,21 +2,17 @@
 -- of work.
 use Rattle.std.proofs.Common.{◌≡◌, ◌∙◌, ◌⊎◌, ℕ, Bool, false, true≢false, List, [], ◌++◌, append-nil}
 use Rattle.std.proofs.Common.{Option, None, Some, Result, Ok, Err, ap, inl, inr, refl, subst, sym}
-use Rattle.std.specs.Prelude.{IfOk, IsErr, IsErrAnd, Vec, string_bytes}
-use Rattle.std.specs.Global.{Global}
+use Rattle.std.proofs.Common.{IfOk, IsErr, IsErrAnd, Vec, string_bytes, Global}
 use Rattle.book_model.specs.declared.answer.Ruled.{Ruled}
-use Rattle.book_model.specs.declared.fault.LedgerFault.{LedgerFault}
 use Rattle.book_model.specs.declared.fault.LedgerFault.TheVariants.{Memory}
-use Rattle.book_model.specs.Words.{Book, Event, Naming, Outcome, adopt_outcome, after_all, after_any}
-use Rattle.book_model.specs.Words.{choose_outcome, close_outcome, tariff_answer, tariff_outcome}
-use Rattle.book_core.specs.Calls.{Calls, IsCall, listed}
-use Rattle.book_core.specs.Ledgers.{Seen}
-use Rattle.book_core.specs.Transition.{IsTransition, Then, Transition}
+use Rattle.book_model.specs.Words.{Book, Event, Naming, Outcome, adopt_outcome, after_all}
+use Rattle.book_model.specs.Words.{after_any, choose_outcome, close_outcome, tariff_answer}
+use Rattle.book_model.specs.Words.{tariff_outcome}
+use Rattle.book_core.specs.Words.{Calls, IsCall, listed, Seen, IsTransition, Then, Transition}
 use Rattle.book_core.proofs.FollowLemmas.{called_events}
 use Rattle.book_core.proofs.TransitionLemmas.{Fails, failed, fails, refused, to_reopen, wanting}
-use Rattle.book_core.proofs.TransitionLemmas.{work_as, work_then}
+use Rattle.book_core.proofs.TransitionLemmas.{work_then}
 use Rattle.report_texts.specs.declared.dry_runs.TriedRuling.{TriedRuling}
-use Rattle.report_texts.specs.declared.dry_runs.TriedRuling.TheVariants as tried
 use Rattle.report_texts.specs.declared.figures.Figures.{Figures}
 use Rattle.report_texts.specs.DryRuns.{dry_answer, dry_answered, dry_run_of, dry_run_text}
 use Rattle.report_texts.specs.Figures.{figures, period_open}
@@ -26,28 +22,25 @@ use Rattle.book_reports.specs.BookTexts.{shown_by}
 use Rattle.book_reports.specs.Figures.{figures_outcome, open_outcome}
 use Rattle.book_reports.proofs.ReadingLemmas.{IsReading, goes_on}
 use Rattle.book_reports.proofs.WritingLemmas.{same_value}
-use Rattle.office.specs.declared.request.Asked.{Asked}
-use Rattle.office.specs.declared.request.Asked.TheVariants as asks
-use Rattle.named_books.specs.declared.repository.RepositoryFault.{RepositoryFault}
-use Rattle.named_books.specs.Shelves.{ComesBy}
-use Rattle.office.specs.declared.request.Answer.{Answer}
-use Rattle.office.specs.declared.request.Answer.TheVariants as answers
 use Rattle.office.specs.Outcomes.{AskedOutcome, is_hindered}
-use Rattle.office.specs.Requests as office
-use Rattle.office.specs.Requests.{IsAskableRuling, Response, Text, response_by, response_of}
-use Rattle.office.specs.Requests.{response_outcome}
+use Rattle.office.specs.Requests.{IsAskableRuling, Response, Text, response_of, response_outcome}
 use Rattle.office.specs.Runs.{AsksWithoutReader, dump_here}
 use Rattle.office.proofs.LawLemmas.{asks_done}
 use Rattle.command_line.specs.declared.request.BookRequest.{BookRequest}
-use Rattle.without_books.specs.declared.command_fault.CommandFault.{CommandFault}
 use Rattle.without_books.specs.declared.notice.Notice.{Notice}
 use Rattle.without_books.specs.Inputs.{Files}
 use Rattle.chargectl.specs.declared.dated_rulings.DatedAnswer.{DatedAnswer}
 use Rattle.chargectl.specs.Commands.{AsksNothing}
 use Rattle.chargectl.specs.DryRuns.{IsAskedFor, IsDryAnswer, IsNamedBy, IsRuled, IsShown, IsUnnamed}
-use Rattle.chargectl.specs.DryRuns.{ShowsDry, TellsDry, TriesOnce, TriesOnceBy, dated_by, ruled_told}
-use Rattle.chargectl.specs.DryRuns.{tariff_tried}
+use Rattle.chargectl.specs.DryRuns.{ShowsDry, TellsDry, TriesOnce, TriesOnceBy, dated_by}
+use Rattle.chargectl.specs.DryRuns.{ruled_told, tariff_tried}
 use Rattle.chargectl.specs.Far.{far_notice, far_outcome, is_far_asked, notice_by}
+use Rattle.chargectl.proofs.Words.{LedgerFault, work_as, Asked, RepositoryFault, ComesBy, Answer}
+use Rattle.chargectl.proofs.Words.{response_by, CommandFault}
+use Rattle.report_texts.specs.declared.dry_runs.TriedRuling.TheVariants as tried
+use Rattle.office.specs.declared.request.Asked.TheVariants as asks
+use Rattle.office.specs.declared.request.Answer.TheVariants as answers
+use Rattle.office.specs.Requests as office
 
 -- an answer is no refusal
 pub no_refusal : {A : Type 0} {value : A} {fault : LedgerFault}

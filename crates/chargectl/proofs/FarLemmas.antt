@@ -1,33 +1,26 @@
 -- Rulings of a day: the newest day is read, and then the ruling is asked for.
-use Rattle.std.proofs.Common.{◌≡◌, ◌∙◌, Bool, false, List, [], ◌++◌, append-nil, refl, sym, ap, subst}
-use Rattle.std.proofs.Common.{Option, None, Some, Result, Ok, Err, ◌⊎◌, inl, inr, ℕ, ℤ}
-use Rattle.std.specs.Result.{IsErrAnd}
+use Rattle.std.proofs.Common.{◌≡◌, ◌∙◌, Bool, false, List, [], ◌++◌, append-nil, refl, sym, ap}
+use Rattle.std.proofs.Common.{subst, Option, None, Some, Result, Ok, Err, ◌⊎◌, inl, inr, ℕ, ℤ}
+use Rattle.std.proofs.Common.{IsErrAnd}
 use Rattle.std.proofs.lemmas.Result.{err_from_is_err_and}
 use Rattle.streams.specs.InputOutput.{Input, ReaderSeen}
-use Rattle.book_model.specs.declared.fault.LedgerFault.{LedgerFault}
 use Rattle.book_model.specs.declared.fault.LedgerFault.TheVariants.{Memory, Store, Reopen}
 use Rattle.book_model.specs.Words.{Book, Event, Naming, Outcome, after_all}
-use Rattle.book_core.specs.Calls.{Calls, IsCall}
-use Rattle.book_core.specs.Ledgers.{Seen}
-use Rattle.book_core.specs.Transition.{IsTransition, Then}
-use Rattle.book_core.proofs.TransitionLemmas.{work_as, work_then}
+use Rattle.book_core.specs.Words.{Calls, IsCall, Seen, IsTransition, Then}
+use Rattle.book_core.proofs.TransitionLemmas.{work_then}
 use Rattle.book_reports.specs.declared.figures.OpenPeriod.{OpenPeriod}
 use Rattle.book_reports.specs.Figures.{open_outcome}
 use Rattle.book_reports.proofs.ReadingLemmas.{IsReading, Tells, goes_on, read_as, read_then}
 use Rattle.book_reports.proofs.WritingLemmas.{same_value}
-use Rattle.named_books.specs.declared.repository.RepositoryFault.{RepositoryFault}
-use Rattle.named_books.specs.declared.repository.RepositoryFault.TheVariants.{Unseen}
-use Rattle.office.specs.declared.request.Answer.{Answer}
-use Rattle.office.specs.declared.request.Asked.{Asked}
 use Rattle.office.specs.declared.request.Asked.TheVariants.{Tariff, Close, Choose, Adopt}
 use Rattle.office.specs.Requests.{Asks, Gives, IsAskableRuling, IsAskableUnread, no_dump}
-use Rattle.office.specs.Requests.{response_by}
-use Rattle.named_books.specs.Shelves.{IsDoneTo, IsOpened, IsThere, Shelf}
-use Rattle.named_books.proofs.ShelfLemmas.{done_as}
+use Rattle.named_books.specs.Shelves.{IsThere}
 use Rattle.chargectl.specs.declared.dated_rulings.DatedAnswer.{DatedAnswer}
 use Rattle.chargectl.specs.Commands.{AsksDated, AsksDatedBy, AsksOnceBy, answer_told}
 use Rattle.chargectl.specs.Far.{day_asked, far_on_outcome, far_outcome, is_far_asked, is_far_on}
 use Rattle.chargectl.specs.Far.{notice_by}
+use Rattle.chargectl.proofs.Words.{LedgerFault, work_as, RepositoryFault, Unseen, Answer, Asked}
+use Rattle.chargectl.proofs.Words.{response_by, IsDoneTo, IsOpened, Shelf, done_as}
 
 -- a ruling may be asked for with any reader
 pub ruling_unread : (asked : Asked) → IsAskableRuling asked → IsAskableUnread asked

@@ -1,43 +1,31 @@
 -- Commands, one after the other, and the history that they make.
 use Rattle.std.proofs.Common.{◌≡◌, ◌≢◌, ◌∙◌, ◌⊎◌, Bool, true, false, true≢false, ℕ, List, [], ◌∷◌}
-use Rattle.std.proofs.Common.{◌++◌, Option, Some, None, Result, Ok, Err, ap, inl, inr, refl, subst, sym}
-use Rattle.std.specs.Prelude.{IfErr, IfOk}
-use Rattle.std.specs.Cmp.Lexicographic.{bytes_decides}
+use Rattle.std.proofs.Common.{◌++◌, Option, Some, None, Result, Ok, Err, ap, inl, inr, refl, subst}
+use Rattle.std.proofs.Common.{sym, IfErr, IfOk}
 use Rattle.std.specs.declared.alloc.AllocError.{AllocError}
-use Rattle.streams.specs.Failures.{HasFailed}
-use Rattle.book_model.specs.Records.{same_bytes}
-use Rattle.book_model.specs.declared.fault.LedgerFault.{LedgerFault}
+use Rattle.book_model.proofs.Std.{bytes_decides}
+use Rattle.book_model.specs.Words.{same_bytes, Book, Event, IsMadeByCalls, Naming, Outcome}
+use Rattle.book_model.specs.Words.{book_after, book_of}
 use Rattle.book_model.specs.declared.fault.LedgerFault.TheVariants.{Memory, Store, Reopen}
-use Rattle.book_model.specs.Words.{Book, Event, IsMadeByCalls, Naming, Outcome, book_after, book_of}
-use Rattle.book_core.specs.Calls.{Calls, listed}
-use Rattle.book_model.proofs.StepLemmas.{books_follow_history}
-use Rattle.book_core.specs.Follow.{MakesAnswered}
-use Rattle.book_core.specs.Transition.{Transition, NoEvent}
+use Rattle.book_core.specs.Words.{Calls, listed, MakesAnswered, Transition, NoEvent}
+use Rattle.book_model.proofs.Lemmas.{books_follow_history}
 use Rattle.book_audit.specs.Copies.{IsAudited}
 use Rattle.book_audit.specs.declared.audited.Audited.{Audited}
 use Rattle.book_audit.specs.declared.audited.Audited.TheVariants.{Sound, Unsound}
-use Rattle.book_reports.specs.declared.fault.ReportFault.{ReportFault}
 use Rattle.book_reports.specs.StreamedAnswers.{WritesAnswerUntil, WritesUntilOrRefuses}
 use Rattle.book_core.proofs.FollowLemmas.{none_answered}
 use Rattle.office.specs.declared.choosing.Chosen.{Chosen}
-use Rattle.named_books.specs.declared.repository.RepositoryFault.{RepositoryFault}
-use Rattle.named_books.specs.declared.repository.RepositoryFault.TheVariants.{Unseen}
-use Rattle.office.specs.declared.request.Answer.{Answer}
-use Rattle.office.specs.declared.request.Asked.{Asked}
 use Rattle.office.specs.declared.request.Asked.TheVariants.{Import, ImportBytes, Report, WhatIf}
 use Rattle.office.specs.Outcomes.{is_hindered}
-use Rattle.office.specs.Requests.{Asks, Dump, Response, response_by}
-use Rattle.named_books.specs.Shelves.{ComesBy, Shelf, IsDoneTo, IsOpened, IsTried, IsUntouched}
+use Rattle.office.specs.Requests.{Asks, Dump, Response}
+use Rattle.named_books.specs.Shelves.{IsTried, IsUntouched}
 use Rattle.office.proofs.ChoiceLemmas.{choices_done}
 use Rattle.office.proofs.LawLemmas.{asks_done}
 use Rattle.command_line.specs.declared.request.BookRequest.{BookRequest}
-use Rattle.command_line.specs.declared.request.BookRequest.TheVariants as asks
 use Rattle.command_line.specs.declared.request.Request.{Request}
-use Rattle.command_line.specs.declared.request.Request.TheVariants as request
 use Rattle.command_line.specs.declared.request.Ruling.{Ruling}
 use Rattle.command_line.specs.declared.fault.ArgumentFault.{ArgumentFault}
 use Rattle.program_output.specs.declared.status.Status.{Status}
-use Rattle.without_books.specs.declared.command_fault.CommandFault.{CommandFault}
 use Rattle.without_books.specs.declared.ended.Ended.{Ended}
 use Rattle.without_books.specs.Faults.{settled_as}
 use Rattle.without_books.specs.Inputs.{Files}
@@ -51,12 +39,11 @@ use Rattle.chargectl.specs.Commands.{AsksAndTells, AsksNothing, AsksOnceBy, Come
 use Rattle.chargectl.specs.Commands.{may_change, once_answered}
 use Rattle.chargectl.specs.Audits.{AuditsBooks, BacksUp}
 use Rattle.chargectl.specs.CommandLaws.{AreCommanded, AskedBy, AsksOfHistory, AuditsHistoryBy}
-use Rattle.chargectl.specs.CommandLaws.{AuditsOf, Commanded}
-use Rattle.chargectl.specs.CommandLaws.{ChoicesFollow, CommandsFollowHistory, DoesToHistory, Follows}
-use Rattle.chargectl.specs.CommandLaws.{IsListed, LeaveHistory, ListBy, ListOfHistory, ListsHistoryBy}
-use Rattle.chargectl.specs.CommandLaws.{ListsAskedOfHistory, ListsOfHistory, OpenedSo, RunsOn}
-use Rattle.chargectl.specs.CommandLaws.{ServesEach, ServesHistoryBy}
-use Rattle.chargectl.specs.CommandLaws.{TriedBy, TriesOfHistory, place_after}
+use Rattle.chargectl.specs.CommandLaws.{AuditsOf, Commanded, ChoicesFollow, CommandsFollowHistory}
+use Rattle.chargectl.specs.CommandLaws.{DoesToHistory, Follows, IsListed, LeaveHistory, ListBy}
+use Rattle.chargectl.specs.CommandLaws.{ListOfHistory, ListsHistoryBy, ListsAskedOfHistory}
+use Rattle.chargectl.specs.CommandLaws.{ListsOfHistory, OpenedSo, RunsOn, ServesEach}
+use Rattle.chargectl.specs.CommandLaws.{ServesHistoryBy, TriedBy, TriesOfHistory, place_after}
 use Rattle.chargectl.specs.DryRuns.{ComesOfDryRun, ShowsDry, TriesAndTells, TriesOnceBy}
 use Rattle.chargectl.specs.Requests.{Answering, Does, DoesOrRefuses, IsServiceFault, ServesBy}
 use Rattle.chargectl.specs.Requests.{SettlesBy}
@@ -65,6 +52,11 @@ use Rattle.chargectl.specs.StreamedLists.{listing_answered}
 use Rattle.chargectl.specs.Upgrades.{UpgradesBy}
 use Rattle.chargectl.proofs.CommandLemmas.{either_as, nothing_as, shelf_as}
 use Rattle.chargectl.proofs.ServingLemmas.{each_answered, turn_done}
+use Rattle.chargectl.proofs.Words.{HasFailed, LedgerFault, ReportFault, RepositoryFault, Unseen}
+use Rattle.chargectl.proofs.Words.{Answer, Asked, response_by, ComesBy, Shelf, IsDoneTo, IsOpened}
+use Rattle.chargectl.proofs.Words.{CommandFault}
+use Rattle.command_line.specs.declared.request.BookRequest.TheVariants as asks
+use Rattle.command_line.specs.declared.request.Request.TheVariants as request
 
 by_test : {P : Type 0} (is : Bool) → (is ≡ true → P) → (P → is ≡ true) → P ⊎ (P → ⊥)
 by_test true same back = inl (same refl)

@@ -1,33 +1,30 @@
 -- Lists of names that a reader gives, and choices by them.
 use Rattle.std.proofs.Common.{◌≡◌, ◌∙◌, List, [], ◌∷◌, ◌++◌, ℕ, Option, Some, None, Result, Ok, Err}
-use Rattle.std.proofs.Common.{ap, inl, inr, refl, subst, sym, take, true≢false}
+use Rattle.std.proofs.Common.{ap, inl, inr, refl, subst, sym, take, true≢false, option_map, ◌==◌}
+use Rattle.std.proofs.Common.{if◌then◌else◌, IfOk, IsErr, IsErrAnd, OnErr}
 use Rattle.std.proofs.KnownBytes.{Consumes-trans}
 use Rattle.std.specs.Io.Buffered.{reader_buffer, reader_capacity, reader_inner, reader_remaining}
 use Rattle.std.specs.Io.Iter.{YieldsKnownByte}
 use Rattle.std.specs.Io.KnownBytes.{Consumes, prepend_known}
 use Rattle.std.specs.Io.Take.{take_inner, take_limit, take_remaining}
-use Rattle.std.specs.Option.{option_map}
-use Rattle.std.specs.Prelude.{◌==◌, if◌then◌else◌, IfOk, IsErr, IsErrAnd, OnErr}
 use Rattle.std.specs.declared.alloc.AllocError.{AllocError}
 use Rattle.std.specs.declared.io.Error.{Error}
 use Rattle.std.specs.declared.io.ErrorKind.TheVariants.{OutOfMemory}
 use Rattle.std.specs.declared.io.buffered.BufReader.{BufReader}
 use Rattle.std.specs.declared.io.traits.Take.{Take}
-use Rattle.book_core.specs.Ledgers.{Seen}
-use Rattle.book_core.specs.Transition.{IsTransition, NoEvent}
+use Rattle.book_core.specs.Words.{Seen, IsTransition, NoEvent}
 use Rattle.book_core.proofs.TransitionLemmas.{no_work}
 use Rattle.office.specs.declared.choosing.Chosen.{Chosen}
 use Rattle.office.specs.Choices.{ChoosesEach}
-use Rattle.named_books.specs.Shelves.{Shelf}
 use Rattle.named_books.proofs.ShelfLemmas.{untouched}
 use Rattle.program_output.specs.declared.names.NamesFault.{NamesFault}
-use Rattle.program_output.specs.declared.names.NamesFault.TheVariants as names
 use Rattle.program_output.specs.Names.{IsNamesFault, names_in}
-use Rattle.without_books.specs.declared.command_fault.CommandFault.{CommandFault}
 use Rattle.without_books.specs.Faults.{names_fault}
 use Rattle.chargectl.specs.declared.choices.ListAnswered.{ListAnswered}
 use Rattle.chargectl.specs.Choices.{ChoosesBy, ChoosesNothing, ComesOfList, IsListFault, front_of}
 use Rattle.chargectl.specs.Choices.{most_read}
+use Rattle.chargectl.proofs.Words.{Shelf, CommandFault}
+use Rattle.program_output.specs.declared.names.NamesFault.TheVariants as names
 
 -- one more byte of a reader came
 pub byte_came : (had old new : Option (List ℕ)) (text : List ℕ) (item : Option (Result ℕ Error))

@@ -1,20 +1,15 @@
 -- What is told of the output of an answer or a list: that it failed, where a write or a flush of it has.
-use Rattle.std.proofs.Common.{◌≡◌, ◌∙◌, Bool, false, true, ℕ, List, Option, Result, Ok, Err}
-use Rattle.std.proofs.Common.{ap, inl, inr, refl, subst, sym, take}
-use Rattle.std.specs.Prelude.{IsErr}
+use Rattle.std.proofs.Common.{◌≡◌, ◌∙◌, Bool, false, true, ℕ, List, Option, Result, Ok, Err, ap}
+use Rattle.std.proofs.Common.{inl, inr, refl, subst, sym, take, IsErr}
 use Rattle.std.specs.Io.KnownBytes.{Appends}
 use Rattle.streams.specs.InputOutput.{Output}
-use Rattle.book_reports.specs.declared.fault.ReportFault.{ReportFault}
-use Rattle.book_reports.specs.declared.fault.ReportFault.TheVariants as report
-use Rattle.named_books.specs.declared.repository.RepositoryFault.{RepositoryFault}
-use Rattle.named_books.specs.declared.repository.RepositoryFault.TheVariants.{Unseen}
-use Rattle.named_books.specs.Shelves.{ComesBy}
 use Rattle.office.specs.Answers.{WritesText}
-use Rattle.without_books.specs.declared.command_fault.CommandFault.{CommandFault}
-use Rattle.without_books.specs.declared.command_fault.CommandFault.TheVariants as fault
 use Rattle.without_books.specs.Faults.{IsPrinted}
 use Rattle.chargectl.specs.declared.streamed_lists.StreamedList.{StreamedList}
 use Rattle.chargectl.specs.StreamedLists.{ListsOpen, WritesSomeOf, list_end}
+use Rattle.chargectl.proofs.Words.{ReportFault, RepositoryFault, Unseen, ComesBy, CommandFault}
+use Rattle.book_reports.specs.declared.fault.ReportFault.TheVariants as report
+use Rattle.without_books.specs.declared.command_fault.CommandFault.TheVariants as fault
 
 -- an answer that was not written
 pub not_written : (text : List ℕ) (output : Output) (why : ReportFault) (held holds : Option (List ℕ))

@@ -1,22 +1,15 @@
 -- How connections are served.
 use Rattle.std.proofs.Common.{◌≡◌, ◌∙◌, Bool, true, false, List, [], ◌∷◌, ◌++◌, ℕ, ◌+◌, refl, sym}
-use Rattle.std.proofs.Common.{Option, Some, None, Result, Ok, Err, length}
-use Rattle.std.proofs.Common.{arith, inl, inr, subst, unwrap_or}
-use Rattle.std.specs.Prelude.{IfErr}
+use Rattle.std.proofs.Common.{Option, Some, None, Result, Ok, Err, length, arith, inl, inr, subst}
+use Rattle.std.proofs.Common.{unwrap_or, IfErr}
 use Rattle.streams.specs.InputOutput.{WriterSeen}
 use Rattle.book_model.specs.Words.{Event, IsMadeByCalls, Naming, book_after}
-use Rattle.book_core.specs.Follow.{MakesAnswered}
-use Rattle.book_core.specs.Transition.{Transition, NoEvent}
+use Rattle.book_core.specs.Words.{MakesAnswered, Transition, NoEvent}
 use Rattle.book_core.proofs.FollowLemmas.{none_answered, then_answered}
 use Rattle.book_http.specs.declared.served.Served.{Served}
-use Rattle.book_http.specs.declared.served.Served.TheVariants as served
 use Rattle.book_http.proofs.LawLemmas.{requests_make_history}
-use Rattle.named_books.specs.declared.repository.RepositoryFault.{RepositoryFault}
-use Rattle.named_books.specs.declared.repository.RepositoryFault.TheVariants.{Unseen}
-use Rattle.named_books.specs.Shelves.{Shelf, IsDoneTo, IsOpened, IsUntouched, OpenedAnew}
-use Rattle.named_books.proofs.ShelfLemmas.{done_after, done_as, done_then, opened_refused}
-use Rattle.named_books.proofs.ShelfLemmas.{opened_untouched}
-use Rattle.without_books.specs.declared.command_fault.CommandFault.{CommandFault}
+use Rattle.named_books.specs.Shelves.{IsUntouched, OpenedAnew}
+use Rattle.named_books.proofs.ShelfLemmas.{done_after, done_then, opened_refused, opened_untouched}
 use Rattle.without_books.specs.declared.ended.Ended.{Ended}
 use Rattle.without_books.specs.Faults.{IsFileFault}
 use Rattle.without_books.specs.ServedLines.{Gains, unfailed}
@@ -27,6 +20,9 @@ use Rattle.chargectl.specs.Requests.{IsServiceFault, Serves, WritesEarly, Writes
 use Rattle.chargectl.specs.Serving.{AnswersSome, Coming, IsServing, IsToldOf, ServesInTurn}
 use Rattle.chargectl.specs.Serving.{ServesOne, line_of, lines_of, ready, service_end}
 use Rattle.chargectl.proofs.CommandLemmas.{either_as}
+use Rattle.chargectl.proofs.Words.{RepositoryFault, Unseen, Shelf, IsDoneTo, IsOpened, done_as}
+use Rattle.chargectl.proofs.Words.{CommandFault}
+use Rattle.book_http.specs.declared.served.Served.TheVariants as served
 
 -- ---- connections make events that the books answered
 

@@ -1,20 +1,14 @@
 -- A list that was written, and the output after it was flushed.
-use Rattle.std.proofs.Common.{◌≡◌, ◌∙◌, true≢false, ℕ, List, Option, Result, Ok, Err}
-use Rattle.std.proofs.Common.{inl, inr, refl, sym, take}
-use Rattle.std.specs.Prelude.{IsErr}
-use Rattle.std.specs.Io.KnownBytes.{Keeps}
+use Rattle.std.proofs.Common.{◌≡◌, ◌∙◌, true≢false, ℕ, List, Option, Result, Ok, Err, inl, inr}
+use Rattle.std.proofs.Common.{refl, sym, take, IsErr}
 use Rattle.std.proofs.KnownBytes.{Appends-kept}
-use Rattle.book_model.specs.declared.fault.LedgerFault.{LedgerFault}
-use Rattle.book_reports.specs.declared.fault.ReportFault.{ReportFault}
 use Rattle.book_reports.specs.StreamedAnswers.{WritesAnswerUntil, WritesUntilOrRefuses}
 use Rattle.book_reports.specs.Writing.{WritesPrefix, WritesUntil}
-use Rattle.named_books.specs.declared.repository.RepositoryFault.{RepositoryFault}
-use Rattle.named_books.specs.declared.repository.RepositoryFault.TheVariants.{Unseen}
-use Rattle.named_books.specs.Shelves.{ComesBy, IsDoneTo, IsOpened, Shelf}
-use Rattle.named_books.proofs.ShelfLemmas.{done_as}
 use Rattle.chargectl.specs.declared.streamed_lists.StreamedList.{StreamedList}
-use Rattle.chargectl.specs.declared.streamed_lists.StreamedList.TheVariants as list
 use Rattle.chargectl.specs.StreamedLists.{WritesSomeOf, list_answer, list_end}
+use Rattle.chargectl.proofs.Words.{Keeps, LedgerFault, ReportFault, RepositoryFault, Unseen}
+use Rattle.chargectl.proofs.Words.{ComesBy, IsDoneTo, IsOpened, Shelf, done_as}
+use Rattle.chargectl.specs.declared.streamed_lists.StreamedList.TheVariants as list
 
 -- a prefix stays written
 prefix_kept : (text : List ℕ) (held has holds : Option (List ℕ)) (told : Result (Unit {0}) ReportFault)

@@ -1,14 +1,11 @@
 -- Choices by the names of a list in a file: what the list has to be, what the books are asked, what is
 -- written, and how the command ends.
-use Rattle.std.specs.Prelude.{◌≡◌, ◌⊎◌, ◌+◌, true, ℕ, List, length, take}
-use Rattle.std.specs.Prelude.{Option, Some, None, IfSome, Result, Ok, Err}
-use Rattle.std.specs.Option.{option_map}
+use Rattle.std.specs.Prelude.{◌≡◌, ◌⊎◌, ◌+◌, true, ℕ, List, length, take, Option, Some, None}
+use Rattle.std.specs.Prelude.{IfSome, Result, Ok, Err, option_map}
 use Rattle.std.specs.declared.alloc.AllocError.{AllocError}
 use Rattle.book_model.specs.declared.fault.LedgerFault.{LedgerFault}
-use Rattle.book_model.specs.declared.fault.LedgerFault.TheVariants as ledger
 use Rattle.book_model.specs.Words.{Naming}
-use Rattle.book_core.specs.Follow.{MakesAnswered}
-use Rattle.book_core.specs.Transition.{NoEvent, Transition}
+use Rattle.book_core.specs.Words.{MakesAnswered, NoEvent, Transition}
 use Rattle.book_core.proofs.FollowLemmas.{none_answered}
 use Rattle.office.specs.declared.choosing.Chosen.{Chosen}
 use Rattle.named_books.specs.declared.repository.RepositoryFault.{RepositoryFault}
@@ -18,11 +15,12 @@ use Rattle.office.proofs.ChoiceLemmas.{choices_answered}
 use Rattle.program_output.specs.declared.names.NamesFault.{NamesFault}
 use Rattle.program_output.specs.Names.{names_in}
 use Rattle.without_books.specs.declared.command_fault.CommandFault.{CommandFault}
-use Rattle.without_books.specs.declared.command_fault.CommandFault.TheVariants as fault
 use Rattle.without_books.specs.declared.ended.Ended.{Ended}
 use Rattle.without_books.specs.Faults.{names_fault, shelf_fault, without_log}
 use Rattle.chargectl.specs.declared.choices.ListAnswered.{ListAnswered}
 use Rattle.chargectl.specs.Commands.{IsFileFault, IsPrinted, IsShelfFault, first_fault}
+use Rattle.book_model.specs.declared.fault.LedgerFault.TheVariants as ledger
+use Rattle.without_books.specs.declared.command_fault.CommandFault.TheVariants as fault
 
 -- these are the names of the text that a file gave
 abbrev pub AreListed : List (List ℕ) → Type 0

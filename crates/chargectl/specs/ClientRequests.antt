@@ -1,27 +1,26 @@
 -- One request of a client. The books are open only while they are asked.
-use Rattle.std.specs.Prelude.{◌≡◌, ◌<◌, ℕ, Bool, true, false, List, [], length}
-use Rattle.std.specs.Prelude.{Option, Some, None, Result, Ok, Err}
+use Rattle.std.specs.Prelude.{◌≡◌, ◌<◌, ℕ, Bool, true, false, List, [], length, Option, Some, None}
+use Rattle.std.specs.Prelude.{Result, Ok, Err}
 use Rattle.book_model.specs.Words.{Book, Event, Naming}
-use Rattle.book_core.specs.Transition.{Transition}
-use Rattle.book_core.specs.Follow.{MakesAnswered}
+use Rattle.book_core.specs.Words.{Transition, MakesAnswered}
 use Rattle.book_reports.specs.declared.streamed_details.DetailReport.{DetailReport}
 use Rattle.book_http.specs.declared.requested.Requested.{Requested}
-use Rattle.book_http.specs.declared.requested.Requested.TheVariants as requested
 use Rattle.book_http.specs.declared.served.Served.{Served}
-use Rattle.book_http.specs.declared.served.Served.TheVariants as served
 use Rattle.book_http.specs.declared.status.Status.TheVariants.{Unavailable}
 use Rattle.book_http.specs.Answer.{most_gathered}
-use Rattle.book_http.specs.Reads.{AreDue, IsDue, ReadCall, ReadOutcome}
-use Rattle.book_http.specs.Reads.{bytes_read, ended_after, failed_after}
+use Rattle.book_http.specs.Reads.{AreDue, IsDue, ReadCall, ReadOutcome, bytes_read, ended_after}
+use Rattle.book_http.specs.Reads.{failed_after}
 use Rattle.book_http.specs.Replies.{Reply, busy, refusal, reply_of}
 use Rattle.book_http.specs.Requested.{AnswersRequest, IsAsking, request_seen}
 use Rattle.book_http.specs.Served.{IsSent, IsSentAsRead, SendsSome, is_read_fault, is_unanswered}
 use Rattle.book_http.specs.Served.{is_write_fault}
 use Rattle.book_http.proofs.LawLemmas.{wanted_answered}
 use Rattle.named_books.specs.declared.repository.RepositoryFault.{RepositoryFault}
-use Rattle.named_books.specs.declared.repository.RepositoryFault.TheVariants as shelf
 use Rattle.named_books.specs.Shelves.{Shelf, ComesBy, IsOpened, IsThere}
 use Rattle.chargectl.specs.declared.client_requests.Told.{Told}
+use Rattle.book_http.specs.declared.requested.Requested.TheVariants as requested
+use Rattle.book_http.specs.declared.served.Served.TheVariants as served
+use Rattle.named_books.specs.declared.repository.RepositoryFault.TheVariants as shelf
 use Rattle.chargectl.specs.declared.client_requests.Told.TheVariants as tells
 
 -- something is asked of the books: a request that is settled asks nothing of them

@@ -1,15 +1,12 @@
 -- What each command on books asks of the office, what is written, and how it ends.
-use Rattle.std.specs.Prelude.{◌≡◌, ◌⊎◌, ⊤, Bool, true, false, ℕ, List, [], Option, Some, None, Result}
-use Rattle.std.specs.Prelude.{Ok, Err, IfSome, string_bytes}
+use Rattle.std.specs.Prelude.{◌≡◌, ◌⊎◌, ⊤, Bool, true, false, ℕ, List, [], Option, Some, None}
+use Rattle.std.specs.Prelude.{Result, Ok, Err, IfSome, string_bytes, option_map}
 use Rattle.std.specs.Borrow.{Bor}
 use Rattle.std.specs.Io.KnownBytes.{Keeps}
-use Rattle.std.specs.Option.{option_map}
-use Rattle.smf_text.specs.Day.{day_of_text_of}
 use Rattle.streams.specs.InputOutput.{Input}
 use Rattle.book_model.specs.declared.fault.LedgerFault.{LedgerFault}
-use Rattle.book_model.specs.Words.{Book, Event, Naming}
-use Rattle.book_core.specs.Follow.{MakesAnswered}
-use Rattle.book_core.specs.Transition.{Transition}
+use Rattle.book_model.specs.Words.{day_of_text_of, Book, Event, Naming}
+use Rattle.book_core.specs.Words.{MakesAnswered, Transition}
 use Rattle.book_reports.specs.declared.report.Report.{Report}
 use Rattle.book_reports.specs.declared.report.Report.TheVariants.{OfPeriod, PeriodList, TariffText}
 use Rattle.book_reports.specs.declared.report.Report.TheVariants.{Bill, PeriodPage, Record}
@@ -18,32 +15,32 @@ use Rattle.book_reports.specs.declared.what_if.WhatIf.{WhatIf}
 use Rattle.book_reports.specs.BookTexts.{centre_named}
 use Rattle.named_books.specs.declared.repository.RepositoryFault.{RepositoryFault}
 use Rattle.office.specs.declared.request.Asked.{Asked}
-use Rattle.office.specs.declared.request.Asked.TheVariants as asks
 use Rattle.office.specs.declared.request.Answer.{Answer}
-use Rattle.office.specs.declared.request.Answer.TheVariants as answers
 use Rattle.office.specs.Requests.{Dump, Response, Asks, Gives, response_of, response_by}
 use Rattle.office.specs.Answers.{answer_text}
 use Rattle.named_books.specs.Shelves.{Shelf, IsOpened, IsThere, IsUntouched}
 use Rattle.office.proofs.LawLemmas.{asks_answered}
 use Rattle.command_line.specs.declared.request.BookRequest.{BookRequest}
-use Rattle.command_line.specs.declared.request.BookRequest.TheVariants as book
 use Rattle.command_line.specs.declared.request.PeriodWords.{PeriodWords}
 use Rattle.command_line.specs.declared.request.ReportWords.{ReportWords}
-use Rattle.command_line.specs.declared.request.ReportWords.TheVariants as worded
 use Rattle.command_line.specs.declared.request.Ruling.{Ruling}
-use Rattle.command_line.specs.declared.request.Ruling.TheVariants as ruling
 use Rattle.program_output.specs.Names.{name_in}
 use Rattle.without_books.specs.declared.command_fault.CommandFault.{CommandFault}
-use Rattle.without_books.specs.declared.command_fault.CommandFault.TheVariants as fault
 use Rattle.without_books.specs.declared.ended.Ended.{Ended}
 use Rattle.without_books.specs.declared.notice.Notice.{Notice}
-pub use Rattle.without_books.specs.Faults.{IsFileFault, IsPrinted, IsTextFault}
 use Rattle.without_books.specs.Faults.{end_of, shelf_fault, without_log}
 use Rattle.without_books.specs.FirstBytes.{IsLookedAt, layout_notice}
 use Rattle.without_books.specs.Inputs.{Files}
 use Rattle.chargectl.specs.declared.dated_rulings.DatedAnswer.{DatedAnswer}
 use Rattle.chargectl.specs.declared.answered.Answered.{Answered}
 use Rattle.chargectl.specs.Far.{far_notice}
+use Rattle.office.specs.declared.request.Asked.TheVariants as asks
+use Rattle.office.specs.declared.request.Answer.TheVariants as answers
+use Rattle.command_line.specs.declared.request.BookRequest.TheVariants as book
+use Rattle.command_line.specs.declared.request.ReportWords.TheVariants as worded
+use Rattle.command_line.specs.declared.request.Ruling.TheVariants as ruling
+use Rattle.without_books.specs.declared.command_fault.CommandFault.TheVariants as fault
+pub use Rattle.without_books.specs.Faults.{IsFileFault, IsPrinted, IsTextFault}
 
 -- the centre that is asked for, if that is a name; or none, for the whole office
 abbrev pub asked_centre : Option (Bor (List ℕ)) → Option (Option (List ℕ))

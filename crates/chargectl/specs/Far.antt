@@ -1,14 +1,13 @@
 -- Days that are far after what books hold. A close or a tariff of the wrong year is as good as any other,
 -- and nothing mends it: so it is noticed, where it is in force.
-use Rattle.std.specs.Prelude.{◌==◌, ◌&&◌, if◌then◌else◌, Bool, true, false, List, length, string_bytes}
-use Rattle.std.specs.Prelude.{ℤ, pos, ◌+ℤ◌, int_lt, Option, Some, None, Result, Ok, Err}
-use Rattle.std.specs.List.{list_all}
-use Rattle.std.specs.Option.{option_map_or}
-use Rattle.tariff_rules.specs.declared.fault.TariffFault.{TariffFault}
+use Rattle.std.specs.Prelude.{◌==◌, ◌&&◌, if◌then◌else◌, Bool, true, false, List, length}
+use Rattle.std.specs.Prelude.{string_bytes, ℤ, pos, ◌+ℤ◌, int_lt, Option, Some, None, Result, Ok}
+use Rattle.std.specs.Prelude.{Err}
+use Rattle.book_model.specs.Std.{list_all, option_map_or}
 use Rattle.book_model.specs.declared.answer.Ruled.TheVariants.{Done}
 use Rattle.book_model.specs.declared.fault.LedgerFault.{LedgerFault}
 use Rattle.book_model.specs.declared.row.ChargeRow.{ChargeRow}
-use Rattle.book_model.specs.Words.{Book, Outcome, Terms, no_event, terms_in}
+use Rattle.book_model.specs.Words.{TariffFault, Book, Outcome, Terms, no_event, terms_in}
 use Rattle.report_texts.specs.Figures.{rows_in}
 use Rattle.book_reports.specs.declared.figures.OpenPeriod.{OpenPeriod}
 use Rattle.book_reports.specs.Figures.{open_in}

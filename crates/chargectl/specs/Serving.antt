@@ -1,13 +1,11 @@
 -- How connections are served: each in turn, with one line for each. A line that can't be written is
 -- lost, and so are those after it; the connections are served all the same.
 use Rattle.std.specs.Prelude.{◌≡◌, ◌+◌, Bool, true, false, ℕ, List, [], ◌∷◌, ◌++◌, codes, length}
-use Rattle.std.specs.Prelude.{Result, Ok, Err}
+use Rattle.std.specs.Prelude.{Result, Ok, Err, decimal}
 use Rattle.std.specs.declared.io.Error.{Error}
-use Rattle.std.specs.Fmt.{decimal}
 use Rattle.streams.specs.InputOutput.{WriterSeen}
 use Rattle.book_model.specs.Words.{Book, Event, Naming}
 use Rattle.book_http.specs.declared.served.Served.{Served}
-use Rattle.book_http.specs.declared.served.Served.TheVariants as served
 use Rattle.book_http.specs.Answer.{Answers}
 use Rattle.book_http.specs.Replies.{Reply}
 use Rattle.book_http.specs.Statuses.{status_code}
@@ -15,10 +13,11 @@ use Rattle.book_reports.specs.declared.fault.ReportFault.TheVariants.{Write}
 use Rattle.named_books.specs.declared.repository.RepositoryFault.{RepositoryFault}
 use Rattle.named_books.specs.Shelves.{Shelf, IsOpened, IsUntouched}
 use Rattle.without_books.specs.declared.command_fault.CommandFault.{CommandFault}
-use Rattle.without_books.specs.declared.command_fault.CommandFault.TheVariants as fault
 use Rattle.without_books.specs.ServedLines.{Gains}
 use Rattle.chargectl.specs.declared.client_requests.Attended.{Attended}
 use Rattle.chargectl.specs.ClientRequests.{LeavesLog, away_reply}
+use Rattle.book_http.specs.declared.served.Served.TheVariants as served
+use Rattle.without_books.specs.declared.command_fault.CommandFault.TheVariants as fault
 
 -- the status that is told of a connection is that of its reply
 abbrev pub Fits : Served → Reply → Type 0

@@ -1,12 +1,11 @@
 -- Lists that are written while the books are open: the details of a period, the rulings and the
 -- disputes. They are never held whole.
-use Rattle.std.specs.Prelude.{◌≡◌, Bool, false, ℕ, List, ◌++◌, Option, Some, None, Result}
-use Rattle.std.specs.Prelude.{Ok, Err, IfErr, OnErr, OnOk}
+use Rattle.std.specs.Prelude.{◌≡◌, Bool, false, ℕ, List, ◌++◌, Option, Some, None, Result, Ok, Err}
+use Rattle.std.specs.Prelude.{IfErr, OnErr, OnOk, option_map}
 use Rattle.std.proofs.Common.{sym, subst}
-use Rattle.std.specs.Option.{option_map}
 use Rattle.book_model.specs.declared.fault.LedgerFault.{LedgerFault}
 use Rattle.book_model.specs.Words.{Book, IsMadeByCalls, Naming}
-use Rattle.book_core.specs.Follow.{MakesAnswered}
+use Rattle.book_core.specs.Words.{MakesAnswered}
 use Rattle.book_reports.specs.declared.fault.ReportFault.{ReportFault}
 use Rattle.book_reports.specs.declared.fault.ReportFault.TheVariants.{Write}
 use Rattle.book_reports.specs.declared.what_if.StatementForm.{StatementForm}
@@ -17,17 +16,17 @@ use Rattle.book_reports.specs.StreamedDisputes.{WritesSomeDisputes, dispute_repo
 use Rattle.book_reports.specs.StreamedRulings.{WritesSomeRulings}
 use Rattle.book_reports.specs.Writing.{is_write_fault}
 use Rattle.command_line.specs.declared.request.ListWords.{ListWords}
-use Rattle.command_line.specs.declared.request.ListWords.TheVariants as worded
 use Rattle.command_line.specs.declared.request.PeriodWords.{PeriodWords}
 use Rattle.named_books.specs.declared.repository.RepositoryFault.{RepositoryFault}
 use Rattle.named_books.specs.Shelves.{Shelf, ComesBy, IsOpened, IsThere, IsUntouched}
 use Rattle.without_books.specs.declared.command_fault.CommandFault.{CommandFault}
-use Rattle.without_books.specs.declared.command_fault.CommandFault.TheVariants as fault
 use Rattle.without_books.specs.declared.ended.Ended.{Ended}
 use Rattle.without_books.specs.Faults.{shelf_fault}
 use Rattle.chargectl.specs.declared.streamed_lists.StreamedList.{StreamedList}
-use Rattle.chargectl.specs.declared.streamed_lists.StreamedList.TheVariants as list
 use Rattle.chargectl.specs.Commands.{IsFileFault, IsRefusedBy, asked_centre, first_fault}
+use Rattle.command_line.specs.declared.request.ListWords.TheVariants as worded
+use Rattle.without_books.specs.declared.command_fault.CommandFault.TheVariants as fault
+use Rattle.chargectl.specs.declared.streamed_lists.StreamedList.TheVariants as list
 
 -- the text of a list, or why the books have none: only of a period that is not there
 abbrev pub list_answer : StreamedList → Naming → Book → Result (List ℕ) LedgerFault

@@ -1,7 +1,6 @@
 -- Books of an older form, which are brought over to the present one.
-use Rattle.std.specs.Prelude.{◌≡◌, true, ℕ, List, ◌++◌, codes, IfErr, IfOk, Option, None, Result, Ok}
-use Rattle.std.specs.Prelude.{Err}
-use Rattle.std.specs.Fmt.{decimal}
+use Rattle.std.specs.Prelude.{◌≡◌, true, ℕ, List, ◌++◌, codes, IfErr, IfOk, Option, None, Result}
+use Rattle.std.specs.Prelude.{Ok, Err, decimal}
 use Rattle.named_books.specs.declared.repository.RepositoryFault.{RepositoryFault}
 use Rattle.named_books.specs.declared.repository.Upgraded.{Upgraded}
 use Rattle.named_books.specs.declared.repository.Upgraded.TheVariants.{To, Already}

@@ -1,11 +1,10 @@
 -- Books in a list, each under its name.
 use Rattle.std.proofs.Common.{◌≡◌, ◌≢◌, ◌∙◌, ◌<◌, ◌+◌, Bool, true, false, cond, ℕ, List, [], ◌∷◌}
 use Rattle.std.proofs.Common.{◌++◌, Option, Some, None, ap, refl, sym, get_or, length, take, drop}
-use Rattle.std.proofs.Common.{slice_set, suc}
+use Rattle.std.proofs.Common.{slice_set, suc, string_bytes}
 use Rattle.std.proofs.Math.Seq.{set-get_or, set_split}
-use Rattle.std.proofs.lemmas.List.{get_or_default, take_more}
-use Rattle.std.specs.Prelude.{string_bytes}
-use Rattle.std.specs.Cmp.Lexicographic.{bytes_decides}
+use Rattle.std.proofs.lemmas.List.{get_or_default}
+use Rattle.book_model.proofs.Std.{take_more, bytes_decides}
 use Rattle.book_model.specs.Words.{same_bytes}
 use Rattle.memory_books.specs.declared.places.Kept.{Kept}
 use Rattle.memory_books.specs.Kept.{IsAt, Puts, books_at}

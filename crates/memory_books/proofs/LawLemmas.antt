@@ -1,8 +1,6 @@
 -- Commands from the one on that made the books.
-use Rattle.std.proofs.Common.{◌≡◌, ◌∙◌, ℕ, List, [], Option, Result, Ok, Err, ap, sym}
-use Rattle.std.specs.Borrow.{Bor}
+use Rattle.std.proofs.Common.{◌≡◌, ◌∙◌, ℕ, List, [], Option, Result, Ok, Err, ap, sym, Bor}
 use Rattle.book_model.specs.declared.fault.LedgerFault.{LedgerFault}
-use Rattle.book_model.specs.declared.fault.LedgerFault.TheVariants as ledger
 use Rattle.named_books.specs.Shelves.{IsMade, Shelf}
 use Rattle.named_books.specs.declared.repository.RepositoryFault.{RepositoryFault}
 use Rattle.named_books.specs.declared.repository.RepositoryFault.TheVariants.{Busy, Exists, Io}
@@ -15,6 +13,7 @@ use Rattle.program_output.specs.declared.status.Status.TheVariants.{Done}
 use Rattle.without_books.specs.Faults.{fault_status, shelf_end, shelf_fault, status_by, without_log}
 use Rattle.without_books.specs.Inputs.{Files}
 use Rattle.chargectl.specs.Requests.{DoesOrRefuses}
+use Rattle.book_model.specs.declared.fault.LedgerFault.TheVariants as ledger
 
 -- no fault of a ledger is said to be done
 ledger_undone : (fault : LedgerFault) → ledger_status fault ≡ Done → ⊥

@@ -1,11 +1,9 @@
 -- What is known of books in memory, and what is done to them.
-use Rattle.std.proofs.Common.{◌≡◌, ◌≢◌, ◌∙◌, false, ℕ, List, [], ◌∷◌, ◌++◌, Option, Some, None, Result, Ok}
-use Rattle.std.proofs.Common.{Err, ◌⊎◌, ap, refl, subst, sym}
-use Rattle.std.specs.Prelude.{string_bytes}
+use Rattle.std.proofs.Common.{◌≡◌, ◌≢◌, ◌∙◌, false, ℕ, List, [], ◌∷◌, ◌++◌, Option, Some, None}
+use Rattle.std.proofs.Common.{Result, Ok, Err, ◌⊎◌, ap, refl, subst, sym, string_bytes}
 use Rattle.book_model.specs.Words.{Event, Naming, after_all, book_after, book_of, new_book}
-use Rattle.book_model.proofs.StepLemmas.{books_follow_history}
-use Rattle.book_core.specs.Ledgers.{IsOpenAt, Seen, may_have}
-use Rattle.book_core.specs.Transition.{IsTransition, Transition}
+use Rattle.book_model.proofs.Lemmas.{books_follow_history}
+use Rattle.book_core.specs.Words.{IsOpenAt, Seen, may_have, IsTransition, Transition}
 use Rattle.book_core.proofs.TransitionLemmas.{after_all-append}
 use Rattle.book_audit.specs.Copies.{IsAudited, IsCopied}
 use Rattle.book_audit.specs.Counts.{AreCountsOf}

@@ -1,14 +1,13 @@
 -- Books in a list, each under its name.
-use Rattle.std.specs.Prelude.{◌≡◌, ◌<◌, cond, ℕ, List, [], ◌∷◌, ◌++◌, Option, None, Some, Result, Ok}
-use Rattle.std.specs.Prelude.{Err, get_or, length, string_bytes, take}
+use Rattle.std.specs.Prelude.{◌≡◌, ◌<◌, cond, ℕ, List, [], ◌∷◌, ◌++◌, Option, None, Some, Result}
+use Rattle.std.specs.Prelude.{Ok, Err, get_or, length, string_bytes, take}
 use Rattle.std.specs.declared.alloc.AllocError.{AllocError}
 use Rattle.book_model.specs.Words.{Naming, same_bytes}
-use Rattle.book_core.specs.Ledgers.{Seen}
-use Rattle.book_core.specs.Transition.{Transition, IsTransition}
-use Rattle.book_model.specs.declared.fault.LedgerFault.TheVariants as ledger
+use Rattle.book_core.specs.Words.{Seen, Transition, IsTransition}
 use Rattle.named_books.specs.declared.repository.RepositoryFault.{RepositoryFault}
 use Rattle.named_books.specs.declared.repository.RepositoryFault.TheVariants.{Ledger}
 use Rattle.memory_books.specs.declared.places.Kept.{Kept}
+use Rattle.book_model.specs.declared.fault.LedgerFault.TheVariants as ledger
 
 -- the books of a name: the first that have it
 abbrev pub books_at : {L : Type 0} → List (Kept L) → List ℕ → Option L

@@ -1,27 +1,25 @@
 -- That the first bytes of a dump tell how it looks, and that it looks so by the standard.
-use Rattle.std.proofs.Common.{◌≡◌, ℕ, ◌<◌, Bool, true, false, not, ◌&&◌, nat_lt, List, [], ◌∷◌, ◌++◌}
-use Rattle.std.proofs.Common.{length, map, refl, sym, ap, subst, ◌∙◌, append_assoc, append-nil, lit<, arith}
-use Rattle.std.proofs.Common.{Option, Some, None}
-use Rattle.std.specs.Prelude.{◌↔◌, ◌==◌, if◌then◌else◌, is_some, slice_get, IsSome, IfOk, Result}
-use Rattle.std.specs.Prelude.{Ok, Err}
-use Rattle.std.specs.Option.{option_or}
-use Rattle.std.proofs.lemmas.Bool.{and_from, eqb-true, ltb-true, lt-ltb}
-use Rattle.smf_frames.specs.declared.dump.Layout.{Layout}
-use Rattle.smf_frames.specs.declared.dump.Layout.TheVariants.{Rdw, Bdw}
-use Rattle.smf_frames.specs.declared.fault.FrameFault.{FrameFault}
+use Rattle.std.proofs.Common.{◌≡◌, ℕ, ◌<◌, Bool, true, false, not, ◌&&◌, nat_lt, List, [], ◌∷◌}
+use Rattle.std.proofs.Common.{◌++◌, length, map, refl, sym, ap, subst, ◌∙◌, append_assoc}
+use Rattle.std.proofs.Common.{append-nil, lit<, arith, Option, Some, None, ◌↔◌, ◌==◌, if◌then◌else◌}
+use Rattle.std.proofs.Common.{is_some, slice_get, IsSome, IfOk, Result, Ok, Err, eqb-true, ltb-true}
+use Rattle.std.proofs.Common.{lt-ltb}
+use Rattle.std.proofs.lemmas.Bool.{and_from}
+use Rattle.book_model.proofs.Std.{option_or}
 use Rattle.smf_frames.specs.declared.fault.FrameFault.TheVariants.{MissingLast, Truncated}
 use Rattle.smf_frames.specs.Segment.{descriptor_len}
 use Rattle.smf_frames.specs.Faults.{descriptor_fault, end_fault}
 use Rattle.smf_frames.specs.Group.{group_record}
 use Rattle.smf_frames.specs.Lawful.{IsCut, MayGoOn}
-use Rattle.smf_frames.specs.Longest.{Front, Longest, data_begun}
-use Rattle.smf_frames.specs.Front.{start, data_len, prepend, stopped, front_from, front}
+use Rattle.smf_frames.specs.Longest.{Longest, data_begun}
+use Rattle.smf_frames.specs.Front.{start, data_len, stopped}
 use Rattle.smf_frames.proofs.ReaderWays.{Way, way_same, front_way, front_stops, leads, progress_at}
 use Rattle.smf_frames.proofs.ReaderWaits.{short_stops}
 use Rattle.smf_frames.proofs.JoinedGroups.{data_in}
 use Rattle.smf_frames.proofs.GroupedTexts.{cut_way}
 use Rattle.smf_frames.proofs.TakenGroups.{way_cut}
 use Rattle.smf_frames.proofs.Fronts.{front_led, is_front}
+use Rattle.book_model.specs.Words.{Layout, Rdw, Bdw, FrameFault, Front, prepend, front_from, front}
 use Rattle.program_output.specs.Layouts.{ends_segment, is_filled, looks_like, IsDumpIn, is_block}
 use Rattle.program_output.specs.Layouts.{first_record, is_misread, FirstBytesTell, HasBlockFirst}
 

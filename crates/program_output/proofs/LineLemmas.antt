@@ -1,22 +1,21 @@
 -- No line of a check list is longer than 64 bytes, and the last one is not empty.
 use Rattle.std.proofs.Common.{ℕ, ◌+◌, ◌^◌, ◌<◌, ◌≤◌, Bool, true, false, List, ◌++◌, length, codes}
 use Rattle.std.proofs.Common.{arith, lit≤, length-append, if◌then◌else◌, nat_lt, slice_index}
-use Rattle.std.specs.Fmt.{decimal}
+use Rattle.std.proofs.Common.{decimal}
 use Rattle.std.proofs.lemmas.Fmt.{length-decimal-le}
 use Rattle.byteorder.specs.Numbers.{big_from-lt}
-use Rattle.smf_frames.specs.declared.fault.FrameFault.{FrameFault}
 use Rattle.smf_frames.specs.declared.fault.FrameFault.TheVariants.{SegmentLength}
-use Rattle.book_model.specs.Words.{frame_number, type_of, class_of, damage_number, ledger_number}
-use Rattle.smf_type30.specs.declared.record_class.Class.{Class}
+use Rattle.book_model.specs.Words.{FrameFault, frame_number, type_of, class_of, damage_number}
+use Rattle.book_model.specs.Words.{ledger_number, Class}
 use Rattle.smf_type30.specs.declared.record_class.Class.TheVariants.{Damaged}
 use Rattle.smf_type30.specs.declared.damage.Damage.{Damage}
 use Rattle.smf_type30.specs.declared.damage.Damage.TheVariants.{Short}
 use Rattle.book_model.specs.declared.fault.LedgerFault.{LedgerFault}
 use Rattle.book_model.specs.declared.fault.LedgerFault.TheVariants.{Memory}
-use Rattle.book_import.specs.declared.receipt.Stop.{Stop}
 use Rattle.book_import.specs.declared.receipt.Stop.TheVariants.{Frame, Ledger}
 use Rattle.book_reports.specs.ReceiptLines.{fault_text, stop_text}
-use Rattle.book_reports.specs.CheckLists.{type_text, class_text, record_line, last_line}
+use Rattle.book_reports.specs.CheckLists.{type_text, class_text, record_line}
+use Rattle.program_output.proofs.Words.{Stop, last_line}
 
 -- a word and the number of a fault
 fault_short : (word : List ℕ) (number : ℕ) → number < 100

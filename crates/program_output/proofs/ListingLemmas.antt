@@ -1,20 +1,18 @@
 -- What a list gains with a line, and with what is written of the lines that wait.
-use Rattle.std.proofs.Common.{◌≡◌, ◌∙◌, ℕ, ◌+◌, List, [], ◌∷◌, ◌++◌, length, take}
-use Rattle.std.proofs.Common.{sym, ap, subst, append_assoc, append-nil, length-append}
-use Rattle.std.proofs.Common.{Option, Result, Ok, Err}
-use Rattle.std.specs.Io.KnownBytes.{Appends}
+use Rattle.std.proofs.Common.{◌≡◌, ◌∙◌, ℕ, ◌+◌, List, [], ◌∷◌, ◌++◌, length, take, sym, ap, subst}
+use Rattle.std.proofs.Common.{append_assoc, append-nil, length-append, Option, Result, Ok, Err}
 use Rattle.std.proofs.KnownBytes.{Appends-trans}
-use Rattle.book_import.specs.declared.receipt.Stop.{Stop}
-use Rattle.book_reports.specs.declared.fault.ReportFault.{ReportFault}
 use Rattle.program_output.specs.declared.listing.Listing.{Listing}
-use Rattle.book_reports.specs.CheckLists.{record_line, record_lines, last_line, check_list_text}
-use Rattle.program_output.specs.Listings.{HasListed, waiting, listed_count}
+use Rattle.book_reports.specs.CheckLists.{record_line, record_lines, check_list_text}
+use Rattle.program_output.proofs.Words.{Appends, Stop, ReportFault, last_line, waiting}
+use Rattle.program_output.proofs.Words.{listed_count}
+use Rattle.program_output.specs.Listings.{HasListed}
 use Rattle.program_output.specs.Checks.{AreWritten}
 use Rattle.book_reports.specs.StreamedRulings.{WritesFirst}
 use Rattle.book_reports.specs.Writing.{WritesUntil}
 use Rattle.book_reports.proofs.NumberLemmas.{lines-append, one_more_line}
-use Rattle.book_reports.proofs.StreamedLemmas.{first_written, rest_until, then_written}
-use Rattle.book_reports.proofs.StreamedLemmas.{written_as, written_of_more}
+use Rattle.book_reports.proofs.StreamedLemmas.{first_written, rest_until, then_written, written_as}
+use Rattle.book_reports.proofs.StreamedLemmas.{written_of_more}
 
 -- all was written
 pub all_written : (text rest : List ℕ) (held holds : Option (List ℕ)) → rest ≡ []

@@ -1,19 +1,18 @@
 -- Lists of names: their lines, from the front on, and the names so far.
 use Rattle.std.proofs.Common.{◌≡◌, ◌≢◌, ◌∙◌, ◌+◌, ◌<◌, ◌≤◌, ℕ, Bool, true, false, cond, List, []}
-use Rattle.std.proofs.Common.{◌∷◌, ◌++◌, length, Result, Ok, Err}
-use Rattle.std.proofs.Common.{ap, refl, subst, sym, arith, append_assoc, append-nil, le-ltb, length-append}
-use Rattle.std.proofs.Common.{lt-ltb, ne_eqb}
-use Rattle.std.specs.List.{All, onto_first, slice_split}
-use Rattle.std.specs.Prelude.{IfErr, IsErrAnd, nat_lt}
+use Rattle.std.proofs.Common.{◌∷◌, ◌++◌, length, Result, Ok, Err, ap, refl, subst, sym, arith}
+use Rattle.std.proofs.Common.{append_assoc, append-nil, le-ltb, length-append, lt-ltb, ne_eqb, All}
+use Rattle.std.proofs.Common.{IfErr, IsErrAnd, nat_lt}
+use Rattle.std.specs.List.{onto_first, slice_split}
 use Rattle.std.specs.Str.Lines.{lines, lines_of_parts, strip_carriage_return}
-use Rattle.std.proofs.lemmas.List.Elements.{All-nil}
 use Rattle.std.proofs.lemmas.List.Splits.{slice_split_at, slice_split_none}
-use Rattle.book_model.specs.Limits.{most_choices}
+use Rattle.book_model.proofs.Std.{All-nil}
+use Rattle.book_model.specs.Words.{most_choices}
 use Rattle.program_output.specs.declared.names.NameList.{NameList}
 use Rattle.program_output.specs.declared.names.NamesFault.{NamesFault}
-use Rattle.program_output.specs.declared.names.NamesFault.TheVariants as fault
 use Rattle.program_output.specs.Names.{HasRead, IsNamesFault, IsNoName, KeepsName, Names, is_feed}
 use Rattle.program_output.specs.Names.{joined, name_in, named, names_after, names_from, names_in}
+use Rattle.program_output.specs.declared.names.NamesFault.TheVariants as fault
 
 -- ---- lines
 

@@ -1,10 +1,9 @@
 -- No two numbers of a kind have the same meaning.
-use Rattle.std.proofs.Common.{◌≡◌, ◌∙◌, ℕ, zero, suc, ◌-◌, ◌==◌, List, [], ◌∷◌, refl, sym, ap, arith}
-use Rattle.std.proofs.Common.{Bool, true, false, not, ◌&&◌, if◌then◌else◌, Some, None}
+use Rattle.std.proofs.Common.{◌≡◌, ◌∙◌, ℕ, zero, suc, ◌-◌, ◌==◌, List, [], ◌∷◌, refl, sym, ap}
+use Rattle.std.proofs.Common.{arith, Bool, true, false, not, ◌&&◌, if◌then◌else◌, Some, None}
 use Rattle.std.proofs.Common.{slice_get, bytes_eq}
-use Rattle.std.specs.List.{list_any}
-use Rattle.std.proofs.lemmas.Option.{same_Some, none-some}
 use Rattle.std.proofs.lemmas.Slice.Eq.{bytes_eq-Decides}
+use Rattle.book_model.proofs.Std.{list_any, same_Some, none-some}
 use Rattle.program_output.specs.Explanations.{MeaningsFixNumbers, NumbersAreOneToOne, texts_of}
 use Rattle.program_output.specs.Meanings.{Texts, frame_texts, ledger_texts, tariff_texts}
 use Rattle.program_output.specs.Meanings.{damage_texts}

@@ -1,10 +1,7 @@
 -- What a number means: the texts of the fault that has it. What a word means that has none.
 use Rattle.std.specs.Prelude.{◌≡◌, ◌≢◌, ℕ, ◌-◌, ◌==◌, List, length, slice_get, Option, Some, None}
 use Rattle.std.specs.Prelude.{if◌then◌else◌}
-use Rattle.smf_frames.specs.Faults.{frame_number}
-use Rattle.smf_type30.specs.Damage.{damage_number}
-use Rattle.tariff_rules.specs.Faults.{tariff_number}
-use Rattle.book_model.specs.Faults.{ledger_number}
+use Rattle.book_model.specs.Words.{frame_number, damage_number, tariff_number, ledger_number}
 use Rattle.program_output.specs.declared.explanations.FaultKind.{FaultKind}
 use Rattle.program_output.specs.declared.explanations.FaultKind.TheVariants.{Frame, Ledger, Tariff}
 use Rattle.program_output.specs.declared.explanations.FaultKind.TheVariants.{Damage, Word}

@@ -1,8 +1,7 @@
 -- Laws of trials, which follow from the definitions alone.
 use Rattle.std.specs.Prelude.{◌≡◌, ℕ, false, List, Option}
 use Rattle.sha2.specs.Sha256.{sha256}
-use Rattle.smf_frames.specs.declared.dump.Layout.{Layout}
-use Rattle.book_model.specs.Words.{front, Terms, Book, flat_book, Event, after_all, Records}
+use Rattle.book_model.specs.Words.{Layout, front, Terms, Book, flat_book, Event, after_all, Records}
 use Rattle.book_model.specs.Words.{by_bytes, set_of}
 use Rattle.book_import.specs.declared.receipt.Stop.{Stop}
 use Rattle.book_import.specs.declared.receipt.Receipt.{Receipt}

@@ -1,13 +1,10 @@
 -- A dump that is read in one layout, and looks like one in the other.
 use Rattle.std.specs.Prelude.{◌≡◌, ℕ, ◌<◌, ◌&&◌, nat_lt, not, Bool, true, false, List, ◌++◌, length}
 use Rattle.std.specs.Prelude.{slice_get, Option, Some, None, IsSome}
-use Rattle.smf_frames.specs.declared.dump.Layout.{Layout}
-use Rattle.smf_frames.specs.declared.dump.Layout.TheVariants.{Rdw, Bdw}
-use Rattle.smf_frames.specs.declared.fault.FrameFault.{FrameFault}
 use Rattle.smf_frames.specs.declared.fault.FrameFault.TheVariants.{MissingLast}
 use Rattle.smf_frames.specs.Segment.{descriptor_len}
 use Rattle.smf_frames.specs.Lawful.{MayGoOn}
-use Rattle.smf_frames.specs.Front.{Front, front}
+use Rattle.book_model.specs.Words.{Layout, Rdw, Bdw, FrameFault, Front, front}
 
 -- a record is begun, and nothing follows of it
 abbrev pub is_begun : FrameFault → Bool

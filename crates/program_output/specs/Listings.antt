@@ -1,9 +1,7 @@
 -- A check list that is written as the records of its dump come. Words of the code alone.
-use Rattle.std.specs.Prelude.{◌≡◌, ℕ, ◌+◌, ◌≤◌, List, ◌++◌, length, Option, Some, None}
-use Rattle.std.specs.Prelude.{Result, Ok, Err, string_bytes}
-use Rattle.smf_frames.specs.declared.dump.Layout.{Layout}
-use Rattle.smf_frames.specs.declared.fault.FrameFault.{FrameFault}
-use Rattle.book_model.specs.Words.{front, Joining, HasTaken, broken_by}
+use Rattle.std.specs.Prelude.{◌≡◌, ℕ, ◌+◌, ◌≤◌, List, ◌++◌, length, Option, Some, None, Result, Ok}
+use Rattle.std.specs.Prelude.{Err, string_bytes}
+use Rattle.book_model.specs.Words.{Layout, FrameFault, front, Joining, HasTaken, broken_by}
 use Rattle.book_import.specs.Pieces.{TakesAll}
 use Rattle.book_reports.specs.declared.fault.ReportFault.{ReportFault}
 use Rattle.program_output.specs.declared.listing.Listing.{Listing}

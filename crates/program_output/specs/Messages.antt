@@ -1,25 +1,22 @@
 -- What the program says on standard error: each line in its very bytes, and that it was said.
 use Rattle.std.specs.Prelude.{◌≡◌, ◌<◌, ◌≤◌, ℕ, List, [], ◌∷◌, ◌++◌, length, take, drop, codes}
-use Rattle.std.specs.Prelude.{Option, Result}
-use Rattle.std.specs.Fmt.{decimal}
+use Rattle.std.specs.Prelude.{Option, Result, decimal}
 use Rattle.std.specs.declared.io.Error.{Error}
 use Rattle.std.specs.declared.io.ErrorKind.{ErrorKind}
 use Rattle.std.specs.declared.io.ErrorKind.TheVariants.{OutOfMemory}
 use Rattle.std.specs.Io.KnownBytes.{Appends}
-use Rattle.smf_frames.specs.Faults.{frame_number}
-use Rattle.tariff_rules.specs.declared.fault.TariffFault.{TariffFault}
-use Rattle.tariff_rules.specs.declared.fault.TariffFault.TheVariants as tariff
-use Rattle.tariff_rules.specs.Faults.{tariff_number, key_text}
+use Rattle.tariff_rules.specs.Faults.{key_text}
 use Rattle.streams.specs.Failures.{FailsToWrite}
 use Rattle.book_model.specs.declared.fault.LedgerFault.{LedgerFault}
-use Rattle.book_model.specs.declared.fault.LedgerFault.TheVariants as ledger
-use Rattle.book_model.specs.Faults.{ledger_number}
+use Rattle.book_model.specs.Words.{frame_number, TariffFault, tariff_number, ledger_number}
 use Rattle.book_import.specs.declared.receipt.Stop.{Stop}
 use Rattle.book_import.specs.declared.receipt.Stop.TheVariants.{End, Frame, Read, ReadLimit, Ledger}
 use Rattle.report_texts.specs.Columns.{newline}
 use Rattle.book_reports.specs.declared.fault.ReportFault.{ReportFault}
-use Rattle.book_reports.specs.declared.fault.ReportFault.TheVariants as report
 use Rattle.book_reports.specs.ReceiptLines.{fault_text}
+use Rattle.tariff_rules.specs.declared.fault.TariffFault.TheVariants as tariff
+use Rattle.book_model.specs.declared.fault.LedgerFault.TheVariants as ledger
+use Rattle.book_reports.specs.declared.fault.ReportFault.TheVariants as report
 
 -- the name by which the program speaks of itself
 abbrev pub program_name : List ℕ

@@ -1,12 +1,11 @@
 -- The names of a list.
-use Rattle.std.specs.Prelude.{◌≡◌, ◌==◌, ◌+◌, ◌<◌, ◌≤◌, ⊤, Bool, false, ℕ, nat_lt, if◌then◌else◌, List}
-use Rattle.std.specs.Prelude.{[], ◌∷◌, ◌++◌, length, Option, Some, None, Result, Ok, Err}
-use Rattle.std.specs.List.{All}
+use Rattle.std.specs.Prelude.{◌≡◌, ◌==◌, ◌+◌, ◌<◌, ◌≤◌, ⊤, Bool, false, ℕ, nat_lt, if◌then◌else◌}
+use Rattle.std.specs.Prelude.{List, [], ◌∷◌, ◌++◌, length, Option, Some, None, Result, Ok, Err, All}
 use Rattle.std.specs.Str.Lines.{lines}
-use Rattle.book_model.specs.Limits.{most_choices}
-pub use Rattle.book_reports.specs.RecordNames.{name_in}
+use Rattle.book_model.specs.Words.{most_choices}
 use Rattle.program_output.specs.declared.names.NameList.{NameList}
 use Rattle.program_output.specs.declared.names.NamesFault.{NamesFault}
+pub use Rattle.book_reports.specs.RecordNames.{name_in}
 use Rattle.program_output.specs.declared.names.NamesFault.TheVariants as fault
 
 -- the names, or why there are none

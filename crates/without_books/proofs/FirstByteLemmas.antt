@@ -1,16 +1,15 @@
 -- Bytes that are read ahead of a dump, and are given with the rest.
-use Rattle.std.proofs.Common.{◌≡◌, ◌∙◌, ◌+◌, ◌-◌, ◌≤◌, ℕ, List, ◌++◌, true, true≢false, Option, Some, None}
-use Rattle.std.proofs.Common.{length, length-take-le, take, take_all, append-nil, ap, subst, sym}
-use Rattle.std.proofs.Common.{refl, Bool, false, ◌&&◌, Result, Ok, Err, inl, inr}
+use Rattle.std.proofs.Common.{◌≡◌, ◌∙◌, ◌+◌, ◌-◌, ◌≤◌, ℕ, List, ◌++◌, true, true≢false, Option}
+use Rattle.std.proofs.Common.{Some, None, length, length-take-le, take, take_all, append-nil, ap}
+use Rattle.std.proofs.Common.{subst, sym, refl, Bool, false, ◌&&◌, Result, Ok, Err, inl, inr, IfOk}
 use Rattle.std.proofs.Math.Seq.{take-append-add}
-use Rattle.std.proofs.lemmas.List.{take-append-le}
 use Rattle.std.specs.Io.KnownBytes.{Consumes}
-use Rattle.std.specs.Prelude.{IfOk}
 use Rattle.std.specs.Result.{result_unwrap_or}
 use Rattle.std.proofs.KnownBytes.{Consumes-trans}
 use lib.Seq.{take-append_seam}
 use borrow.Rule.Slice.PartMut.{put_mid, post_of}
-use Rattle.smf_frames.specs.declared.dump.Layout.{Layout}
+use Rattle.book_model.proofs.Std.{take-append-le}
+use Rattle.book_model.specs.Words.{Layout}
 use Rattle.program_output.specs.Layouts.{is_misread}
 use Rattle.without_books.specs.declared.first_bytes.FirstEnd.{FirstEnd}
 use Rattle.without_books.specs.declared.first_bytes.FirstEnd.TheVariants.{Full, AtEnd, Failed}

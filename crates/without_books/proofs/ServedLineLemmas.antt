@@ -1,7 +1,6 @@
 -- Lines that are written up to the first write that fails.
-use Rattle.std.proofs.Common.{◌∙◌, Bool, true, false, List, ◌++◌, ℕ, Option, ap, sym}
-use Rattle.std.proofs.Common.{append_assoc, drop, take}
-use Rattle.std.proofs.Common.{take-append-drop}
+use Rattle.std.proofs.Common.{◌∙◌, Bool, true, false, List, ◌++◌, ℕ, Option, ap, sym, append_assoc}
+use Rattle.std.proofs.Common.{drop, take, take-append-drop}
 use Rattle.std.proofs.KnownBytes.{Appends-kept, Appends-trans, Keeps-trans}
 use Rattle.std.specs.Io.KnownBytes.{Appends}
 use Rattle.streams.specs.InputOutput.{WriterSeen}

@@ -1,13 +1,11 @@
 -- The text of a tariff that a reader gives, and the tariff of a text.
-use Rattle.std.proofs.Common.{◌≡◌, ◌∙◌, ◌+◌, ◌≤◌, List, [], ◌++◌, ℕ, Option, Some, None, Result, Ok, Err}
-use Rattle.std.proofs.Common.{ap, arith, inl, inr, length, length-take, subst, sym, take, take_all}
-use Rattle.std.specs.Global.{Global}
-use Rattle.std.specs.Option.{option_map}
-use Rattle.std.specs.Prelude.{IfErr, IfOk, IfSome, IsErr, IsErrAnd, OnOk, String, string_bytes}
+use Rattle.std.proofs.Common.{◌≡◌, ◌∙◌, ◌+◌, ◌≤◌, List, [], ◌++◌, ℕ, Option, Some, None, Result, Ok}
+use Rattle.std.proofs.Common.{Err, ap, arith, inl, inr, length, length-take, subst, sym, take}
+use Rattle.std.proofs.Common.{take_all, Global, option_map, IfErr, IfOk, IfSome, IsErr, IsErrAnd}
+use Rattle.std.proofs.Common.{OnOk, String, string_bytes}
 use Rattle.std.specs.declared.io.ErrorKind.TheVariants.{OutOfMemory}
 use Rattle.tariff_rules.specs.Limits.{most_text}
-use Rattle.tariff_rules.specs.TariffFile.{terms_in}
-use Rattle.book_model.specs.Words.{Terms}
+use Rattle.book_model.specs.Words.{terms_in, Terms}
 use Rattle.without_books.specs.declared.command_fault.CommandFault.{CommandFault}
 use Rattle.without_books.specs.Faults.{IsFaultIn, IsNoText, IsTextFault, IsTextOf}
 use Rattle.without_books.specs.Reading.{IsTariffRead, IsTextIn, lasting}

@@ -1,37 +1,34 @@
 -- What is said of a fault to people, where standard error is a terminal: below the lines that the formats
 -- fix, and never in their place.
-use Rattle.std.specs.Prelude.{◌≡◌, ℕ, List, [], ◌++◌, codes, Option, Some, None}
-use Rattle.std.specs.Fmt.{decimal}
+use Rattle.std.specs.Prelude.{◌≡◌, ℕ, List, [], ◌++◌, codes, Option, Some, None, decimal}
 use Rattle.std.specs.declared.io.ErrorKind.{ErrorKind}
 use Rattle.std.specs.declared.io.ErrorKind.TheVariants.{NotFound, NotADirectory, PermissionDenied}
 use Rattle.std.specs.declared.io.ErrorKind.TheVariants.{ReadOnlyFilesystem, IsADirectory, AddrInUse}
-use Rattle.smf_frames.specs.Faults.{frame_number}
-use Rattle.tariff_rules.specs.Faults.{tariff_number}
 use Rattle.tariff_rules.specs.declared.tariff.entry.Entry.{Entry}
 use Rattle.tariff_rules.specs.declared.tariff.entry.Entry.TheVariants.{Shift, Centre}
-use Rattle.book_model.specs.Faults.{ledger_number}
+use Rattle.book_model.specs.Words.{frame_number, tariff_number, ledger_number}
 use Rattle.book_model.specs.declared.fault.LedgerFault.{LedgerFault}
-use Rattle.book_model.specs.declared.fault.LedgerFault.TheVariants as ledger
 use Rattle.book_import.specs.declared.receipt.Stop.{Stop}
-use Rattle.book_import.specs.declared.receipt.Stop.TheVariants as stop
 use Rattle.book_reports.specs.declared.fault.ReportFault.{ReportFault}
-use Rattle.book_reports.specs.declared.fault.ReportFault.TheVariants as report
 use Rattle.program_output.specs.Causes.{cause_text}
 use Rattle.program_output.specs.Explanations.{Explains}
 use Rattle.program_output.specs.declared.causes.Cause.{Cause}
-use Rattle.program_output.specs.declared.causes.Cause.TheVariants as cause
 use Rattle.program_output.specs.declared.explanations.Explanation.{Explanation}
-use Rattle.program_output.specs.declared.explanations.FaultKind.TheVariants as kind
 use Rattle.program_output.specs.declared.words.WordKind.{WordKind}
-use Rattle.program_output.specs.declared.words.WordKind.TheVariants as word
 use Rattle.without_books.specs.declared.command_fault.CommandFault.{CommandFault}
-use Rattle.without_books.specs.declared.command_fault.CommandFault.TheVariants as fault
 use Rattle.without_books.specs.declared.help_lines.Topic.{Topic}
 use Rattle.without_books.specs.declared.notice.Notice.{Notice}
-use Rattle.without_books.specs.declared.notice.Notice.TheVariants as notice
 use Rattle.without_books.specs.declared.places.Place.{Place}
-use Rattle.without_books.specs.declared.places.Place.TheVariants as place
 use Rattle.without_books.specs.declared.places.Spot.{Spot}
+use Rattle.book_model.specs.declared.fault.LedgerFault.TheVariants as ledger
+use Rattle.book_import.specs.declared.receipt.Stop.TheVariants as stop
+use Rattle.book_reports.specs.declared.fault.ReportFault.TheVariants as report
+use Rattle.program_output.specs.declared.causes.Cause.TheVariants as cause
+use Rattle.program_output.specs.declared.explanations.FaultKind.TheVariants as kind
+use Rattle.program_output.specs.declared.words.WordKind.TheVariants as word
+use Rattle.without_books.specs.declared.command_fault.CommandFault.TheVariants as fault
+use Rattle.without_books.specs.declared.notice.Notice.TheVariants as notice
+use Rattle.without_books.specs.declared.places.Place.TheVariants as place
 
 -- the cause, by what the system answered; a path through what is no folder leads nowhere
 abbrev pub cause_of : ErrorKind → Cause

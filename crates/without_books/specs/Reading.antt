@@ -3,33 +3,30 @@ use Rattle.std.specs.Prelude.{◌≡◌, ◌↔◌, ◌⊎◌, Bool, true, ℕ, 
 use Rattle.std.specs.Prelude.{Result, Ok, Err, IsSome, IfSome}
 use Rattle.std.specs.Io.KnownBytes.{Keeps}
 use Rattle.std.specs.declared.io.ErrorKind.{ErrorKind}
-use Rattle.smf_frames.specs.declared.dump.Layout.{Layout}
-use Rattle.tariff_rules.specs.declared.fault.TariffFault.{TariffFault}
-use Rattle.tariff_rules.specs.TariffFile.{terms_in}
-use Rattle.tariff_rules.specs.Terms.{AreRates, rates_of, flat_terms, on_every_day}
+use Rattle.tariff_rules.specs.Terms.{AreRates, rates_of, flat_terms}
 use Rattle.streams.specs.InputOutput.{Input}
-use Rattle.book_model.specs.declared.fault.LedgerFault.TheVariants as ledger
-use Rattle.book_model.specs.Words.{Terms}
+use Rattle.book_model.specs.Words.{Layout, TariffFault, terms_in, on_every_day, Terms}
 use Rattle.book_import.specs.ReadLimits.{cut_by, most_reads}
 use Rattle.book_import.specs.declared.receipt.Receipt.{Receipt}
 use Rattle.book_import.specs.declared.receipt.Stop.{Stop}
 use Rattle.book_reports.specs.declared.fault.ReportFault.{ReportFault}
 use Rattle.book_reports.specs.Writing.{is_write_fault}
 use Rattle.command_line.specs.declared.request.NumberKind.{NumberKind}
-use Rattle.command_line.specs.declared.request.NumberKind.TheVariants as number
 use Rattle.program_output.specs.declared.explanations.Explanation.{Explanation}
 use Rattle.program_output.specs.declared.explanations.FaultKind.{FaultKind}
-use Rattle.program_output.specs.declared.explanations.FaultKind.TheVariants as kind
-use Rattle.program_output.specs.declared.words.WordKind.TheVariants as word
 use Rattle.program_output.specs.Checks.{IsCheck}
 use Rattle.program_output.specs.Explanations.{Explains}
 use Rattle.program_output.specs.Readings.{reading}
 use Rattle.program_output.specs.Trials.{IsTrial}
 use Rattle.without_books.specs.declared.command_fault.CommandFault.{CommandFault}
-use Rattle.without_books.specs.declared.command_fault.CommandFault.TheVariants as fault
 use Rattle.without_books.specs.declared.ended.Ended.{Ended}
 use Rattle.without_books.specs.Faults.{IsPrinted, IsTextFault, io_fault, without_log}
 use Rattle.without_books.specs.FirstBytes.{IsLookedAt, dump_end}
+use Rattle.book_model.specs.declared.fault.LedgerFault.TheVariants as ledger
+use Rattle.command_line.specs.declared.request.NumberKind.TheVariants as number
+use Rattle.program_output.specs.declared.explanations.FaultKind.TheVariants as kind
+use Rattle.program_output.specs.declared.words.WordKind.TheVariants as word
+use Rattle.without_books.specs.declared.command_fault.CommandFault.TheVariants as fault
 
 -- how a trial ends of a dump that looked misread or not
 abbrev pub trial_end : Bool → Result Receipt ReportFault → Ended

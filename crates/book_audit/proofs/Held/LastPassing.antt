@@ -1,10 +1,7 @@
 -- The last of a list that passes a test, from either end.
 use Rattle.std.proofs.Common.{◌≡◌, ◌∙◌, ◌∷◌, [], List, Bool, true, false, Option, Some, None, ap}
 use Rattle.std.proofs.Common.{cond, map, refl, sym, filter, find, reverse, option_map}
-use Rattle.std.specs.List.{AllByRecursion, last_or}
-use Rattle.std.specs.Option.{option_or}
-use Rattle.std.proofs.lemmas.List.{reverse-append}
-use Rattle.std.proofs.lemmas.List.Folds.{find-append}
+use Rattle.book_model.proofs.Std.{AllByRecursion, last_or, option_or, reverse-append, find-append}
 
 module _ {X Y : Type 0} (f : X → Y) where
   -- from the back, the first element of a list is the last one asked

@@ -2,22 +2,16 @@
 use Rattle.std.proofs.Common.{◌≡◌, ◌<◌, ◌-◌, ◌∙◌, ◌&&◌, ◌∷◌, [], ℕ, zero, suc, Bool, true, false}
 use Rattle.std.proofs.Common.{not, cond, List, Option, Some, None, length, map, ap, ap₂, arith}
 use Rattle.std.proofs.Common.{refl, subst, sym, ◌==◌, ℤ, IfSome, filter, take_while, is_eq}
-use Rattle.std.specs.FinMap.{entries, get, get-entries}
-use Rattle.std.specs.Option.{option_map_or}
-use Rattle.std.specs.Ordering.{eq_by_cmp}
-use Rattle.std.proofs.lemmas.Map.Views.{tells_apart}
-use Rattle.std.proofs.lemmas.Bool.Decides.{nat_tests}
-use Rattle.std.proofs.lemmas.Cmp.{nat_list_eq_equiv}
-use Rattle.std.proofs.lemmas.List.{length-map}
 use Rattle.std.proofs.lemmas.List.Sums.{take_while-cons}
 use Rattle.sqlite_trees.specs.Tree.{Trees, from_key}
 use Rattle.sqlite_value.specs.Keys.{plain, prefix_cmp}
 use Rattle.sqlite_value.specs.Order.{Row}
 use Rattle.sqlite_value.specs.declared.value.Value.TheVariants.{Blob}
+use Rattle.book_model.proofs.Std.{entries, get, get-entries, option_map_or, eq_by_cmp, tells_apart}
+use Rattle.book_model.proofs.Std.{nat_tests, nat_list_eq_equiv, length-map}
 use Rattle.book_model.specs.Words.{open_by, same_bytes}
-use Rattle.book_model.proofs.SetLemmas.{same_bytes-by_cmp}
-use Rattle.table_model.specs.Tables.{RecordRow, Tables}
-use Rattle.table_model.specs.Views.{rows_with}
+use Rattle.book_model.proofs.Lemmas.{same_bytes-by_cmp}
+use Rattle.table_model.specs.Words.{RecordRow, Tables, rows_with}
 use Rattle.consistent_tables.specs.Consistent.{AreInTurn, charged_back, is_counted_row, line_at}
 use Rattle.consistent_tables.specs.Consistent.{periods_after, ruled}
 use Rattle.tree_rows.specs.Indexes.{by_bytes, indexed_by}

@@ -3,18 +3,16 @@
 use Rattle.std.proofs.Common.{◌≡◌, ◌∙◌, ◌++◌, ◌∷◌, [], List, map, length, take, ap, ap₂, refl}
 use Rattle.std.proofs.Common.{subst, sym, T, is_lt, Ordering, Less, Bool, true, false, Some, cond}
 use Rattle.std.proofs.Common.{true≢false, ◌⊎◌, inl, inr, ◌&&◌, filter, is_eq, Equal, Greater}
-use Rattle.std.specs.FinMap.{entries, from_entries, is_sorted, FinMap, entries_sorted, get}
 use Rattle.std.specs.FinMap.Entries.{below_all}
-use Rattle.std.specs.List.{AllByRecursion}
-use Rattle.std.proofs.lemmas.List.{length-map}
-use Rattle.std.proofs.lemmas.List.Elements.{recursion_from_All}
-use Rattle.std.proofs.lemmas.List.Sorted.{length_permutation}
 use Rattle.sqlite_trees.specs.Tree.{IsAscending, from_key}
 use Rattle.sqlite_trees.proofs.ListLemmas.{all_weaker, ascending-map, ascending_from_map}
 use Rattle.sqlite_trees.proofs.ListLemmas.{ascending_weaker, map-map}
 use Rattle.sqlite_value.specs.Order.{Row, row_cmp}
 use Rattle.sqlite_value.specs.Keys.{plain, prefix_cmp}
-use Rattle.book_model.proofs.FilterLemmas.{entries-sorted}
+use Rattle.book_model.proofs.Std.{entries, from_entries, is_sorted, FinMap, entries_sorted, get}
+use Rattle.book_model.proofs.Std.{AllByRecursion, length-map, recursion_from_All}
+use Rattle.book_model.proofs.Std.{length_permutation}
+use Rattle.book_model.proofs.Lemmas.{entries-sorted}
 use Rattle.tree_rows.specs.Layouts.{Layout, row_of, rows_of}
 use Rattle.tree_rows.specs.Indexes.{IsIndexKey, IsKeyOf, index_of}
 use Rattle.tree_rows.specs.Rows.{IsFirst}

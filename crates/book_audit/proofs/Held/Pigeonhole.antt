@@ -1,9 +1,8 @@
 -- A rising list of elements of another rising list is that list, if it is as long.
 use Rattle.std.proofs.Common.{◌≡◌, ◌≤◌, ◌⊎◌, inl, inr, List, [], ◌∷◌, length, refl, subst, sym}
 use Rattle.std.proofs.Common.{arith, ap₂, Ordering, Less}
-use Rattle.std.specs.Cmp.{IsTotalOrder, tied_itself}
-use Rattle.std.specs.List.{AllByRecursion}
 use Rattle.sqlite_trees.specs.Tree.{IsAscending}
+use Rattle.book_model.proofs.Std.{IsTotalOrder, tied_itself, AllByRecursion}
 
 -- it is one of these
 abbrev pub IsOneOf : {X : Type 0} → X → List X → Type 0

@@ -1,28 +1,19 @@
 -- What the rulings that were read of trees are in the tables that the trees hold.
 use Rattle.std.proofs.Common.{◌≡◌, ◌∙◌, ◌<◌, ◌∷◌, [], ◌⊎◌, inl, inr, ℕ, suc, List, Bool, true}
-use Rattle.std.proofs.Common.{false, ◌&&◌, ◌==◌, Option, Some, None, ap, map, refl, sym}
-use Rattle.std.proofs.Common.{eqb-true, ltb-true}
-use Rattle.std.specs.FinMap.{entries, values, get}
-use Rattle.std.specs.List.{AllByRecursion, last_or}
-use Rattle.std.specs.Option.{option_map, option_map_or, option_or}
-use Rattle.std.specs.Prelude.{if◌then◌else◌, filter, find, nat_le, nat_lt, reverse}
-use Rattle.std.proofs.lemmas.Cmp.{nat_list_eq_equiv}
-use Rattle.std.proofs.lemmas.Option.{same_Some}
+use Rattle.std.proofs.Common.{false, ◌&&◌, ◌==◌, Option, Some, None, ap, map, refl, sym, eqb-true}
+use Rattle.std.proofs.Common.{ltb-true, option_map, if◌then◌else◌, filter, find, nat_le, nat_lt}
+use Rattle.std.proofs.Common.{reverse}
 use Rattle.sqlite_trees.specs.Tree.{Trees}
 use Rattle.sqlite_value.specs.Order.{Row, column}
-use Rattle.smf_type30.specs.Usage.{day_of, identity2_of, identity_of}
-use Rattle.tariff_rules.specs.Price.{price_by}
-use Rattle.tariff_rules.specs.Terms.{Terms}
-use Rattle.tariff_rules.specs.declared.priced.Priced.{Priced}
+use Rattle.book_model.proofs.Std.{entries, values, get, AllByRecursion, last_or, option_map_or}
+use Rattle.book_model.proofs.Std.{option_or, nat_list_eq_equiv, same_Some}
+use Rattle.book_model.specs.Words.{day_of, identity2_of, identity_of, price_by, Terms, Priced}
 use Rattle.book_model.specs.Words.{AcceptedTerms, Rulings as Ruled, are_rising, first_rule}
 use Rattle.book_model.specs.Words.{last_period, price_in, price_under, same_bytes, second_rule}
-use Rattle.book_model.proofs.LatestLemmas.{begun-last}
-use Rattle.book_model.proofs.RecordSets.{first_of, second_of}
-use Rattle.table_model.specs.BookIn.{adopted_read}
-use Rattle.table_model.specs.Tables.{BookRow, ChoiceRow, RecordRow, RecordTable, Tables}
-use Rattle.table_model.specs.Tables.{never_adopted}
-use Rattle.table_model.specs.TablesOf.{under_numbers}
-use Rattle.table_model.specs.Views.{last_named, name_has_identity}
+use Rattle.book_model.proofs.Lemmas.{begun-last, first_of, second_of}
+use Rattle.table_model.specs.Words.{adopted_read, BookRow, ChoiceRow, RecordRow, RecordTable}
+use Rattle.table_model.specs.Words.{Tables, never_adopted, under_numbers, last_named}
+use Rattle.table_model.specs.Words.{name_has_identity}
 use Rattle.consistent_tables.specs.Consistent.{choice_numbers}
 use Rattle.tree_tables.specs.Columns.{choice_columns}
 use Rattle.tree_tables.specs.Holds.{Holds}

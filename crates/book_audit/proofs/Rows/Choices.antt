@@ -2,13 +2,12 @@
 use Rattle.std.proofs.Common.{◌≡◌, ◌<◌, ◌≤◌, ◌+◌, ◌∙◌, ◌++◌, ◌∷◌, [], ℕ, List, Bool, true, false}
 use Rattle.std.proofs.Common.{Option, Some, None, cond, map, length, ap, refl, sym, subst, arith}
 use Rattle.std.proofs.Common.{length-append, find, reverse, option_map}
-use Rattle.std.specs.List.{AllByRecursion}
-use Rattle.std.proofs.lemmas.List.{length-map, map-append, reverse-append}
 use Rattle.sqlite_trees.specs.Tree.{Trees}
 use Rattle.sqlite_trees.proofs.ListLemmas.{all-append, all_weaker, ascending-append}
 use Rattle.sqlite_value.specs.Order.{Row}
+use Rattle.book_model.proofs.Std.{AllByRecursion, length-map, map-append, reverse-append}
 use Rattle.book_model.specs.Words.{same_bytes}
-use Rattle.table_model.specs.TablesOf.{under_numbers}
+use Rattle.table_model.specs.Words.{under_numbers}
 use Rattle.table_model.proofs.UnderNumbers.{one_more}
 use Rattle.tree_tables.specs.Columns.{choice_columns}
 use Rattle.book_audit.specs.ChoiceRows.{AreMade, Chooses, IsMade, Made, last_made, made_rows}

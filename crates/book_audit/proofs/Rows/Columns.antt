@@ -2,8 +2,7 @@
 -- are known by their rows.
 use Rattle.std.proofs.Common.{◌≡◌, ℕ, suc, [], ◌∷◌, length, refl, ap₂, arith, List, ap, map}
 use Rattle.sqlite_value.specs.Order.{Row, column}
-use Rattle.table_model.specs.Tables.{ChoiceRow, RecordRow}
-use Rattle.table_model.specs.TablesOf.{under_numbers}
+use Rattle.table_model.specs.Words.{ChoiceRow, RecordRow, under_numbers}
 use Rattle.tree_tables.specs.Columns.{choice_columns, record_columns}
 use Rattle.tree_tables.proofs.LineRows.{same_flag}
 use Rattle.tree_tables.proofs.RowsRead.{same_blob, same_count, same_int, same_text}

@@ -3,12 +3,9 @@ use Rattle.std.proofs.Common.{◌≡◌, ◌∙◌, ◌<◌, ◌++◌, ◌∷◌
 use Rattle.std.proofs.Common.{ap₂, arith, cond, length, map, refl, subst, sym, true≢false, ◌+◌}
 use Rattle.std.proofs.Common.{sum_by, filter, if◌then◌else◌, is_eq, Less, Equal, Greater}
 use Rattle.std.specs.FinMap.{find}
-use Rattle.std.specs.List.{AllByRecursion}
-use Rattle.std.proofs.lemmas.Option.{same_Some}
-use Rattle.std.proofs.lemmas.List.Folds.{fold-map}
-use Rattle.tariff_rules.specs.declared.priced.Priced.{Priced}
-use Rattle.book_model.specs.Words.{by_bytes}
-use Rattle.table_model.specs.Tables.{RecordRow}
+use Rattle.book_model.proofs.Std.{AllByRecursion, same_Some, fold-map}
+use Rattle.book_model.specs.Words.{Priced, by_bytes}
+use Rattle.table_model.specs.Words.{RecordRow}
 use Rattle.tree_rows.proofs.IndexOrders.{by_bytes_exact}
 use Rattle.book_audit.specs.Records.{Told, counted_prices}
 

@@ -1,16 +1,15 @@
 -- The rows of records that are right, one after the other, and the charge rows that are due for them.
 use Rattle.std.proofs.Common.{◌≡◌, ◌≤◌, ◌+◌, ◌∙◌, ◌++◌, ◌∷◌, [], ℕ, List, map, ap, refl, sym, arith}
 use Rattle.std.proofs.Common.{append-nil, append_assoc, length-append, ◌<◌, ℤ, take, get_or, length}
-use Rattle.std.proofs.lemmas.List.{map-append, take_all, take_more}
-use Rattle.std.proofs.lemmas.List.Sums.{sum_by-append}
+use Rattle.std.proofs.Common.{take_all}
 use Rattle.sqlite_trees.specs.Tree.{Trees}
 use Rattle.sqlite_trees.proofs.ListLemmas.{all-append}
 use Rattle.sqlite_value.specs.Order.{Row}
-use Rattle.tariff_rules.specs.declared.priced.Priced.{Priced}
-use Rattle.book_model.specs.Words.{most_cost, rows_of}
+use Rattle.book_model.proofs.Std.{map-append, take_more, sum_by-append}
+use Rattle.book_model.specs.Words.{Priced, most_cost, rows_of}
 use Rattle.book_model.specs.declared.row.ChargeRow.{ChargeRow}
 use Rattle.book_model.specs.declared.row.RowKey.{RowKey}
-use Rattle.book_core.specs.KeyedRows.{keyed_rows}
+use Rattle.book_core.specs.Words.{keyed_rows}
 use Rattle.book_core.proofs.KeyedRowLemmas.{rows_of-keyed_rows}
 use Rattle.consistent_tables.specs.DueRows.{due_entry}
 use Rattle.tree_tables.specs.Columns.{day_columns, record_columns}

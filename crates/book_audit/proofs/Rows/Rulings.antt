@@ -1,18 +1,13 @@
 -- The rows of closes and of tariffs, one after the other.
 use Rattle.std.proofs.Common.{◌≡◌, ◌∙◌, ◌++◌, ◌∷◌, [], ℕ, suc, List, Option, Some, None, map}
 use Rattle.std.proofs.Common.{length, ap, arith, cond, false, not, refl, sym, true, ◌-◌, ℤ, ◌+◌}
-use Rattle.std.proofs.Common.{◌<ℤ◌, MatchOption, int_lt, nat_lt, int_cmp, Less, Ok}
-use Rattle.std.specs.List.{AllByRecursion, last_or}
+use Rattle.std.proofs.Common.{◌<ℤ◌, MatchOption, int_lt, nat_lt, int_cmp, Less, Ok, IsUtf8}
 use Rattle.std.specs.List.Sorted.{IsStrictlySortedBy}
-use Rattle.std.specs.Option.{option_map_or}
-use Rattle.std.specs.Str.{IsUtf8}
-use Rattle.std.proofs.lemmas.Bool.Decides.{nat_tests}
-use Rattle.std.proofs.lemmas.Int.{ints}
-use Rattle.std.proofs.lemmas.List.{map-append}
 use Rattle.sqlite_value.specs.Order.{Row}
+use Rattle.book_model.proofs.Std.{AllByRecursion, last_or, option_map_or, nat_tests, ints}
+use Rattle.book_model.proofs.Std.{map-append}
 use Rattle.book_model.specs.Words.{AcceptedTerms, IsDay, Terms, terms_in}
-use Rattle.table_model.specs.TablesOf.{close_entries, tariff_entries}
-use Rattle.table_model.specs.Readable.{IsTexted}
+use Rattle.table_model.specs.Words.{close_entries, tariff_entries, IsTexted}
 use Rattle.table_model.proofs.CloseOrder.{earlier}
 use Rattle.table_model.proofs.UnderNumbers.{one_more}
 use Rattle.consistent_tables.specs.DueRows.{period_from}

@@ -1,13 +1,9 @@
 -- Sound trees hold the tables of a book.
 use Rattle.std.proofs.Common.{◌≡◌, ◌∙◌, List, ap, length, refl, subst, sym}
-use Rattle.std.specs.FinMap.{entries}
-use Rattle.std.proofs.lemmas.List.{length-map}
 use Rattle.sqlite_trees.specs.Tree.{Trees}
+use Rattle.book_model.proofs.Std.{entries, length-map}
 use Rattle.book_model.specs.Words.{AcceptedTerms, rows_of as charge_rows}
-use Rattle.table_model.specs.BookIn.{book_in}
-use Rattle.table_model.specs.Readable.{IsReadable}
-use Rattle.table_model.specs.Tables.{Tables}
-use Rattle.table_model.specs.TablesOf.{tables_of}
+use Rattle.table_model.specs.Words.{book_in, IsReadable, Tables, tables_of}
 use Rattle.consistent_tables.specs.Consistent.{AreConsistent, ruled}
 use Rattle.consistent_tables.specs.DueRows.{due_entry}
 use Rattle.consistent_tables.proofs.ReadableBook.{consistent_are_readable}

@@ -1,26 +1,18 @@
 -- The tables of a book that can be read back have as many charge rows and lines as its periods.
 use Rattle.std.proofs.Common.{◌≡◌, ◌∙◌, ◌+◌, ◌∷◌, [], ℕ, suc, List, All, Bool, T, true, false, ap}
-use Rattle.std.proofs.Common.{arith, filter, length, length-append, map, refl, slice_index_or, sum_by}
-use Rattle.std.proofs.Common.{sym}
-use Rattle.std.specs.Cmp.{IsTotalOrder}
-use Rattle.std.specs.FinMap.{IsAntisymmetric, entries, from_entries, is_sorted}
-use Rattle.std.specs.List.{AllByRecursion}
-use Rattle.std.specs.declared.cmp.Ordering.{Ordering}
-use Rattle.std.proofs.lemmas.Cmp.{nat_list_cmp_total}
-use Rattle.std.proofs.lemmas.List.{length-map}
-use Rattle.std.proofs.lemmas.List.Elements.{recursion_from_All}
-use Rattle.std.proofs.lemmas.List.Sorted.{length_permutation}
-use Rattle.std.proofs.lemmas.List.Sums.{sum_by-cons}
-use Rattle.std.proofs.lemmas.Map.Lookups.{exact_bytes}
-use Rattle.book_model.specs.Words.{Book, Naming, Period, all_periods, by_bytes, by_key}
-use Rattle.book_model.specs.Words.{members, name_of, prices, rows_for}
+use Rattle.std.proofs.Common.{arith, filter, length, length-append, map, refl, slice_index_or}
+use Rattle.std.proofs.Common.{sum_by, sym, Ordering}
+use Rattle.book_model.proofs.Std.{IsTotalOrder, IsAntisymmetric, entries, from_entries, is_sorted}
+use Rattle.book_model.proofs.Std.{AllByRecursion, nat_list_cmp_total, length-map}
+use Rattle.book_model.proofs.Std.{recursion_from_All, length_permutation, sum_by-cons, exact_bytes}
+use Rattle.book_model.specs.Words.{Book, Naming, Period, all_periods, by_bytes, by_key, members}
+use Rattle.book_model.specs.Words.{name_of, prices, rows_for}
 use Rattle.book_model.specs.declared.row.ChargeRow.{ChargeRow}
 use Rattle.book_model.specs.declared.row.RowKey.{RowKey}
-use Rattle.book_model.proofs.FilterLemmas.{Apart, filter-from_entries}
-use Rattle.book_model.proofs.RowLemmas.{by_key_exact, by_key_total}
-use Rattle.table_model.specs.PeriodRows.{by_period, numbered, under}
-use Rattle.table_model.specs.Readable.{IsReadable}
-use Rattle.table_model.specs.TablesOf.{day_entries, line_entries, row_key, signed_names, tables_of}
+use Rattle.book_model.proofs.Lemmas.{Apart, by_key_exact, by_key_total}
+use Rattle.book_model.proofs.FilterLemmas.{filter-from_entries}
+use Rattle.table_model.specs.Words.{by_period, numbered, under, IsReadable, day_entries}
+use Rattle.table_model.specs.Words.{line_entries, row_key, signed_names, tables_of}
 use Rattle.table_model.proofs.DayChanges.{days-sorted}
 use Rattle.table_model.proofs.HeldPeriods.{all_apart, all_held}
 use Rattle.table_model.proofs.LineNames.{lines_apart}

@@ -1,15 +1,12 @@
 -- The records of sound trees are right by their tables.
 use Rattle.std.proofs.Common.{◌≡◌, ◌∙◌, ◌+◌, ◌-◌, ◌||◌, ℕ, ℤ, List, Bool, true, false, Option, Some}
 use Rattle.std.proofs.Common.{None, ap, ap₂, arith, length, map, not, refl, subst, sym}
-use Rattle.std.specs.FinMap.{get}
-use Rattle.std.specs.Option.{option_map_or}
-use Rattle.std.specs.Prelude.{if◌then◌else◌, nat_lt}
+use Rattle.std.proofs.Common.{if◌then◌else◌, nat_lt}
 use Rattle.sqlite_trees.specs.Tree.{Trees}
 use Rattle.sqlite_trees.proofs.ListLemmas.{all-map, all_weaker}
+use Rattle.book_model.proofs.Std.{get, option_map_or}
 use Rattle.book_model.specs.Words.{open_by, same_bytes}
-use Rattle.table_model.specs.BookIn.{row_record}
-use Rattle.table_model.specs.Tables.{RecordRow, Tables}
-use Rattle.table_model.specs.Views.{is_due_at, is_due_in}
+use Rattle.table_model.specs.Words.{row_record, RecordRow, Tables, is_due_at, is_due_in}
 use Rattle.table_model.proofs.Finding.{get_one}
 use Rattle.consistent_tables.specs.Consistent.{AreInTurn, IsOwnRow, charged_back, is_counted_row}
 use Rattle.consistent_tables.specs.Consistent.{periods_after, ruled}

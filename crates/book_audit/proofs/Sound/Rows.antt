@@ -3,10 +3,7 @@ use Rattle.std.proofs.Common.{◌≡◌, ◌∙◌, ◌++◌, ◌<◌, ◌≤◌
 use Rattle.std.proofs.Common.{false, Option, Some, None, IsSome, ap, ap₂, arith, cond, drop, length}
 use Rattle.std.proofs.Common.{map, pos, refl, subst, sum_by, sym, true≢false, ◌&&◌, filter, is_eq}
 use Rattle.std.proofs.Common.{is_lt, Ordering, Less, Equal, Greater}
-use Rattle.std.specs.Cmp.Lexicographic.{nat_list_cmp_total}
-use Rattle.std.specs.FinMap.{entries, find, from_entries, get, get-entries, get-from_entries}
-use Rattle.std.specs.FinMap.{same_map, values}
-use Rattle.std.specs.Ordering.{ordering_then}
+use Rattle.std.specs.FinMap.{find}
 use Rattle.sqlite_trees.specs.Tree.{Trees, from_key}
 use Rattle.sqlite_trees.proofs.ListLemmas.{all_weaker}
 use Rattle.sqlite_value.specs.Keys.{plain, prefix_cmp}
@@ -14,12 +11,11 @@ use Rattle.sqlite_value.specs.Order.{Row, row_cmp, value_cmp}
 use Rattle.sqlite_value.specs.declared.value.Value.{Value}
 use Rattle.sqlite_value.specs.declared.value.Value.TheVariants.{Blob, Int, Text}
 use Rattle.sqlite_value.proofs.OrderLemmas.{value_cmp-Blob}
-use Rattle.tariff_rules.specs.declared.priced.Priced.{Priced}
-use Rattle.book_model.specs.Words.{by_bytes, by_key, most_held, rows_of as charge_rows}
+use Rattle.book_model.proofs.Std.{nat_list_cmp_total, entries, from_entries, get, get-entries}
+use Rattle.book_model.proofs.Std.{get-from_entries, same_map, values, ordering_then}
+use Rattle.book_model.specs.Words.{Priced, by_bytes, by_key, most_held, rows_of as charge_rows}
 use Rattle.book_model.specs.declared.detail.Detail.{Detail}
-use Rattle.table_model.specs.DetailsRead.{detail_shown}
-use Rattle.table_model.specs.PeriodRows.{by_period}
-use Rattle.table_model.specs.Tables.{RecordRow, Tables}
+use Rattle.table_model.specs.Words.{detail_shown, by_period, RecordRow, Tables}
 use Rattle.table_model.proofs.Finding.{get_one}
 use Rattle.consistent_tables.specs.Consistent.{IsOwnLine, counted_entries, is_counted_row, ruled}
 use Rattle.consistent_tables.specs.DueRows.{due_entry, period_from}

@@ -2,20 +2,15 @@
 use Rattle.std.proofs.Common.{◌≡◌, ◌∙◌, ◌<◌, ◌≤◌, ◌+◌, ◌∷◌, [], inl, inr, ℕ, suc, ℤ, List, true}
 use Rattle.std.proofs.Common.{All, Option, Some, None, ap, length, refl, subst, sym, T, int_cmp}
 use Rattle.std.proofs.Common.{option_map, filter_map, leb-true}
-use Rattle.std.specs.FinMap.{entries, entries_sorted, get, values}
-use Rattle.std.specs.FinMap.Entries.{is_sorted}
-use Rattle.std.specs.List.{AllByRecursion, cons_option}
-use Rattle.std.specs.List.Sorted.{IsStrictlySortedBy}
-use Rattle.std.proofs.lemmas.List.{length-map}
-use Rattle.std.proofs.lemmas.List.Elements.{All-cons, All-from_recursion, All-nil}
 use Rattle.sqlite_trees.specs.Tree.{Trees}
-use Rattle.tariff_rules.specs.Terms.{Terms}
-use Rattle.book_model.specs.Words.{AcceptedTerms, Choice, IsDay, are_rising, identity_by}
+use Rattle.book_model.proofs.Std.{entries, entries_sorted, get, values, is_sorted, AllByRecursion}
+use Rattle.book_model.proofs.Std.{cons_option, IsStrictlySortedBy, length-map, All-cons}
+use Rattle.book_model.proofs.Std.{All-from_recursion, All-nil}
+use Rattle.book_model.specs.Words.{Terms, AcceptedTerms, Choice, IsDay, are_rising, identity_by}
 use Rattle.book_model.specs.Words.{last_period, most_choices, open_by, price_in}
-use Rattle.table_model.specs.BookIn.{choice_read}
-use Rattle.table_model.specs.Readable.{IsTexted}
-use Rattle.table_model.specs.Tables.{BookRow, ChoiceRow, RecordRow, RecordTable, Tables}
-use Rattle.table_model.specs.TablesOf.{close_entries, tariff_entries, under_numbers}
+use Rattle.table_model.specs.Words.{choice_read, IsTexted, BookRow, ChoiceRow, RecordRow}
+use Rattle.table_model.specs.Words.{RecordTable, Tables, close_entries, tariff_entries}
+use Rattle.table_model.specs.Words.{under_numbers}
 use Rattle.table_model.proofs.RulingsReading.{tariffs_back}
 use Rattle.table_model.proofs.UnderNumbers.{entries-numbers, values-numbers}
 use Rattle.consistent_tables.specs.Consistent.{IsOwnRule, choice_numbers, ruled}

@@ -3,30 +3,23 @@ use Rattle.std.proofs.Common.{◌≡◌, ◌∙◌, ◌∷◌, [], ℕ, zero, su
 use Rattle.std.proofs.Common.{Option, Some, None, map, length, take, cond, ap, ap₂, refl, subst}
 use Rattle.std.proofs.Common.{sym, ◌⊎◌, inl, inr, arith, is_some, is_eq, Ordering, Less, Equal}
 use Rattle.std.proofs.Common.{Greater}
-use Rattle.std.specs.FinMap.{FinMap, contains_key, entries, entries_sorted, find, from_entries, get}
-use Rattle.std.specs.FinMap.{get-entries, get-from_entries}
-use Rattle.std.specs.Cmp.Lexicographic.{nat_list_cmp_total}
-use Rattle.std.specs.List.{AllByRecursion}
-use Rattle.std.specs.Ordering.{eq_by_cmp, ordering_then}
-use Rattle.std.proofs.lemmas.Cmp.{eq_by_cmp_equiv}
-use Rattle.std.proofs.lemmas.List.{length-map}
-use Rattle.std.proofs.lemmas.List.Elements.{recursion_from_All}
-use Rattle.std.proofs.lemmas.Simd.{map-map}
-use Rattle.std.proofs.lemmas.Option.{same_Some}
+use Rattle.std.specs.FinMap.{find}
 use Rattle.sqlite_trees.specs.Tree.{IsAscending, Trees}
 use Rattle.sqlite_trees.proofs.ListLemmas.{all-map, all_weaker, ascending-map, ascending_from_map}
 use Rattle.sqlite_trees.proofs.ListLemmas.{ascending_weaker}
 use Rattle.sqlite_value.specs.Order.{Row, row_cmp, value_cmp}
 use Rattle.sqlite_value.specs.declared.value.Value.TheVariants.{Blob, Int}
+use Rattle.book_model.proofs.Std.{FinMap, contains_key, entries, entries_sorted, from_entries, get}
+use Rattle.book_model.proofs.Std.{get-entries, get-from_entries, nat_list_cmp_total, AllByRecursion}
+use Rattle.book_model.proofs.Std.{eq_by_cmp, ordering_then, eq_by_cmp_equiv, length-map}
+use Rattle.book_model.proofs.Std.{recursion_from_All, map-map, same_Some}
 use Rattle.book_model.specs.Words.{by_bytes, detail_with, rows_of as charge_rows}
 use Rattle.book_model.specs.declared.detail.Detail.{Detail}
 use Rattle.book_model.specs.declared.row.ChargeRow.{ChargeRow}
 use Rattle.book_model.specs.declared.row.RowKey.{RowKey}
-use Rattle.table_model.specs.BookIn.{row_record}
-use Rattle.table_model.specs.DetailsRead.{detail_shown}
-use Rattle.table_model.specs.Tables.{ChoiceRow, ChoiceTable, CountedTable, DayTable, RecordRow}
-use Rattle.table_model.specs.Tables.{RecordTable, Tables}
-use Rattle.table_model.specs.TablesOf.{close_entries, row_key, tariff_entries, under_numbers}
+use Rattle.table_model.specs.Words.{row_record, detail_shown, ChoiceRow, ChoiceTable, CountedTable}
+use Rattle.table_model.specs.Words.{DayTable, RecordRow, RecordTable, Tables, close_entries}
+use Rattle.table_model.specs.Words.{row_key, tariff_entries, under_numbers}
 use Rattle.table_model.proofs.UnderNumbers.{entries-numbers}
 use Rattle.table_model.proofs.Finding.{get_one}
 use Rattle.consistent_tables.specs.DueRows.{due_entry}

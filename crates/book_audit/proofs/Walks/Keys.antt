@@ -1,16 +1,15 @@
 -- A walk by key reads the rows one by one, where each is after the one before.
 use Rattle.std.proofs.Common.{◌≡◌, ◌≢◌, ◌∙◌, ◌++◌, ◌∷◌, [], ℕ, ◌≤◌, ◌<◌, List, true, cond, ap}
 use Rattle.std.proofs.Common.{arith, drop, length, refl, sym, subst, take, true≢false, append_assoc}
-use Rattle.std.proofs.Common.{is_eq, is_gt, is_lt, Ordering, Less, Equal, Greater}
-use Rattle.std.specs.List.{AllByRecursion}
-use Rattle.std.specs.Cmp.{tied_itself}
-use Rattle.std.proofs.lemmas.List.{length-take-le, take-append-drop}
+use Rattle.std.proofs.Common.{is_eq, is_gt, is_lt, Ordering, Less, Equal, Greater, length-take-le}
+use Rattle.std.proofs.Common.{take-append-drop}
 use Rattle.sqlite_trees.specs.Tree.{from_key}
 use Rattle.sqlite_trees.proofs.ListLemmas.{all-append, ascending-append}
 use Rattle.sqlite_trees.proofs.TreeLemmas.{above}
 use Rattle.sqlite_value.specs.Keys.{plain, prefix_cmp}
 use Rattle.sqlite_value.specs.Order.{Row, row_cmp}
 use Rattle.sqlite_value.proofs.OrderLemmas.{row_cmp_total}
+use Rattle.book_model.proofs.Std.{AllByRecursion, tied_itself}
 use Rattle.tree_rows.specs.Rows.{IsFirst, past_key}
 use Rattle.tree_rows.proofs.Maps.{prefix_of}
 use Rattle.tree_tables.specs.Walks.{rows_past}

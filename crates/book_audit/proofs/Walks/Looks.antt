@@ -1,7 +1,6 @@
 -- Looks at a store, one after the other, and what ends after them.
 use Rattle.std.proofs.Common.{◌≡◌, Result, Ok, Err, Option, Some, None, IfSome, arith, inl, refl}
-use Rattle.std.proofs.Common.{subst, sym, true≢false}
-use Rattle.std.specs.Prelude.{IsErr}
+use Rattle.std.proofs.Common.{subst, sym, true≢false, IsErr}
 use Rattle.sqlite_trees.specs.declared.store.Store.{Ghosts}
 use Rattle.tree_rows.specs.Calls.{CommitsNothing}
 use Rattle.tree_rows.proofs.Calls.{quiet_both}

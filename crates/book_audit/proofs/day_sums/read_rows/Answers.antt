@@ -1,5 +1,4 @@
-use Rattle.std.proofs.Common.{◌≡◌, ◌∙◌, ℕ, ℤ, List, ap, map, take, subst, sym}
-use Rattle.std.proofs.lemmas.List.{take_all}
+use Rattle.std.proofs.Common.{◌≡◌, ◌∙◌, ℕ, ℤ, List, ap, map, take, subst, sym, take_all}
 use Rattle.sqlite_value.specs.Order.{Row}
 use Rattle.book_model.specs.declared.row.ChargeRow.{ChargeRow}
 use Rattle.consistent_tables.specs.DueRows.{due_entry}

@@ -2,9 +2,8 @@ use Rattle.std.proofs.Common.{◌≡◌, ◌∷◌, [], List, ℕ, true, rules, 
 use Rattle.sqlite_trees.specs.Tree.{Trees}
 use Rattle.sqlite_trees.specs.View.{IsClean}
 use Rattle.sqlite_value.specs.declared.value.Value.TheVariants.{Blob}
-use Rattle.smf_frames.specs.Framed.{record_with}
-use Rattle.book_model.specs.Words.{detail_with}
-use Rattle.table_model.specs.Tables.{RecordRow}
+use Rattle.book_model.specs.Words.{record_with, detail_with}
+use Rattle.table_model.specs.Words.{RecordRow}
 use Rattle.tree_rows.specs.Calls.{OnlyLooks}
 use Rattle.tree_rows.specs.Rows.{Finds}
 use Rattle.tree_tables.specs.Columns.{record_columns}

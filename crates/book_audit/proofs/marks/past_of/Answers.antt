@@ -1,6 +1,5 @@
-use Rattle.std.proofs.Common.{◌≡◌, sym, ◌∷◌, ◌-◌, [], ℕ, List, IfSome, is_some, pos}
-use Rattle.std.proofs.Common.{subst, Bool, Option, ◌+◌, suc, true, false, Some, None, not}
-use Rattle.std.proofs.Common.{arith, refl}
+use Rattle.std.proofs.Common.{◌≡◌, sym, ◌∷◌, ◌-◌, [], ℕ, List, IfSome, is_some, pos, subst, Bool}
+use Rattle.std.proofs.Common.{Option, ◌+◌, suc, true, false, Some, None, not, arith, refl}
 use Rattle.std.specs.Bool.{beq}
 use Rattle.sqlite_trees.specs.Tree.{Trees}
 use Rattle.sqlite_trees.specs.View.{IsClean}

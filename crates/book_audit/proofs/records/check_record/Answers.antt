@@ -1,8 +1,7 @@
 use Rattle.std.proofs.Common.{◌≡◌, Bool, List, ℕ, true, rules, subst, sym}
 use Rattle.sqlite_trees.specs.Tree.{Trees}
 use Rattle.sqlite_trees.specs.View.{IsClean}
-use Rattle.table_model.specs.DetailsRead.{detail_shown}
-use Rattle.table_model.specs.Tables.{RecordRow}
+use Rattle.table_model.specs.Words.{detail_shown, RecordRow}
 use Rattle.tree_tables.specs.Stored.{stored_entry}
 use Rattle.book_audit.specs.Looks.{IsLook}
 use Rattle.book_audit.specs.Records.{HasPast, IsChecked, IsRight, detail_key, spot_of}

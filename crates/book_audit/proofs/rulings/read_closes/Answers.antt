@@ -1,13 +1,11 @@
-use Rattle.std.proofs.Common.{◌≡◌, ◌∙◌, ◌++◌, ◌∷◌, [], ℤ, All, List, None, map, ap}
-use Rattle.std.proofs.Common.{rules, subst, sym, w32, int_cmp}
-use Rattle.std.specs.List.{last_or}
+use Rattle.std.proofs.Common.{◌≡◌, ◌∙◌, ◌++◌, ◌∷◌, [], ℤ, All, List, None, map, ap, rules, subst}
+use Rattle.std.proofs.Common.{sym, w32, int_cmp}
 use Rattle.std.specs.List.Sorted.{IsStrictlySortedBy}
-use Rattle.std.proofs.lemmas.Int.{to_z-of_z}
-use Rattle.std.proofs.lemmas.List.Elements.{All-nil, All-push}
 use Rattle.sqlite_value.specs.Order.{Row}
+use Rattle.book_model.proofs.Std.{last_or, to_z-of_z, All-nil, All-push}
 use Rattle.book_model.specs.Words.{IsDay}
-use Rattle.book_model.proofs.DayLemmas.{day_fits}
-use Rattle.table_model.specs.TablesOf.{close_entries}
+use Rattle.book_model.proofs.Lemmas.{day_fits}
+use Rattle.table_model.specs.Words.{close_entries}
 use Rattle.table_model.proofs.CloseOrder.{rise_behind}
 use Rattle.tree_tables.specs.Columns.{closed_columns}
 use Rattle.book_audit.specs.Looks.{IsLook}

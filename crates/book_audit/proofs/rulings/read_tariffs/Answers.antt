@@ -3,8 +3,7 @@ use Rattle.sqlite_trees.specs.View.{IsClean}
 use Rattle.sqlite_trees.proofs.ListLemmas.{all-append}
 use Rattle.sqlite_value.specs.Order.{Row}
 use Rattle.book_model.specs.Words.{AcceptedTerms, Terms}
-use Rattle.table_model.specs.Readable.{IsTexted}
-use Rattle.table_model.specs.TablesOf.{tariff_entries}
+use Rattle.table_model.specs.Words.{IsTexted, tariff_entries}
 use Rattle.tree_tables.specs.Columns.{tariff_columns}
 use Rattle.book_audit.specs.Looks.{IsLook}
 use Rattle.book_audit.specs.Rulings.{IsTariffIn}

@@ -1,9 +1,8 @@
 use Rattle.std.proofs.Common.{◌≡◌, List, map}
-use Rattle.std.specs.List.{AllByRecursion}
 use Rattle.sqlite_trees.specs.View.{IsClean}
+use Rattle.book_model.proofs.Std.{AllByRecursion}
 use Rattle.book_model.specs.Words.{AcceptedTerms}
-use Rattle.table_model.specs.Readable.{IsTexted}
-use Rattle.table_model.specs.TablesOf.{tariff_entries}
+use Rattle.table_model.specs.Words.{IsTexted, tariff_entries}
 use Rattle.tree_tables.specs.Columns.{tariff_columns}
 use Rattle.book_audit.specs.Looks.{IsLook}
 use Rattle.book_audit.specs.Walks.{HasWalked}

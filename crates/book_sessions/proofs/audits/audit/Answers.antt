@@ -1,16 +1,10 @@
 use Rattle.std.proofs.Common.{◌≡◌, subst}
-use Rattle.std.proofs.Math.Logic.{∥∥₁_map}
-use Rattle.sqlite_store.specs.FileStore.{view}
-use Rattle.sqlite_trees.proofs.Doubt.{clean_of, no_doubt}
-use Rattle.sqlite_trees.specs.Tree.{Trees}
-use Rattle.sqlite_wal.specs.Recovery.{Image}
 use Rattle.book_audit.specs.OfBook.{AreOfBook}
-use Rattle.book_restarts.specs.FileBooks.{file_names}
 use Rattle.book_trees.proofs.ListingLemmas.{books_listed}
-use Rattle.tree_tables.specs.Holds.{HasShapes}
 use Rattle.book_sessions.specs.Audits.{HoldSameTrees}
 use Rattle.book_sessions.specs.Openings.{IsLookedFrom, IsLooking}
-use Rattle.book_sessions.specs.Sessions.{MayFollow}
+use Rattle.book_sessions.proofs.Words.{∥∥₁_map, view, clean_of, no_doubt, Trees, Image, file_names}
+use Rattle.book_sessions.proofs.Words.{HasShapes, MayFollow}
 use Rattle.book_sessions.specs.declared.ended.Ended.TheVariants.{Closed}
 use Rattle.book_sessions.proofs.AuditParts.{audited_same, same_goes_on, unaudited}
 use Rattle.book_sessions.proofs.Causes.{err_each, ok_each, ok_so}

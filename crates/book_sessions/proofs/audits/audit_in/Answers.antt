@@ -1,12 +1,11 @@
 use Rattle.std.proofs.Common.{◌∙◌, ◌≡◌, sym}
-use Rattle.sqlite_trees.specs.View.{IsClean}
 use Rattle.book_audit.specs.OfBook.{AreOfBook}
 use Rattle.book_audit.specs.declared.audited.Audited.TheVariants.{Sound}
 use Rattle.book_audit.specs.declared.audited.Counts.{Counts}
 use Rattle.book_restarts.proofs.OpenStores.{clean_before}
-use Rattle.book_restarts.specs.FileBooks.{file_names}
 use Rattle.named_books.specs.declared.repository.RepositoryFault.TheVariants.{Ledger}
 use Rattle.book_sessions.proofs.Causes.{mapped_ok}
+use Rattle.book_sessions.proofs.Words.{IsClean, file_names}
 use Rattle.book_sessions.proofs.audits.audit_in.Goals as goal
 
 pub returns : goal.returns

@@ -1,10 +1,8 @@
 use Rattle.std.proofs.Common.{◌∙◌, ap, inl, inr, subst, sym}
-use Rattle.sqlite_trees.specs.Tree.{Trees}
-use Rattle.sqlite_trees.specs.View.{IsClean}
 use Rattle.book_model.specs.Words.{new_book}
 use Rattle.book_restarts.proofs.OpenStores.{clean_before}
-use Rattle.book_restarts.specs.FileBooks.{file_names}
 use Rattle.book_sessions.proofs.NewParts.{holds_new, open_leaves}
+use Rattle.book_sessions.proofs.Words.{Trees, IsClean, file_names}
 use Rattle.book_sessions.proofs.new_books.create_in.Goals as goal
 
 pub returns-in-Ok-clause-left : goal.returns-in-Ok-clause-left

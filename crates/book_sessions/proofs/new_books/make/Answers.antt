@@ -1,11 +1,8 @@
 use Rattle.std.proofs.Common.{subst, sym, true≢false}
-use Rattle.sqlite_store.specs.FileStore.{view}
-use Rattle.sqlite_trees.proofs.Doubt.{clean_of, no_doubt}
-use Rattle.sqlite_trees.specs.Tree.{Trees}
-use Rattle.book_restarts.specs.FileBooks.{file_names}
 use Rattle.book_trees.specs.LedgerFiles.{HoldsNothing}
-use Rattle.tree_tables.specs.Holds.{HasShapes}
-use Rattle.book_sessions.specs.Causes.{HasFaultCause, WhyNotMade}
+use Rattle.book_sessions.proofs.Words.{view, clean_of, no_doubt, Trees, file_names, HasShapes}
+use Rattle.book_sessions.proofs.Words.{HasFaultCause}
+use Rattle.book_sessions.specs.Causes.{WhyNotMade}
 use Rattle.book_sessions.specs.NewBooks.{LeavesNew}
 use Rattle.book_sessions.specs.Openings.{IsCreatedFrom, IsCreation}
 use Rattle.book_sessions.specs.declared.ended.Ended.TheVariants.{Refused}

@@ -1,20 +1,12 @@
 use Rattle.std.proofs.Common.{◌≡◌, subst, sym, true, true≢false}
-use Rattle.sqlite_store.specs.FileStore.{view}
-use Rattle.sqlite_trees.proofs.Doubt.{clean_of, no_doubt}
-use Rattle.sqlite_trees.specs.Tree.{Trees}
-use Rattle.sqlite_wal.specs.Reads.{AreClean}
 use Rattle.book_model.specs.Words.{book_after, new_book}
-use Rattle.book_restarts.specs.FileBooks.{file_names}
-use Rattle.book_trees.specs.Forms.{HoldsThisForm}
-use Rattle.book_trees.specs.LedgerFiles.{HoldsBooks, trees_held}
-use Rattle.table_ledger.specs.Ready.{IsStoredIn}
-use Rattle.table_model.specs.TablesOf.{tables_of}
-use Rattle.tree_tables.specs.Holds.{HasShapes, has_book}
-use Rattle.book_sessions.specs.Causes.{HasFaultCause, HaveBookRow, HaveUsedBook, IsResumedBy}
-use Rattle.book_sessions.specs.Causes.{WhyNotContinued}
+use Rattle.table_model.specs.Words.{tables_of}
+use Rattle.book_sessions.proofs.Words.{view, clean_of, no_doubt, Trees, AreClean, file_names}
+use Rattle.book_sessions.proofs.Words.{HoldsThisForm, HoldsBooks, trees_held, IsStoredIn, HasShapes}
+use Rattle.book_sessions.proofs.Words.{has_book, HasFaultCause, are_unused}
+use Rattle.book_sessions.specs.Causes.{HaveBookRow, HaveUsedBook, IsResumedBy, WhyNotContinued}
 use Rattle.book_sessions.specs.NewBooks.{LeavesNew}
 use Rattle.book_sessions.specs.Openings.{IsOpenedFrom, IsOpening}
-use Rattle.book_sessions.specs.Unused.{are_unused}
 use Rattle.book_sessions.specs.declared.ended.Ended.TheVariants.{Refused}
 use Rattle.book_sessions.proofs.Causes.{cause_so, err_so, told_by_row, unresumed_cause}
 use Rattle.book_sessions.proofs.NewParts.{refused_still, resumed_at}

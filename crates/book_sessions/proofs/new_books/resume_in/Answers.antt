@@ -1,10 +1,7 @@
 use Rattle.std.proofs.Common.{◌≡◌, ◌∙◌, Ok, Some, ap, false, subst, sym, true}
-use Rattle.sqlite_trees.specs.Tree.{Trees}
-use Rattle.book_restarts.specs.FileBooks.{file_names}
-use Rattle.table_model.specs.TablesOf.{tables_of}
+use Rattle.table_model.specs.Words.{tables_of}
 use Rattle.tree_tables.specs.States.{state}
-use Rattle.book_sessions.specs.Causes.{HasFaultCause}
-use Rattle.book_sessions.specs.Unused.{are_unused}
+use Rattle.book_sessions.proofs.Words.{Trees, file_names, HasFaultCause, are_unused}
 use Rattle.book_sessions.proofs.ResumeParts.{told_absent, told_filled, told_gone, told_in_vain}
 use Rattle.book_sessions.proofs.ResumeParts.{told_resumed, unwritten_stays}
 use Rattle.book_sessions.proofs.new_books.resume_in.Goals as goal

@@ -1,21 +1,13 @@
-use Rattle.std.proofs.Common.{◌≡◌, false, subst, sym}
-use Rattle.std.proofs.Math.Logic.{∥∥₁_elim, ∥∥₁_prop}
-use Rattle.std.specs.Prelude.{IfErr, IfOk, Result}
-use Rattle.sqlite_store.specs.FileStore.{view}
-use Rattle.sqlite_trees.proofs.Doubt.{clean_of}
-use Rattle.sqlite_trees.specs.View.{IsClean}
-use Rattle.sqlite_wal.specs.Recovery.{Image}
+use Rattle.std.proofs.Common.{◌≡◌, false, subst, sym, IfErr, IfOk, Result}
 use Rattle.book_model.specs.Words.{book_after}
 use Rattle.book_restarts.proofs.SessionLemmas.{still_held}
-use Rattle.book_restarts.specs.FileBooks.{file_names}
 use Rattle.book_trees.specs.FirstForm.{HasFirstTrees}
 use Rattle.book_trees.specs.LedgerFiles.{HoldsFile, rows_held}
-use Rattle.named_books.specs.declared.repository.RepositoryFault.{RepositoryFault}
 use Rattle.named_books.specs.declared.repository.Upgraded.{Upgraded}
-use Rattle.tree_tables.specs.Holds.{has_book}
 use Rattle.book_sessions.specs.Causes.{HaveNoFirstRow, IsToldOfThis, WhyNotUpgraded}
 use Rattle.book_sessions.specs.Openings.{IsFirstFrom, IsFirstOpening}
-use Rattle.book_sessions.specs.Sessions.{MayFollow}
+use Rattle.book_sessions.proofs.Words.{∥∥₁_elim, ∥∥₁_prop, view, clean_of, IsClean, Image}
+use Rattle.book_sessions.proofs.Words.{file_names, RepositoryFault, has_book, MayFollow}
 use Rattle.book_sessions.specs.Upgrades.{BringsOver, HoldsWhatIsTold, LeavesUpgraded, TellsThisForm}
 use Rattle.book_sessions.specs.declared.ended.Ended.TheVariants.{Closed}
 use Rattle.book_sessions.proofs.Causes.{cause_so, err_so, opened_not_this}

@@ -1,9 +1,8 @@
-use Rattle.sqlite_trees.proofs.Doubt.{no_doubt}
-use Rattle.book_restarts.specs.FileBooks.{file_names}
 use Rattle.book_sessions.specs.Upgrades.{LeavesUpgraded}
 use Rattle.book_sessions.proofs.SessionParts.{close_rows, found_clean, to_be_moved}
 use Rattle.book_sessions.proofs.Causes.{err_so}
 use Rattle.book_sessions.proofs.UpgradeParts.{brought_holds, unbrought_holds}
+use Rattle.book_sessions.proofs.Words.{no_doubt, file_names}
 use Rattle.book_sessions.proofs.upgrades.upgrade_and_close.Goals as goal
 
 pub returns-in-Ok-clause-left : goal.returns-in-Ok-clause-left

@@ -1,21 +1,18 @@
 use Rattle.std.proofs.Common.{◌≡◌, subst, sym, true, true≢false}
-use Rattle.std.proofs.Math.Logic.{∥∥₁_map}
-use Rattle.sqlite_store.specs.FileStore.{view}
-use Rattle.sqlite_trees.proofs.Doubt.{clean_of, no_doubt}
-use Rattle.sqlite_trees.specs.Tree.{Trees}
 use Rattle.book_restarts.proofs.SessionLemmas.{held_leaves}
-use Rattle.book_restarts.specs.FileBooks.{LeavesTrees, done_by, file_names}
-use Rattle.book_trees.specs.Forms.{HoldsThisForm}
-use Rattle.tree_tables.specs.Holds.{HasShapes}
-use Rattle.book_sessions.specs.Causes.{HasFaultCause, HaveNoBookRow, WhyNotVisited}
+use Rattle.book_restarts.specs.FileBooks.{LeavesTrees, done_by}
+use Rattle.book_sessions.proofs.Words.{∥∥₁_map, view, clean_of, no_doubt, Trees, file_names}
+use Rattle.book_sessions.proofs.Words.{HoldsThisForm, HasShapes, HasFaultCause}
+use Rattle.book_sessions.specs.Causes.{HaveNoBookRow, WhyNotVisited}
 use Rattle.book_sessions.specs.Openings.{IsOpenedFrom, IsOpening}
 use Rattle.book_sessions.specs.Sessions.{FilesGoOn}
 use Rattle.book_sessions.specs.declared.ended.Ended.TheVariants.{Closed, Refused}
 use Rattle.book_sessions.proofs.Causes.{err_so, ok_so, refused_cause, told_by_row, visited_cause}
 use Rattle.book_sessions.proofs.Openings.{carried_closed, carried_refused, some_so, the_store}
-use Rattle.book_sessions.proofs.SessionParts.{alone_follows, close_leaves, close_rows, done_answered}
-use Rattle.book_sessions.proofs.SessionParts.{found_clean, left_of_book, refused_goes_on}
-use Rattle.book_sessions.proofs.SessionParts.{rows_as_found, session_goes_on, to_be_moved}
+use Rattle.book_sessions.proofs.SessionParts.{alone_follows, close_leaves, close_rows}
+use Rattle.book_sessions.proofs.SessionParts.{done_answered, found_clean, left_of_book}
+use Rattle.book_sessions.proofs.SessionParts.{refused_goes_on, rows_as_found, session_goes_on}
+use Rattle.book_sessions.proofs.SessionParts.{to_be_moved}
 use Rattle.book_sessions.proofs.visits.visit.Goals as goal
 
 pub visit_in-requires : goal.visit_in-requires

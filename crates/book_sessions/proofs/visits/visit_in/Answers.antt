@@ -1,13 +1,10 @@
 use Rattle.std.proofs.Common.{◌≡◌, false, subst}
-use Rattle.sqlite_trees.specs.Tree.{Trees}
-use Rattle.sqlite_trees.specs.View.{IsClean}
 use Rattle.book_restarts.proofs.OpenStores.{clean_before}
 use Rattle.book_restarts.proofs.SessionLemmas.{visit_leaves}
-use Rattle.book_restarts.specs.FileBooks.{file_names}
-use Rattle.tree_tables.specs.Holds.{has_book}
 use Rattle.tree_tables.specs.States.{state}
 use Rattle.book_sessions.proofs.Causes.{opened_cause}
 use Rattle.book_sessions.proofs.ResumeParts.{unwritten_stays}
+use Rattle.book_sessions.proofs.Words.{Trees, IsClean, file_names, has_book}
 use Rattle.book_sessions.proofs.visits.visit_in.Goals as goal
 
 pub returns-in-Ok-clause-left : goal.returns-in-Ok-clause-left

@@ -1,5 +1,4 @@
-use Rattle.std.proofs.Common.{subst}
-use Rattle.std.specs.Prelude.{IfOk}
+use Rattle.std.proofs.Common.{subst, IfOk}
 use Rattle.chargectl.specs.Choices.{AreAllOf}
 use Rattle.chargectl.proofs.ListLemmas.{front_shown}
 use Rattle.chargectl.proofs.choices.read_front.Goals as goal

@@ -1,5 +1,4 @@
-use Rattle.std.proofs.Common.{subst}
-use Rattle.std.specs.Prelude.{IfOk}
+use Rattle.std.proofs.Common.{subst, IfOk}
 use Rattle.chargectl.specs.Choices.{AreAllOf, front_of}
 use Rattle.chargectl.proofs.choices.read_list.Goals as goal
 

@@ -1,12 +1,11 @@
-use Rattle.std.proofs.Common.{◌≡◌, ◌∙◌, None, Ok, false, ap, refl, subst, sym}
-use Rattle.std.specs.Prelude.{IfErr, IsErr, OnErr, OnOk}
-use Rattle.std.specs.Io.KnownBytes.{Keeps}
-use Rattle.streams.specs.Failures.{HasFailed}
+use Rattle.std.proofs.Common.{◌≡◌, ◌∙◌, None, Ok, false, ap, refl, subst, sym, IfErr, IsErr, OnErr}
+use Rattle.std.proofs.Common.{OnOk}
 use Rattle.streams.specs.Sinks.{has_failed, writer_of}
 use Rattle.chargectl.specs.Commands.{IsFileFault, first_fault}
 use Rattle.chargectl.specs.StreamedLists.{ListsBy, list_end}
 use Rattle.chargectl.proofs.OutputLemmas.{list_failed, open_failed, some_open}
 use Rattle.chargectl.proofs.StreamedListLemmas.{came_kept, opened_kept}
+use Rattle.chargectl.proofs.Words.{Keeps, HasFailed}
 use Rattle.chargectl.proofs.streamed_lists.write_list.Goals as goal
 
 pub returns : goal.returns

@@ -1,5 +1,4 @@
-use Rattle.std.proofs.Common.{◌≡◌, ◌∙◌, ◌&&◌, ap, subst, sym}
-use Rattle.std.specs.Prelude.{IfOk}
+use Rattle.std.proofs.Common.{◌≡◌, ◌∙◌, ◌&&◌, ap, subst, sym, IfOk}
 use Rattle.program_output.specs.Layouts.{is_misread}
 use Rattle.without_books.proofs.FirstByteLemmas.{whole_seen}
 use Rattle.without_books.proofs.first_bytes.looks_misread.Goals as goal

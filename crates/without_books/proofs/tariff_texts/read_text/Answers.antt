@@ -1,6 +1,5 @@
+use Rattle.std.proofs.Common.{take, option_map}
 use Rattle.std.specs.Io.Take.{take_remaining}
-use Rattle.std.proofs.Common.{take}
-use Rattle.std.specs.Option.{option_map}
 use Rattle.without_books.proofs.TextLemmas.{text_read}
 use Rattle.without_books.proofs.tariff_texts.read_text.Goals as goal
 

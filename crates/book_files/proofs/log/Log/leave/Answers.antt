@@ -1,5 +1,4 @@
-use Rattle.std.proofs.Common.{subst, sym}
-use Rattle.std.specs.Prelude.{IfSome}
+use Rattle.std.proofs.Common.{subst, sym, IfSome}
 use Rattle.book_files.specs.Logs.{LooksShort}
 use Rattle.book_files.proofs.log.Log.leave.Goals as goal
 
