@@ -2,10 +2,11 @@
 use Rattle.std.proofs.Common.{◌≡◌, ℕ, List, [], ◌++◌, length, sym, ap, subst, Option, Some, None}
 use Rattle.std.proofs.Common.{Result, Ok, Err, ◌∙◌, ◌+◌, ◌<◌, ◌≤◌, false, append-nil, ◌||◌, IfOk}
 use Rattle.std.proofs.Common.{unwrap_or}
-use Rattle.std.specs.Io.KnownBytes.{Consumes}
+use Rattle.std.specs.Io.KnownBytes.{Consumes, Appends}
 use Rattle.std.proofs.KnownBytes.{Appends-nil, Consumes-nil}
 use Rattle.streams.specs.InputOutput.{Input, ReaderSeen}
 use Rattle.book_model.specs.Words.{Layout, FrameFault, Front, front, Joining, HasTaken, broken_by}
+use Rattle.book_import.specs.declared.receipt.Stop.{Stop}
 use Rattle.book_import.specs.declared.receipt.Stop.TheVariants.{Frame}
 use Rattle.book_import.specs.Dumps.{stop_after, frame_stop}
 use Rattle.book_import.specs.ReadLimits.{piece_length}
@@ -15,13 +16,13 @@ use Rattle.book_import.specs.Pieces.{TakesAll}
 use Rattle.book_import.proofs.FeedLemmas.{HasPassed, holds_here, passed_more, stop_is}
 use Rattle.book_import.proofs.ReachLemmas.{ends_late, ends_early, nothing_further, all_needed}
 use Rattle.book_import.proofs.ReachLemmas.{piece_needed}
+use Rattle.book_reports.specs.declared.fault.ReportFault.{ReportFault}
 use Rattle.program_output.specs.declared.listing.Listing.{Listing}
 use Rattle.program_output.specs.Readings.{reading}
 use Rattle.program_output.specs.Checks.{IsCheck, AreWritten}
-use Rattle.book_reports.specs.CheckLists.{record_lines, check_list_text}
-use Rattle.program_output.proofs.Words.{Appends, Stop, ReportFault, last_line, waiting}
-use Rattle.program_output.proofs.Words.{listed_count}
-use Rattle.program_output.specs.Listings.{HasListed, WritesSome, ListsPiece, Breaks}
+use Rattle.book_reports.specs.CheckLists.{record_lines, last_line, check_list_text}
+use Rattle.program_output.specs.Listings.{HasListed, WritesSome, ListsPiece, Breaks, waiting}
+use Rattle.program_output.specs.Listings.{listed_count}
 use Rattle.book_reports.specs.StreamedRulings.{WritesFirst}
 use Rattle.book_reports.specs.Writing.{WritesUntil}
 use Rattle.book_reports.proofs.StreamedLemmas.{is_short, some_behind, written_of_more}

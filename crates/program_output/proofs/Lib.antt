@@ -1,6 +1,5 @@
 -- In which layout a dump looks to be, what makes a trial and a check, what is said, lists of names,
 -- laws of trials, and the number of each fault.
-mod Words
 pub mod LayoutLemmas
 pub mod TrialLemmas
 pub mod LineLemmas

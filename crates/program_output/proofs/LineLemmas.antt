@@ -12,10 +12,10 @@ use Rattle.smf_type30.specs.declared.damage.Damage.{Damage}
 use Rattle.smf_type30.specs.declared.damage.Damage.TheVariants.{Short}
 use Rattle.book_model.specs.declared.fault.LedgerFault.{LedgerFault}
 use Rattle.book_model.specs.declared.fault.LedgerFault.TheVariants.{Memory}
+use Rattle.book_import.specs.declared.receipt.Stop.{Stop}
 use Rattle.book_import.specs.declared.receipt.Stop.TheVariants.{Frame, Ledger}
 use Rattle.book_reports.specs.ReceiptLines.{fault_text, stop_text}
-use Rattle.book_reports.specs.CheckLists.{type_text, class_text, record_line}
-use Rattle.program_output.proofs.Words.{Stop, last_line}
+use Rattle.book_reports.specs.CheckLists.{type_text, class_text, record_line, last_line}
 
 -- a word and the number of a fault
 fault_short : (word : List ℕ) (number : ℕ) → number < 100

@@ -1,12 +1,13 @@
 -- What a list gains with a line, and with what is written of the lines that wait.
 use Rattle.std.proofs.Common.{◌≡◌, ◌∙◌, ℕ, ◌+◌, List, [], ◌∷◌, ◌++◌, length, take, sym, ap, subst}
 use Rattle.std.proofs.Common.{append_assoc, append-nil, length-append, Option, Result, Ok, Err}
+use Rattle.std.specs.Io.KnownBytes.{Appends}
 use Rattle.std.proofs.KnownBytes.{Appends-trans}
+use Rattle.book_import.specs.declared.receipt.Stop.{Stop}
+use Rattle.book_reports.specs.declared.fault.ReportFault.{ReportFault}
 use Rattle.program_output.specs.declared.listing.Listing.{Listing}
-use Rattle.book_reports.specs.CheckLists.{record_line, record_lines, check_list_text}
-use Rattle.program_output.proofs.Words.{Appends, Stop, ReportFault, last_line, waiting}
-use Rattle.program_output.proofs.Words.{listed_count}
-use Rattle.program_output.specs.Listings.{HasListed}
+use Rattle.book_reports.specs.CheckLists.{record_line, record_lines, last_line, check_list_text}
+use Rattle.program_output.specs.Listings.{HasListed, waiting, listed_count}
 use Rattle.program_output.specs.Checks.{AreWritten}
 use Rattle.book_reports.specs.StreamedRulings.{WritesFirst}
 use Rattle.book_reports.specs.Writing.{WritesUntil}

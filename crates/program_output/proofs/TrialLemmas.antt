@@ -1,6 +1,7 @@
 -- What makes a trial: new books, the import, and what was written.
 use Rattle.std.proofs.Common.{◌≡◌, ◌≢◌, ◌∙◌, ℕ, false, List, [], ◌∷◌, ◌++◌, Option, Result, Err}
 use Rattle.std.proofs.Common.{refl, ap, subst, IfOk}
+use Rattle.std.specs.Io.KnownBytes.{Appends}
 use Rattle.sha2.specs.Sha256.{sha256}
 use Rattle.streams.specs.InputOutput.{Input, ReaderSeen}
 use Rattle.book_model.specs.Words.{Layout, Terms, front, Book, flat_book, Event, after_all, Naming}
@@ -8,6 +9,7 @@ use Rattle.book_model.specs.Words.{Rulings}
 use Rattle.book_core.specs.Words.{in_memory, IsTransition}
 use Rattle.book_model.specs.declared.fault.LedgerFault.TheVariants.{Memory}
 use Rattle.book_import.specs.declared.receipt.Receipt.{Receipt}
+use Rattle.book_import.specs.declared.receipt.Stop.{Stop}
 use Rattle.book_import.specs.declared.receipt.Stop.TheVariants.{Ledger}
 use Rattle.book_import.specs.Dumps.{stop_after}
 use Rattle.book_import.specs.Reach.{IsReadFor}
@@ -16,6 +18,7 @@ use Rattle.book_import.specs.Imports.Handles.{out_of_memory}
 use Rattle.book_import.proofs.ReachLemmas.{read_nothing}
 use Rattle.book_import.proofs.NoRulingLemmas.{handles_kept, rulings_stay}
 use Rattle.book_import.specs.Receipts.{receipt_stopped}
+use Rattle.book_reports.specs.declared.fault.ReportFault.{ReportFault}
 use Rattle.book_reports.specs.declared.fault.ReportFault.TheVariants.{Write}
 use Rattle.book_reports.specs.ReceiptLines.{receipt_line_text}
 use Rattle.book_reports.specs.BookTexts.{dispute_text, open_statement}
@@ -23,7 +26,6 @@ use Rattle.book_reports.specs.Writing.{WritesTexts}
 use Rattle.book_reports.proofs.WritingLemmas.{nothing_written, others_written}
 use Rattle.program_output.specs.Readings.{reading}
 use Rattle.program_output.specs.Trials.{IsTrial, trial_texts}
-use Rattle.program_output.proofs.Words.{Appends, Stop, ReportFault}
 
 -- what the import made of new books under a tariff
 pub record IsBooked (terms : Terms) (layout : Layout) (cut : Option Stop) (bytes : List ℕ)

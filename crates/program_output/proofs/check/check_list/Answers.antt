@@ -1,12 +1,13 @@
-use Rattle.std.proofs.Common.{◌++◌, ◌∙◌, take, arith, subst, sym, [], refl, append-nil}
-use Rattle.std.proofs.Common.{length-append, length-take-le, true≢false}
+use Rattle.std.proofs.Common.{◌++◌, ◌∙◌, take, arith, subst, sym, [], refl}
+use Rattle.std.proofs.Common.{append-nil, length-append, length-take-le, true≢false}
 use Rattle.std.specs.Io.KnownBytes.{Consumes}
 use Rattle.std.proofs.KnownBytes.{Consumes-trans}
+use Rattle.std.proofs.lemmas.Result.{err_from_is_err_and}
+use Rattle.streams.specs.Sinks.{writer_of}
 use Rattle.streams.specs.Sources.{reader_of}
 use Rattle.program_output.specs.Listings.{TakesOrBreaks}
 use Rattle.program_output.proofs.CheckLemmas.{no_check, lists_more, check_ended, check_broken}
 use Rattle.program_output.proofs.CheckLemmas.{check_cut}
-use Rattle.program_output.proofs.Words.{err_from_is_err_and, writer_of}
 use Rattle.program_output.proofs.check.check_list.Goals as goal
 
 pub returns-in_err-joiner-clause-check : goal.returns-in_err-joiner-clause-check

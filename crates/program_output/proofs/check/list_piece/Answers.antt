@@ -1,6 +1,7 @@
+use Rattle.std.proofs.lemmas.Result.{err_from_is_err_and}
+use Rattle.streams.specs.Sinks.{writer_of}
 use Rattle.program_output.proofs.ListingLemmas.{listed_flushed, grows_on}
 use Rattle.program_output.proofs.PieceLemmas.{come_unflushed}
-use Rattle.program_output.proofs.Words.{err_from_is_err_and, writer_of}
 use Rattle.program_output.proofs.check.list_piece.Goals as goal
 
 pub returns-in_err-flush-clause-listed : goal.returns-in_err-flush-clause-listed

@@ -1,9 +1,10 @@
 use Rattle.std.proofs.Common.{arith}
-use Rattle.book_import.proofs.FeedLemmas.{shorter, goes_on, all_done, takes_all, breaks}
-use Rattle.book_import.proofs.FeedLemmas.{broken_done}
+use Rattle.std.proofs.lemmas.Result.{err_from_is_err_and}
+use Rattle.streams.specs.Sinks.{writer_of}
+use Rattle.book_import.proofs.FeedLemmas.{shorter, goes_on, all_done, takes_all}
+use Rattle.book_import.proofs.FeedLemmas.{breaks, broken_done}
 use Rattle.program_output.proofs.ListingLemmas.{listed_more, grows_on}
 use Rattle.program_output.proofs.PieceLemmas.{come_cut}
-use Rattle.program_output.proofs.Words.{err_from_is_err_and, writer_of}
 use Rattle.program_output.proofs.check.list_records.Goals as goal
 
 pub returns-in-Err-clause-listed : goal.returns-in-Err-clause-listed
