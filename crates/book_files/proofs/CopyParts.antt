@@ -38,7 +38,6 @@ pub where_answered : {A F : Type 0} (work : A → Transition) (Says : Transition
 where_answered work Says (Ok answer) says = says
 where_answered work Says (Err fault) says = tt
 
-
 -- a copy shows what was found of the files that were copied
 pub copied_from : {D : Type 0} {g : Ghosts D} (here found : Image) → here ≡ found
     → (store : FileStore D g) → IsReady store

@@ -191,4 +191,3 @@ held_goes_on names first image store ready found each =
     still_held names first image (λ book held.
     ∥∥₁_elim held ∥∥₁_prop λ kept.
     each book (opened_stands names book first store ready found kept.0 kept.1))
-

@@ -140,7 +140,10 @@ fn run_on_books<S: AuditedRepository, F: Inputs, O: Writer + Drop>(
             (settled(listed), output)
         }
         BookRequest::WhatIf { form, period, file } => {
-            tell(what_if(rt, repository, inputs, book, form, period, file), output)
+            tell(
+                what_if(rt, repository, inputs, book, form, period, file),
+                output,
+            )
         }
         BookRequest::Upgrade => (settled(upgrade(repository, book, &mut output)), output),
         BookRequest::Audit { quiet } => {

@@ -199,8 +199,7 @@ module _ {L : Type 0} (seen : L → Seen) (names : Naming)
     copied = λ free history held.
         let so : (seen one).book ≡ book_of history =
         ap (λ books. (seen books).book) (same_one (books_at old name) one held.books here held.here)
-        ∙ held.is in
-        (
+        ∙ held.is in (
           added_holds copy old new it copied history none named is added (same.book ∙ so),
           subst (λ book. AreCountsOf book counts) so are,
         );

@@ -1,9 +1,8 @@
 //! Files that are read, by their names.
 
-use std::fs;
 use std::fs::File;
-use std::io;
 use std::io::Read;
+use std::{fs, io};
 
 /// Where files are read by their names.
 pub trait Inputs {

@@ -11,10 +11,10 @@ returns g c =
         one.books,
         c.visit.new.books,
         put_here c.args.kept.now.items c.args.name.now c.in_ok-at.at one
-          (record { name = one.name; books = c.visit.new.books })
-          (subst (λ kept. IsAt kept c.args.name.now c.in_ok-at.at) c.as_slice.ensures.value
-          c.in_ok-at.ensures)
-          c.index_mut.ensures.value refl,
+            (record { name = one.name; books = c.visit.new.books })
+            (subst (λ kept. IsAt kept c.args.name.now c.in_ok-at.at) c.as_slice.ensures.value
+            c.in_ok-at.ensures)
+            c.index_mut.ensures.value refl,
         c.visit.ensures.done,
         c.visit.ensures.came,
       );
