@@ -39,15 +39,15 @@ err_so (Ok answer) one so = tt
 err_so (Err fault) one so = so fault one
 
 -- what is said where something else is so is said of the answer, or of the error, that there is
-pub ok_given : {A E Given : Type 0} {Says : A → Type 0} (result : Result A E)
+pub ok_given : {A E Given : Type 0} (Says : A → Type 0) (result : Result A E)
     → (Given → IfOk result Says) → IfOk result (λ answer. Given → Says answer)
-ok_given (Ok answer) says = says
-ok_given (Err fault) says = tt
+ok_given Says (Ok answer) says = says
+ok_given Says (Err fault) says = tt
 
-pub err_given : {A E Given : Type 0} {Says : E → Type 0} (result : Result A E)
+pub err_given : {A E Given : Type 0} (Says : E → Type 0) (result : Result A E)
     → (Given → IfErr result Says) → IfErr result (λ fault. Given → Says fault)
-err_given (Ok answer) says = tt
-err_given (Err fault) says = says
+err_given Says (Ok answer) says = tt
+err_given Says (Err fault) says = says
 
 -- what holds of each answer, or of each error, holds of the one that there may be
 pub ok_each : {A E : Type 0} {Says : A → Type 0} (result : Result A E)

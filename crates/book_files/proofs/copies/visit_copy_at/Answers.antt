@@ -9,7 +9,7 @@ use Rattle.book_restarts.specs.FileBooks.{file_names}
 use Rattle.book_trees.specs.LedgerFiles.{image_of, HoldsBooks}
 use Rattle.book_sessions.proofs.Causes.{err_given, mapped_err, mapped_ok, ok_each, ok_given}
 use Rattle.book_sessions.proofs.Openings.{open_only}
-use Rattle.book_sessions.specs.Causes.{MightBeVisited}
+use Rattle.book_sessions.specs.Causes.{MightBeVisited, WhyNotVisited}
 use Rattle.book_sessions.specs.Openings.{IsOpenedFrom}
 use Rattle.book_sessions.specs.Sessions.{AreHonest, FileAloneGoesOn, FilesGoOn, OpenOnly}
 use Rattle.book_sessions.specs.declared.ended.Ended.TheVariants.{Refused}
@@ -83,7 +83,7 @@ returns-in-Ok-copy_to-clause-there g c =
     (λ clean. from.found clean honest) (λ clean. from.form clean honest)) in
     mapped_ok (λ answer. AreHonest one original → MightBeVisited two first copy)
     copies.Refused visited.result.0 c.map_err.result c.map_err.ensures.cases
-    (ok_given visited.result.0
+    (ok_given (λ answer. MightBeVisited two first copy) visited.result.0
     (λ (honest : AreHonest one original). (visited.ensures.visited first (opened honest)).there))
 
 pub returns-in-Ok-copy_to-clause-books : goal.returns-in-Ok-copy_to-clause-books
@@ -148,6 +148,6 @@ returns-in-Ok-copy_to-clause-refused g c =
     (λ clean. from.found clean honest) (λ clean. from.form clean honest)) in
     mapped_err (WhyNotCopied one two first (Some original) copy) copies.Refused visited.result.0
     c.map_err.result c.map_err.ensures.cases
-    (err_given visited.result.0
+    (err_given (WhyNotVisited two first copy) visited.result.0
     (λ (honest : AreHonest one (Some original)). (visited.ensures.visited first (opened honest)).refused))
     (λ fault cause. unvisited_cause one two first original copy visited.ensures.carried.back fault cause)

@@ -12,8 +12,8 @@ use Rattle.book_sessions.proofs.Openings.{carried_closed, carried_refused, the_s
 use Rattle.book_sessions.proofs.SessionParts.{close_leaves, close_rows, found_clean, rows_as_found}
 use Rattle.book_sessions.proofs.audits.audit.Goals as goal
 
-pub audit_in-requires : goal.audit_in-requires
-audit_in-requires g c = λ clean.
+pub audit_in-audited-requires : goal.audit_in-audited-requires
+audit_in-audited-requires g c = λ clean.
     the_store (λ store. HasShapes (view store)) c.args.opened c.in-Ok.store c.in-Ok.is c.requires
 
 pub returns-in-Ok-clause-audited : goal.returns-in-Ok-clause-audited

@@ -12,8 +12,8 @@ use Rattle.book_sessions.proofs.Openings.{carried_closed, carried_refused, the_s
 use Rattle.book_sessions.proofs.SessionParts.{close_leaves, found_clean, to_be_moved}
 use Rattle.book_sessions.proofs.new_books.make.Goals as goal
 
-pub make_in-requires : goal.make_in-requires
-make_in-requires g c = λ clean.
+pub make_in-made-requires : goal.make_in-made-requires
+make_in-made-requires g c = λ clean.
     the_store (λ store. HasShapes (view store)) c.args.opened c.in-Ok.store c.in-Ok.is c.requires
 
 pub returns-in-Ok-clause-made : goal.returns-in-Ok-clause-made

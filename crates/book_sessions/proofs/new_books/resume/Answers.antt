@@ -18,8 +18,8 @@ use Rattle.book_sessions.proofs.SessionParts.{to_be_moved}
 use Rattle.book_sessions.proofs.UnusedBooks.{new_unused, none_resumed}
 use Rattle.book_sessions.proofs.new_books.resume.Goals as goal
 
-pub resume_in-requires : goal.resume_in-requires
-resume_in-requires g c = λ clean.
+pub resume_in-made-requires : goal.resume_in-made-requires
+resume_in-made-requires g c = λ clean.
     the_store (λ store. HasShapes (view store)) c.args.opened c.in-Ok.store c.in-Ok.is c.requires
 
 pub returns-in-Ok-clause-continued : goal.returns-in-Ok-clause-continued

@@ -17,8 +17,8 @@ use Rattle.book_sessions.proofs.UpgradeParts.{brings_over, first_tells, opened_t
 use Rattle.book_sessions.proofs.UpgradeParts.{rows_brought_over, tells_form, told_why, unupgraded}
 use Rattle.book_sessions.proofs.upgrades.upgrade.Goals as goal
 
-pub upgrade_and_close-requires : goal.upgrade_and_close-requires
-upgrade_and_close-requires g c =
+pub upgrade_and_close-upgraded-requires : goal.upgrade_and_close-upgraded-requires
+upgrade_and_close-upgraded-requires g c =
     the_store (λ store. IsClean (view store) → HasFirstTrees (view store)) c.args.opened c.in-Ok.store
     c.in-Ok.is c.requires
 

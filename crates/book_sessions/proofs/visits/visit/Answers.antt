@@ -15,8 +15,8 @@ use Rattle.book_sessions.proofs.SessionParts.{refused_goes_on, rows_as_found, se
 use Rattle.book_sessions.proofs.SessionParts.{to_be_moved}
 use Rattle.book_sessions.proofs.visits.visit.Goals as goal
 
-pub visit_in-requires : goal.visit_in-requires
-visit_in-requires g c = λ clean.
+pub visit_in-answer-requires : goal.visit_in-answer-requires
+visit_in-answer-requires g c = λ clean.
     the_store (λ store. HasShapes (view store)) c.args.opened c.in-Ok.store c.in-Ok.is c.requires
 
 pub returns-in-Ok-clause-visited : goal.returns-in-Ok-clause-visited
