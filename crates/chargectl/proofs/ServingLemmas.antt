@@ -1,6 +1,6 @@
 -- How connections are served.
 use Rattle.std.proofs.Common.{◌≡◌, ◌∙◌, Bool, true, false, List, [], ◌∷◌, ◌++◌, ℕ, ◌+◌, refl, sym}
-use Rattle.std.proofs.Common.{Option, Some, None, Result, Ok, Err, length, arith, inl, inr, subst}
+use Rattle.std.proofs.Common.{Option, Some, None, Result, Ok, Err, arith, inl, inr, subst}
 use Rattle.std.proofs.Common.{unwrap_or, IfErr}
 use Rattle.streams.specs.InputOutput.{WriterSeen}
 use Rattle.book_model.specs.Words.{Event, IsMadeByCalls, Naming, book_after}
