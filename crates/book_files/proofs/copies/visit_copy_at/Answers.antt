@@ -19,8 +19,8 @@ use Rattle.book_files.proofs.CopyParts.{copied_from, uncopied_cause, unvisited_c
 use Rattle.book_files.proofs.CopyParts.{were_only_read, where_answered}
 use Rattle.book_files.proofs.copies.visit_copy_at.Goals as goal
 
-pub visit-requires : goal.visit-requires
-visit-requires g c = c.in-Ok-copy_to.ensures.trees
+pub visit-answer-requires : goal.visit-answer-requires
+visit-answer-requires g c = c.in-Ok-copy_to.ensures.trees
 
 pub returns-in-Ok-copy_to-clause-history : goal.returns-in-Ok-copy_to-clause-history
 returns-in-Ok-copy_to-clause-history g c =
