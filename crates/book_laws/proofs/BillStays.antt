@@ -1,24 +1,23 @@
 -- The bills of closed periods stay.
-use Rattle.std.proofs.Common.{◌≡◌, ℕ, zero, suc, ◌<◌, List, [], ◌∷◌, length, refl, sym, ap}
-use Rattle.std.proofs.Common.{◌∙◌, true, false, true≢false, Bool, ◌||◌, Option, Some, None, is_some}
+use Rattle.std.proofs.Common.{◌≡◌, ℕ, zero, suc, ◌<◌, List, [], ◌∷◌, length, refl, sym, ap, ◌∙◌}
+use Rattle.std.proofs.Common.{true, false, true≢false, Bool, ◌||◌, Option, Some, None, is_some}
 use Rattle.std.proofs.Common.{arith, All, ℤ, pos, if◌then◌else◌, filter_map, ok_or, option_and_then}
 use Rattle.std.proofs.Common.{option_map, int_cmp}
-use Rattle.std.specs.List.Sorted.{IsStrictlySortedBy}
 use Rattle.std.proofs.lemmas.List.Sorted.{All-permutation}
-use Rattle.book_model.proofs.Std.{cons_option, list_any, result_ok, All-append, All-cons}
-use Rattle.book_model.proofs.Std.{All-filter, All-nil, IsPermutation-sym, slice_get-get_or}
+use Rattle.book_model.proofs.Std.{IsStrictlySortedBy, cons_option, list_any, result_ok, All-append}
+use Rattle.book_model.proofs.Std.{All-cons, All-filter, All-nil, IsPermutation-sym}
+use Rattle.book_model.proofs.Std.{slice_get-get_or}
 use Rattle.book_model.specs.declared.bill.HeldBack.{HeldBack}
 use Rattle.book_model.specs.declared.fault.LedgerFault.TheVariants.{NoSuchRecord}
 use Rattle.book_model.specs.Words.{day_of, job_of, Priced, Book, Event, IsSound, Naming, Period}
 use Rattle.book_model.specs.Words.{Records, Rulings, Terms, after_all, bill_of, bill_outcome}
 use Rattle.book_model.specs.Words.{billed_line, billed_lines, billed_tariff, book_after}
-use Rattle.book_model.specs.Words.{charged_before, details_asked}
-use Rattle.book_model.specs.Words.{disputes_in, has, held_back_in, held_back_of, in_force}
-use Rattle.book_model.specs.Words.{is_dated_after, jobs_of, last_close, letterhead_among, life_of}
-use Rattle.book_model.specs.Words.{lines_for, lines_of, members, name_of, no_event, period_by_trail}
-use Rattle.book_model.specs.Words.{period_of_line, period_on, price_by, price_in, reckoning_by}
-use Rattle.book_model.specs.Words.{record_named, same_bytes, steps_of, trail_by, trail_of}
-use Rattle.book_model.specs.Words.{work_rows}
+use Rattle.book_model.specs.Words.{charged_before, details_asked, disputes_in, has, held_back_in}
+use Rattle.book_model.specs.Words.{held_back_of, in_force, is_dated_after, jobs_of, last_close}
+use Rattle.book_model.specs.Words.{letterhead_among, life_of, lines_for, lines_of, members, name_of}
+use Rattle.book_model.specs.Words.{no_event, period_by_trail, period_of_line, period_on, price_by}
+use Rattle.book_model.specs.Words.{price_in, reckoning_by, record_named, same_bytes, steps_of}
+use Rattle.book_model.specs.Words.{trail_by, trail_of, work_rows}
 use Rattle.book_model.proofs.Lemmas.{line_by, line_of, map-agree, is, is_first}
 use Rattle.book_model.proofs.SamePriceLemmas.{same_lines}
 use Rattle.report_texts.specs.Centres.{lines_of_centre}

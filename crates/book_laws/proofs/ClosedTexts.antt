@@ -1,9 +1,8 @@
 -- The texts about a closed period stay.
 use Rattle.std.proofs.Common.{◌≡◌, ℕ, List, ◌++◌, Option, Result, Ok, Err, refl}
-use Rattle.tariff_rules.specs.declared.fault.TariffFault.{TariffFault}
 use Rattle.book_model.specs.declared.fault.LedgerFault.{LedgerFault}
-use Rattle.book_model.specs.Words.{Book, Naming, Terms, after_all, bill_outcome, book_after}
-use Rattle.book_model.specs.Words.{details_outcome, terms_in, what_if_outcome}
+use Rattle.book_model.specs.Words.{TariffFault, Book, Naming, Terms, after_all, bill_outcome}
+use Rattle.book_model.specs.Words.{book_after, details_outcome, terms_in, what_if_outcome}
 use Rattle.book_reports.specs.declared.report.PeriodReport.{PeriodReport}
 use Rattle.book_reports.specs.declared.report.PeriodReport.TheVariants.{AdjustmentList, Statement}
 use Rattle.book_reports.specs.declared.report.PeriodReport.TheVariants.{AdjustmentTable}

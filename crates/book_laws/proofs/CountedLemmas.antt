@@ -3,17 +3,15 @@
 use Rattle.std.proofs.Common.{◌≡◌, ℕ, zero, suc, ◌+◌, ◌≤◌, List, [], ◌∷◌, ◌++◌, length, refl, sym}
 use Rattle.std.proofs.Common.{ap, ◌∙◌, subst, true, false, true≢false, Bool, ◌&&◌, Option, Some}
 use Rattle.std.proofs.Common.{get_or, arith, ℤ, pos, ◌-ℤ◌, nat_lt, slice_get, int_cmp, lt-ltb}
-use Rattle.std.specs.List.Sorted.{IsStrictlySortedBy}
-use Rattle.book_model.proofs.Std.{option_map_or, false_from_ne_true, ints, slice_get-get_or}
-use Rattle.book_model.proofs.Std.{sum_by_push}
+use Rattle.book_model.proofs.Std.{IsStrictlySortedBy, option_map_or, false_from_ne_true, ints}
+use Rattle.book_model.proofs.Std.{slice_get-get_or, sum_by_push}
 use Rattle.book_model.specs.Words.{rulings_before, AreDatedThrough, Book, Event, IsSound, Naming}
-use Rattle.book_model.specs.Words.{Period, Records, Rulings, all_periods}
-use Rattle.book_model.specs.Words.{book_after, charged_in, charged_of, closes, counted_of}
-use Rattle.book_model.specs.Words.{day_of_close, has, held_before, is_dated_after, is_dated_in}
-use Rattle.book_model.specs.Words.{is_dated_through, last_close, period_after, period_by, period_of}
-use Rattle.book_model.specs.Words.{rulings, those}
-use Rattle.book_model.proofs.Lemmas.{close_at, counted_at, sound_after, has_those}
-use Rattle.book_model.proofs.Lemmas.{in_those, list_any-count_by}
+use Rattle.book_model.specs.Words.{Period, Records, Rulings, all_periods, book_after, charged_in}
+use Rattle.book_model.specs.Words.{charged_of, closes, counted_of, day_of_close, has, held_before}
+use Rattle.book_model.specs.Words.{is_dated_after, is_dated_in, is_dated_through, last_close}
+use Rattle.book_model.specs.Words.{period_after, period_by, period_of, rulings, those}
+use Rattle.book_model.proofs.Lemmas.{close_at, counted_at, sound_after, has_those, in_those}
+use Rattle.book_model.proofs.Lemmas.{list_any-count_by}
 use Rattle.book_model.proofs.CountedDays.{AreInWindows, has_counted_of}
 use Rattle.book_model.proofs.MadeByCallsLemmas.{rulings_are}
 use Rattle.book_model.proofs.SoundLemmas.{later_still}

@@ -1,9 +1,8 @@
 -- Lives: charges and reversals take turns, and net to whether the record is charged now.
 use Rattle.std.proofs.Common.{◌≡◌, ℕ, zero, suc, ◌+◌, ◌≤◌, List, [], ◌∷◌, ◌++◌, length, refl, sym}
-use Rattle.std.proofs.Common.{ap, ◌∙◌, subst}
-use Rattle.std.proofs.Common.{true, false, true≢false, Bool, cond, not, ◌&&◌, Option, arith, None}
-use Rattle.std.proofs.Common.{Some, Ok, ℤ, pos, ◌-ℤ◌, codes, count_by, sum_by, decimal, ok_or}
-use Rattle.std.proofs.Common.{option_and_then, option_map, append-nil}
+use Rattle.std.proofs.Common.{ap, ◌∙◌, subst, true, false, true≢false, Bool, cond, not, ◌&&◌}
+use Rattle.std.proofs.Common.{Option, arith, None, Some, Ok, ℤ, pos, ◌-ℤ◌, codes, count_by, sum_by}
+use Rattle.std.proofs.Common.{decimal, ok_or, option_and_then, option_map, append-nil}
 use Rattle.std.specs.Fmt.{signed_decimal}
 use Rattle.book_model.proofs.Std.{false_from_ne_true, sum_by-append, sum_by-cons}
 use Rattle.book_model.specs.declared.fault.LedgerFault.TheVariants.{NoSuchRecord}

@@ -2,9 +2,8 @@
 use Rattle.std.proofs.Common.{◌≡◌, ℕ, ◌+◌, ◌≤◌, List, refl, ap, ◌∙◌, true, false, true≢false, Bool}
 use Rattle.std.proofs.Common.{not, ◌&&◌, arith, ℤ, pos, None, Option, sum_by}
 use Rattle.book_model.proofs.Std.{false_from_ne_true}
-use Rattle.book_model.specs.Words.{Book, Period, period_by, is_dated_after, book_after}
-use Rattle.book_model.specs.Words.{Records, has, without, all_periods, charged_of}
-use Rattle.book_model.specs.Words.{AreDatedThrough}
+use Rattle.book_model.specs.Words.{Book, Period, period_by, is_dated_after, book_after, Records}
+use Rattle.book_model.specs.Words.{has, without, all_periods, charged_of, AreDatedThrough}
 use Rattle.book_model.proofs.Lemmas.{has_those, sum_by-plus}
 use Rattle.book_laws.specs.NetCounts.{one_if, times_counted, times_added, times_reversed, net_count}
 use Rattle.book_laws.specs.NetCounts.{NamesOnce}

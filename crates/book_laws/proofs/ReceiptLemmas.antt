@@ -1,16 +1,14 @@
 -- What receipts count: one for each record, and as kept as many as the books hold more.
 use Rattle.std.proofs.Common.{◌≡◌, ℕ, ◌+◌, List, [], ◌∷◌, length, refl, sym, ap, true, false}
-use Rattle.std.proofs.Common.{true≢false, Bool, Option, Some, None, Ok, Err, arith}
-use Rattle.std.specs.Prelude.{if◌then◌else◌, IfOk}
-use Rattle.tariff_rules.specs.declared.priced.Priced.{Priced}
-use Rattle.smf_type30.specs.declared.record_class.Class.{Class}
+use Rattle.std.proofs.Common.{true≢false, Bool, Option, Some, None, Ok, Err, arith, if◌then◌else◌}
+use Rattle.std.proofs.Common.{IfOk}
 use Rattle.smf_type30.specs.declared.record_class.Class.TheVariants.{Continuation, Damaged}
 use Rattle.smf_type30.specs.declared.record_class.Class.TheVariants.{DataLost, DumpHeader}
-use Rattle.smf_type30.specs.declared.record_class.Class.TheVariants.{DumpTrailer, Other, Usage}
+use Rattle.smf_type30.specs.declared.record_class.Class.TheVariants.{DumpTrailer, Other}
 use Rattle.book_model.specs.declared.answer.Accepted.TheVariants.{Kept}
 use Rattle.book_model.specs.declared.fault.LedgerFault.TheVariants.{Full}
-use Rattle.book_model.specs.Words.{accept_outcome, Book, clashes, class_of, has, is_full, members}
-use Rattle.book_model.specs.Words.{Naming, price_in, with}
+use Rattle.book_model.specs.Words.{Priced, Class, Usage, accept_outcome, Book, clashes, class_of}
+use Rattle.book_model.specs.Words.{has, is_full, members, Naming, price_in, with}
 use Rattle.book_model.proofs.Lemmas.{length-alike}
 use Rattle.book_model.proofs.SetChanges.{members_with}
 use Rattle.book_import.specs.declared.receipt.Stop.{Stop}

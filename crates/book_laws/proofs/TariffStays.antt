@@ -9,9 +9,8 @@ use Rattle.book_model.proofs.Std.{last_or, ints, filter-append, filter_map-appen
 use Rattle.book_model.proofs.Std.{get_or_from_slice_get, slice_get-get_or, slice_get_within}
 use Rattle.book_model.specs.Words.{AcceptedTerms, Book, Event, Naming, PeriodClosed, after_all}
 use Rattle.book_model.specs.Words.{RulingGiven, Rulings, RulingSeen, TariffAccepted, TariffSeen}
-use Rattle.book_model.specs.Words.{Terms, begins_by, in_force_from, tariff_seen}
-use Rattle.book_model.specs.Words.{tariffs_from, tariffs_in, tariffs_seen, tariffs_through}
-use Rattle.book_model.specs.Words.{through_of}
+use Rattle.book_model.specs.Words.{Terms, begins_by, in_force_from, tariff_seen, tariffs_from}
+use Rattle.book_model.specs.Words.{tariffs_in, tariffs_seen, tariffs_through, through_of}
 use Rattle.book_model.proofs.Lemmas.{calls_go_forward, close_at, slice_get-front}
 use Rattle.book_model.proofs.CountedDays.{through_at}
 use Rattle.table_model.proofs.CloseOrder.{earlier as is_earlier, first_earlier}

@@ -7,8 +7,7 @@ use Rattle.book_model.specs.Words.{book_after, charged_of, counted_of, details_a
 use Rattle.book_model.specs.Words.{details_of_centre, has, is_dated_in, period_of, rows_for}
 use Rattle.book_model.specs.Words.{rows_of, those}
 use Rattle.report_texts.specs.Centres.{rows_of_centre}
-use Rattle.table_model.specs.Readable.{IsReadable}
-use Rattle.table_model.specs.TablesOf.{row_key}
+use Rattle.table_model.specs.Words.{IsReadable, row_key}
 use Rattle.book_laws.specs.NetCounts.{one_if, times_added, times_counted, times_reversed}
 
 -- A row sums these details: as many as it counts, with its CPU time, its blocks and its amount.
