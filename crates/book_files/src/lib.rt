@@ -4,6 +4,7 @@
 mod backup;
 mod copies;
 mod dry_runs;
+mod kept_pages;
 mod laws;
 mod log;
 mod names;

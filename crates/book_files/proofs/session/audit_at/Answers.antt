@@ -15,17 +15,9 @@ returns g c =
     let opened = c.look_through_at-opened.result in
     let from = c.look_through_at-opened.ensures in
     let session = c.audit.ensures in
-    let audited = session.audited first (looking_at disk (λ file. inl refl) first opened from.ready
-    from.found from.held from.there from.listed from.kept) in
     record {
-      history = audited.history;
-      unopened = audited.unopened;
-      only = open_only (HoldsBooks first) opened c.audit.result.1 from.held session.carried;
-      same = audited.same;
-      rows = audited.rows;
+      audited = session.audited first (looking_at disk (λ file. inl refl) first opened from.ready
+          from.found from.held from.there from.listed from.kept);
       log = session.log;
-      book = audited.book;
-      listed = audited.listed;
-      in_hand = audited.in_hand;
-      refused = audited.refused;
+      only = open_only (HoldsBooks first) opened c.audit.result.1 from.held session.carried;
     }

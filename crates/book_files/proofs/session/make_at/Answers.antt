@@ -17,11 +17,8 @@ returns g c =
     let made = session.made first (creation_at disk first opened from.ready from.empty from.started
     from.there from.begun_refused from.kept) in
     record {
-      made = made.made;
-      new = made.new;
+      made = made;
       in_hand = made.in_hand;
       moves = session.moves;
-      unopened = made.unopened;
       only = open_only (HoldsNothing first) opened c.make.result.1 from.started session.carried;
-      refused = made.refused;
     }

@@ -19,14 +19,9 @@ returns g c =
     let continued = session.continued first (opening_at disk (λ file. inl refl) first opened from.ready
     from.found from.form from.there from.kept) in
     record {
-      history = continued.history;
-      rows = continued.rows;
-      unopened = continued.unopened;
-      only = open_only (ListsBooks first) opened c.resume.result.1
-          (ok_so opened from.read (λ store read clean. ∣ (read clean).lists ∣₁)) session.carried;
-      none = continued.none;
-      made = continued.made;
+      continued = continued;
       in_hand = continued.in_hand;
       moves = session.moves;
-      refused = continued.refused;
+      only = open_only (ListsBooks first) opened c.resume.result.1
+          (ok_so opened from.read (λ store read clean. ∣ (read clean).lists ∣₁)) session.carried;
     }

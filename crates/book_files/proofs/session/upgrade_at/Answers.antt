@@ -15,19 +15,11 @@ returns g c =
     let opened = c.open_first_at-opened.result in
     let from = c.open_first_at-opened.ensures in
     let session = c.upgrade.ensures in
-    let upgraded = session.upgraded first (first_opening_at disk (λ file. inl refl) first opened
-    from.ready from.found from.older from.held from.form from.there from.this from.listed
-    from.kept) in
     record {
-      history = upgraded.history;
-      rows = upgraded.rows;
+      upgraded = session.upgraded first (first_opening_at disk (λ file. inl refl) first opened
+          from.ready from.found from.older from.held from.form from.there from.this from.listed
+          from.kept);
       moves = session.moves;
-      unopened = upgraded.unopened;
       only = open_only (HoldsFirstBooks first) opened c.upgrade.result.1 from.held session.carried;
-      kept = upgraded.kept;
-      this = upgraded.this;
       told = session.told;
-      listed = upgraded.listed;
-      in_hand = upgraded.in_hand;
-      refused = upgraded.refused;
     }

@@ -16,19 +16,11 @@ returns g c =
     let opened = c.open_at-opened.result in
     let from = c.open_at-opened.ensures in
     let session = c.visit.ensures in
-    let visited = session.visited first (opening_at disk (λ file. inl refl) first opened from.ready
-    from.found from.form from.there from.kept) in
     record {
-      history = visited.history;
-      rows = visited.rows;
-      same = visited.same;
-      alone = visited.alone;
+      visited = session.visited first (opening_at disk (λ file. inl refl) first opened from.ready
+          from.found from.form from.there from.kept);
       moves = session.moves;
-      unopened = visited.unopened;
       only = open_only (ListsBooks first) opened c.visit.result.1
           (ok_so opened from.read (λ store read clean. ∣ (read clean).lists ∣₁)) session.carried;
       came = session.came;
-      in_hand = visited.in_hand;
-      there = visited.there;
-      refused = visited.refused;
     }
