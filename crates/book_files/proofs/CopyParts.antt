@@ -8,7 +8,7 @@ use Rattle.sqlite_store.specs.declared.store.FileStore.{FileStore}
 use Rattle.sqlite_wal.specs.Reads.{AreClean}
 use Rattle.sqlite_wal.specs.Recovery.{Image}
 use Rattle.book_core.specs.Transition.{Transition}
-use Rattle.book_restarts.specs.FileBooks.{done_by, file_names}
+use Rattle.book_restarts.specs.FileBooks.{file_names}
 use Rattle.book_trees.proofs.ClosedFiles.{both_true, first_true, second_true}
 use Rattle.book_trees.specs.Copies.{AreOnlyRead, IsCopyRefusedWithout}
 use Rattle.book_trees.specs.Forms.{HoldNoNewer, HoldsThisForm}
@@ -25,18 +25,26 @@ use Rattle.book_sessions.proofs.SessionParts.{refused_goes_on}
 use Rattle.book_sessions.specs.Causes.{WhyNotVisited}
 use Rattle.book_sessions.specs.Faults.{open_fault}
 use Rattle.book_sessions.specs.Openings.{IsOpenedFrom}
-use Rattle.book_sessions.specs.Sessions.{AreOpened}
+use Rattle.book_sessions.specs.Sessions.{AreOpened, OpenOnly}
+use Rattle.book_sessions.specs.Visits.{AreVisited}
 use Rattle.book_sessions.specs.declared.ended.Ended.{Ended}
 use Rattle.book_sessions.specs.declared.ended.Ended.TheVariants.{Closed, Refused}
-use Rattle.book_files.specs.Copies.{WereOnlyRead, WhyNotCopied}
+use Rattle.book_files.specs.Copies.{IsCopyOf, WereOnlyRead, WhyNotCopied}
 use Rattle.book_files.specs.Faults.{not_copied}
-use Rattle.book_files.specs.declared.copies.CopyFault.TheVariants as copies
+use Rattle.book_files.specs.declared.copied.CopyFault.TheVariants as copies
 
--- what is said of the work of a visit, whatever was answered, is said where it was done
-pub where_answered : {A F : Type 0} (work : A → Transition) (Says : Transition → Type 0)
-    (result : Result A F) → Says (done_by work result) → IfOk result (λ answer. Says (work answer))
-where_answered work Says (Ok answer) says = says
-where_answered work Says (Err fault) says = tt
+-- where a copy was visited, it is one of what was found
+pub copy_of : {A D Given : Type 0} (g : Ghosts D) (work : A → Transition) (found : Image)
+    (answer : Result A RepositoryFault) (copy : Ended D)
+    → (Given → AreVisited g work found answer copy) → (Given → OpenOnly g (HoldsBooks found) copy)
+    → IfOk answer (λ made. Given → IsCopyOf g (work made) found copy)
+copy_of g work found (Ok made) copy visited books = λ given. record {
+      history = (visited given).history;
+      alone = (visited given).alone;
+      there = (visited given).there;
+      books = books given;
+    }
+copy_of g work found (Err fault) copy visited books = tt
 
 -- a copy shows what was found of the files that were copied
 pub copied_from : {D : Type 0} {g : Ghosts D} (here found : Image) → here ≡ found

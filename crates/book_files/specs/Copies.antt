@@ -8,27 +8,26 @@ use Rattle.book_core.specs.Transition.{NoEvent, Transition}
 use Rattle.book_restarts.specs.FileBooks.{GoesOn, file_names}
 use Rattle.book_trees.specs.Closing.{MayBeFound}
 use Rattle.book_trees.specs.Forms.{HoldsThisForm}
+use Rattle.book_trees.specs.LedgerFiles.{HoldsBooks}
 use Rattle.book_trees.specs.Refusals.{MayLeave}
-use Rattle.book_sessions.specs.Causes.{HasFaultCause, HaveNoBookRow, IsWithoutFiles}
-use Rattle.book_sessions.specs.Sessions.{AreHonest, FileAloneGoesOn, FilesGoOn}
+use Rattle.book_sessions.specs.Causes.{HasFaultCause, HaveNoBookRow, IsWithoutFiles, MightBeVisited}
+use Rattle.book_sessions.specs.Sessions.{FileAloneGoesOn, FilesGoOn, OpenOnly}
 use Rattle.book_sessions.specs.declared.ended.Ended.{Ended}
 use Rattle.book_sessions.specs.declared.ended.Ended.TheVariants.{Closed, Refused}
-use Rattle.book_files.specs.declared.copies.Copied.{Copied}
-use Rattle.book_files.specs.declared.copies.CopyFault.{CopyFault}
-use Rattle.book_files.specs.declared.copies.CopyFault.TheVariants as copies
+use Rattle.book_files.specs.declared.copied.CopyFault.{CopyFault}
+use Rattle.book_files.specs.declared.copied.CopyFault.TheVariants as copies
 
--- Where no disk lied, whatever may be found of a copy goes on from what was copied, with what was
--- made in it;
-abbrev pub CopyGoesOn : {T A B : Type 0} (one : Ghosts A) (two : Ghosts B) → Transition → Image
-    → Copied T A B → Type 0
-CopyGoesOn one two Made found copied =
-    AreHonest one copied.original → FilesGoOn two Made found copied.copy
-
--- and so does its file alone, where its log is left short.
-abbrev pub CopyAloneGoesOn : {T A B : Type 0} (one : Ghosts A) (two : Ghosts B) → Transition → Image
-    → Copied T A B → Type 0
-CopyAloneGoesOn one two Made found copied =
-    AreHonest one copied.original → FileAloneGoesOn two Made found copied.copy
+-- The files of a copy hold what was copied, where no disk lied.
+pub record IsCopyOf {D : Type 0} (g : Ghosts D) (Made : Transition) (found : Image) (copy : Ended D)
+    : Type 0 where
+  -- Whatever may be found of them goes on from what was copied, with what was made in it; and so
+  -- does the file alone, without any log, where the log is left short.
+  pub history : FilesGoOn g Made found copy
+  pub alone : FileAloneGoesOn g Made found copy
+  -- There is no copy of files that hold no books, or not their row, or that say that they are of a
+  -- newer form.
+  pub there : MightBeVisited g found copy
+  pub books : OpenOnly g (HoldsBooks found) copy
 
 -- Files that were found so were read, and nothing else: a stop leaves what was found; and the
 -- history that they held they hold, also where their log is short and is deleted.

@@ -1,13 +1,13 @@
 -- What the faults of files mean, and what is answered where there is no copy of books.
-use Rattle.std.specs.Prelude.{Result, Ok, Err}
+use Rattle.std.specs.Prelude.{if◌then◌else◌, Bool, Result, Ok, Err}
 use Rattle.std.specs.declared.io.ErrorKind.{ErrorKind}
 use Rattle.std.specs.declared.io.ErrorKind.TheVariants as kind
 use Rattle.book_model.specs.declared.fault.LedgerFault.TheVariants as ledger
 use Rattle.book_trees.specs.declared.integrity.LookFault.{LookFault}
 use Rattle.book_trees.specs.declared.integrity.LookFault.TheVariants.{Pages, Open}
 use Rattle.book_sessions.specs.Faults.{open_fault}
-use Rattle.book_files.specs.declared.copies.CopyFault.{CopyFault}
-use Rattle.book_files.specs.declared.copies.CopyFault.TheVariants as copies
+use Rattle.book_files.specs.declared.copied.CopyFault.{CopyFault}
+use Rattle.book_files.specs.declared.copied.CopyFault.TheVariants as copies
 use Rattle.named_books.specs.declared.repository.RepositoryFault.{RepositoryFault}
 use Rattle.named_books.specs.declared.repository.RepositoryFault.TheVariants.{Io, Exists, Ledger}
 
@@ -27,3 +27,9 @@ abbrev pub tried_answer : {A : Type 0} → Result A CopyFault → Result A Repos
 tried_answer (Ok answer) = Ok answer
 tried_answer (Err copies.Pages) = Err (Ledger ledger.Store)
 tried_answer (Err (copies.Refused fault)) = Err fault
+
+-- a copy is whole where its files were closed, and hold it without a log
+abbrev pub whole_copy : {A : Type 0} → Result A RepositoryFault → Bool → Result A CopyFault
+whole_copy (Ok done) has_log =
+    if has_log then Err (copies.Refused (Ledger ledger.Store)) else Ok done
+whole_copy (Err fault) has_log = Err (copies.Refused fault)

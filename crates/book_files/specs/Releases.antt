@@ -1,17 +1,13 @@
 -- What is told of a session, once its files are dropped.
-use Rattle.std.specs.Prelude.{◌≡◌, ◌≢◌, if◌then◌else◌, Bool, IfSome, Result, Ok, Err, ⊤}
+use Rattle.std.specs.Prelude.{◌≡◌, ◌≢◌, if◌then◌else◌, IfSome, Result, Ok, Err, ⊤}
 use Rattle.sqlite_disk.specs.declared.Disk.{Ghosts}
 use Rattle.sqlite_disk.specs.declared.files.Files.{Files}
-use Rattle.book_model.specs.declared.fault.LedgerFault.TheVariants as ledger
 use Rattle.book_trees.specs.declared.closing.LogLeft.{LogLeft}
 use Rattle.book_trees.specs.declared.closing.LogLeft.TheVariants.{Short, Unmoved}
 use Rattle.book_files.specs.Logs.{LooksShort}
-use Rattle.book_files.specs.declared.copies.CopyFault.{CopyFault}
-use Rattle.book_files.specs.declared.copies.CopyFault.TheVariants as copies
 use Rattle.book_sessions.specs.declared.ended.Ended.{Ended}
 use Rattle.book_sessions.specs.declared.ended.Ended.TheVariants.{Closed, Refused}
 use Rattle.named_books.specs.declared.repository.RepositoryFault.{RepositoryFault}
-use Rattle.named_books.specs.declared.repository.RepositoryFault.TheVariants.{Ledger}
 
 -- The answer of a session is told as it is; or, where no memory was left to see that the closed
 -- files hold books, this fault.
@@ -19,12 +15,6 @@ abbrev pub seen_answer : {A D : Type 0} → RepositoryFault → Result A Reposit
     → Result A RepositoryFault
 seen_answer fault answer (Closed closed) = if closed.is_kept then answer else Err fault
 seen_answer fault answer (Refused files) = answer
-
--- a copy is whole where its files were closed, and hold it without a log
-abbrev pub whole_copy : {A : Type 0} → Result A RepositoryFault → Bool → Result A CopyFault
-whole_copy (Ok done) has_log =
-    if has_log then Err (copies.Refused (Ledger ledger.Store)) else Ok done
-whole_copy (Err fault) has_log = Err (copies.Refused fault)
 
 -- a log whose pages were to be moved into the file is too short to hold any
 abbrev pub IsMoved : LogLeft → Type 0

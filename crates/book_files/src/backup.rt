@@ -1,18 +1,15 @@
 //! A copy of books under another name: it is begun under a second name, and gets its own once it is
 //! whole and sound.
 
-ghost use Rattle.std.specs.Prelude.{◌≡◌};
-ghost use Rattle.book_files.specs.Releases.{whole_copy};
-
-use crate::copies::{Copied, CopyFault, copy_at};
+use crate::copied::{Copied, CopyFault, whole};
+use crate::copies::visit_copy_at;
 use crate::log::{Log, sync_folder};
 use crate::new_books::beside;
 use crate::repository::{Files, failed, released, unopened, without_log};
 use book_audit::{Audited, Watch};
-use book_core::LedgerFault;
 use book_sessions::not_looked_through;
 use book_trees::LookFault;
-use named_books::{Opened, RepositoryFault};
+use named_books::{Look, Opened, RepositoryFault};
 use sqlite_disk::Unknown;
 use std::fs;
 use std::fs::File;
@@ -81,7 +78,7 @@ impl Files<'_> {
             answer: copied,
             original,
             copy,
-        } = copy_at(self.rt, book, Unknown, begun, Unknown, seed);
+        } = visit_copy_at(self.rt, book, Unknown, begun, Unknown, seed, &mut Look);
         let has_log = log.leave(original);
         let Opened {
             answer: closed,
@@ -120,16 +117,5 @@ impl Files<'_> {
                 Err(failed(&error))
             }
         }
-    }
-}
-
-/// A copy is whole where its files were closed, and it needs no log.
-fn whole(closed: Result<(), RepositoryFault>, has_log: bool) -> Result<(), CopyFault>
-    ensures { result ≡ whole_copy closed has_log }
-{
-    match closed {
-        Ok(()) if has_log => Err(CopyFault::Refused(RepositoryFault::Ledger(LedgerFault::Store))),
-        Ok(()) => Ok(()),
-        Err(fault) => Err(CopyFault::Refused(fault)),
     }
 }

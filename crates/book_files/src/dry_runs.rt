@@ -3,7 +3,8 @@
 ghost use Rattle.std.specs.Prelude.{◌≡◌, IfOk, IsTrue};
 ghost use Rattle.named_books.specs.Shelves.{ComesBy};
 
-use crate::copies::{Copied, tried_answer, visit_copy_at};
+use crate::copied::{Copied, tried_answer};
+use crate::copies::visit_copy_at;
 use crate::log::Log;
 use crate::repository::{Files, failed, released, unopened, without_log};
 use named_books::{Opened, RepositoryFault, Visit};

@@ -2,6 +2,7 @@
 #![tactic(auto)]
 
 mod backup;
+mod copied;
 mod copies;
 mod dry_runs;
 mod kept_pages;
@@ -13,7 +14,8 @@ mod repository;
 mod session;
 mod waiting;
 
-pub use copies::{Copied, CopyFault, copy_at, visit_copy_at};
+pub use copied::{Copied, CopyFault};
+pub use copies::visit_copy_at;
 pub use laws::sound_are_ours;
 pub use names::is_log_name;
 pub use repository::Files;

@@ -38,12 +38,7 @@ pub err_so : {A E : Type 0} {One Other : E → Type 0} (result : Result A E) →
 err_so (Ok answer) one so = tt
 err_so (Err fault) one so = so fault one
 
--- what is said where something else is so is said of the answer, or of the error, that there is
-pub ok_given : {A E Given : Type 0} (Says : A → Type 0) (result : Result A E)
-    → (Given → IfOk result Says) → IfOk result (λ answer. Given → Says answer)
-ok_given Says (Ok answer) says = says
-ok_given Says (Err fault) says = tt
-
+-- what is said of an error where something else is so is said of the error that there is
 pub err_given : {A E Given : Type 0} (Says : E → Type 0) (result : Result A E)
     → (Given → IfErr result Says) → IfErr result (λ fault. Given → Says fault)
 err_given Says (Ok answer) says = tt

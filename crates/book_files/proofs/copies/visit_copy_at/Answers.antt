@@ -4,26 +4,25 @@ use Rattle.sqlite_std_file.specs.contracts.host.Host.{the_row}
 use Rattle.sqlite_std_file.specs.contracts.host.HostCalls.TheImpl as host
 use Rattle.sqlite_wal.specs.Files.{image_at}
 use Rattle.sqlite_wal.specs.Recovery.{Image}
-use Rattle.book_core.specs.Transition.{Transition}
 use Rattle.book_restarts.specs.FileBooks.{file_names}
 use Rattle.book_trees.specs.LedgerFiles.{image_of, HoldsBooks}
-use Rattle.book_sessions.proofs.Causes.{err_given, mapped_err, mapped_ok, ok_each, ok_given}
+use Rattle.book_sessions.proofs.Causes.{err_given, mapped_err, mapped_ok}
 use Rattle.book_sessions.proofs.Openings.{open_only}
-use Rattle.book_sessions.specs.Causes.{MightBeVisited, WhyNotVisited}
+use Rattle.book_sessions.specs.Causes.{WhyNotVisited}
 use Rattle.book_sessions.specs.Openings.{IsOpenedFrom}
-use Rattle.book_sessions.specs.Sessions.{AreHonest, FileAloneGoesOn, FilesGoOn, OpenOnly}
+use Rattle.book_sessions.specs.Sessions.{AreHonest, OpenOnly}
 use Rattle.book_sessions.specs.declared.ended.Ended.TheVariants.{Refused}
-use Rattle.book_files.specs.Copies.{WhyNotCopied}
-use Rattle.book_files.specs.declared.copies.CopyFault.TheVariants as copies
-use Rattle.book_files.proofs.CopyParts.{copied_from, uncopied_cause, unvisited_cause}
-use Rattle.book_files.proofs.CopyParts.{were_only_read, where_answered}
+use Rattle.book_files.specs.Copies.{IsCopyOf, WhyNotCopied}
+use Rattle.book_files.specs.declared.copied.CopyFault.TheVariants as copies
+use Rattle.book_files.proofs.CopyParts.{copied_from, copy_of, uncopied_cause, unvisited_cause}
+use Rattle.book_files.proofs.CopyParts.{were_only_read}
 use Rattle.book_files.proofs.copies.visit_copy_at.Goals as goal
 
 pub visit-answer-requires : goal.visit-answer-requires
 visit-answer-requires g c = c.in-Ok-copy_to.ensures.trees
 
-pub returns-in-Ok-copy_to-clause-history : goal.returns-in-Ok-copy_to-clause-history
-returns-in-Ok-copy_to-clause-history g c =
+pub returns-in-Ok-copy_to-clause-visited : goal.returns-in-Ok-copy_to-clause-visited
+returns-in-Ok-copy_to-clause-visited g c =
     let one = modelled.ghosts the_row g.row.S host.ghosts host.dict g.S.Start g.S.Start-dict
     g.S.Destruct-dict in
     let two = modelled.ghosts the_row g.row.T host.ghosts host.dict g.T.Start g.T.Start-dict
@@ -38,70 +37,14 @@ returns-in-Ok-copy_to-clause-history g c =
     let opened : AreHonest one original → IsOpenedFrom first store =
     (λ honest. copied_from (image_of one c.in-Ok.files) first c.in-Ok.ensures.held store from.ready
     (λ clean. from.found clean honest) (λ clean. from.form clean honest)) in
-    mapped_ok (λ answer. AreHonest one original → FilesGoOn two (work answer) first copy)
-    copies.Refused visited.result.0 c.map_err.result c.map_err.ensures.cases
-    (where_answered work (λ (Made : Transition). AreHonest one original
-    → FilesGoOn two Made first copy) visited.result.0
-    (λ honest. (visited.ensures.visited first (opened honest)).history))
-
-pub returns-in-Ok-copy_to-clause-alone : goal.returns-in-Ok-copy_to-clause-alone
-returns-in-Ok-copy_to-clause-alone g c =
-    let one = modelled.ghosts the_row g.row.S host.ghosts host.dict g.S.Start g.S.Start-dict
-    g.S.Destruct-dict in
-    let two = modelled.ghosts the_row g.row.T host.ghosts host.dict g.T.Start g.T.Start-dict
-    g.T.Destruct-dict in
-    let visited = c.visit-answer in
-    let work = g.V.Visit.work file_names c.args.visit.now visited.new.visit in
-    let original = Some c.copy_to.new.from in
-    let copy = visited.result.1 in
-    let first = image_at g.S.Start in
-    let store = c.in-Ok-copy_to.store in
-    let from = c.in-Ok-copy_to.ensures in
-    let opened : AreHonest one original → IsOpenedFrom first store =
-    (λ honest. copied_from (image_of one c.in-Ok.files) first c.in-Ok.ensures.held store from.ready
-    (λ clean. from.found clean honest) (λ clean. from.form clean honest)) in
-    mapped_ok (λ answer. AreHonest one original → FileAloneGoesOn two (work answer) first copy)
-    copies.Refused visited.result.0 c.map_err.result c.map_err.ensures.cases
-    (where_answered work (λ (Made : Transition). AreHonest one original
-    → FileAloneGoesOn two Made first copy) visited.result.0
-    (λ honest. (visited.ensures.visited first (opened honest)).alone))
-
-pub returns-in-Ok-copy_to-clause-there : goal.returns-in-Ok-copy_to-clause-there
-returns-in-Ok-copy_to-clause-there g c =
-    let one = modelled.ghosts the_row g.row.S host.ghosts host.dict g.S.Start g.S.Start-dict
-    g.S.Destruct-dict in
-    let two = modelled.ghosts the_row g.row.T host.ghosts host.dict g.T.Start g.T.Start-dict
-    g.T.Destruct-dict in
-    let visited = c.visit-answer in
-    let original = Some c.copy_to.new.from in
-    let copy = visited.result.1 in
-    let first = image_at g.S.Start in
-    let store = c.in-Ok-copy_to.store in
-    let from = c.in-Ok-copy_to.ensures in
-    let opened : AreHonest one original → IsOpenedFrom first store =
-    (λ honest. copied_from (image_of one c.in-Ok.files) first c.in-Ok.ensures.held store from.ready
-    (λ clean. from.found clean honest) (λ clean. from.form clean honest)) in
-    mapped_ok (λ answer. AreHonest one original → MightBeVisited two first copy)
-    copies.Refused visited.result.0 c.map_err.result c.map_err.ensures.cases
-    (ok_given (λ answer. MightBeVisited two first copy) visited.result.0
-    (λ (honest : AreHonest one original). (visited.ensures.visited first (opened honest)).there))
-
-pub returns-in-Ok-copy_to-clause-books : goal.returns-in-Ok-copy_to-clause-books
-returns-in-Ok-copy_to-clause-books g c =
-    let one = modelled.ghosts the_row g.row.S host.ghosts host.dict g.S.Start g.S.Start-dict
-    g.S.Destruct-dict in
-    let two = modelled.ghosts the_row g.row.T host.ghosts host.dict g.T.Start g.T.Start-dict
-    g.T.Destruct-dict in
-    let visited = c.visit-answer in
-    let copy = visited.result.1 in
-    let first = image_at g.S.Start in
-    mapped_ok (λ answer. AreHonest one (Some c.copy_to.new.from) → OpenOnly two (HoldsBooks first) copy)
-    copies.Refused visited.result.0 c.map_err.result c.map_err.ensures.cases
-    (ok_each visited.result.0 (λ answer honest.
-    open_only (HoldsBooks first) (Ok c.in-Ok-copy_to.store) copy
+    let books : AreHonest one original → OpenOnly two (HoldsBooks first) copy =
+    (λ honest. open_only (HoldsBooks first) (Ok store) copy
     (λ clean. subst (λ (i : Image). ∥ HoldsBooks i ∥₁) c.in-Ok.ensures.held
-    (c.in-Ok-copy_to.ensures.books clean honest))
-    visited.ensures.carried))
+    (from.books clean honest)) visited.ensures.carried) in
+    mapped_ok (λ answer. AreHonest one original → IsCopyOf two (work answer) first copy)
+    copies.Refused visited.result.0 c.map_err.result c.map_err.ensures.cases
+    (copy_of two work first visited.result.0 copy
+    (λ (honest : AreHonest one original). visited.ensures.visited first (opened honest)) books)
 
 pub returns-in-Ok-copy_to-clause-original : goal.returns-in-Ok-copy_to-clause-original
 returns-in-Ok-copy_to-clause-original g c =

@@ -1,7 +1,7 @@
 use Rattle.std.proofs.Common.{◌≡◌, Result, Ok, Err, subst, sym, MatchResult}
 use Rattle.book_files.specs.Faults.{tried_answer}
-use Rattle.book_files.specs.declared.copies.CopyFault.{CopyFault}
-use Rattle.book_files.specs.declared.copies.CopyFault.TheVariants.{Pages, Refused}
+use Rattle.book_files.specs.declared.copied.CopyFault.{CopyFault}
+use Rattle.book_files.specs.declared.copied.CopyFault.TheVariants.{Pages, Refused}
 use Rattle.book_files.proofs.Told.{comes_on}
 use Rattle.book_files.proofs.repository.Files.try_out_books.Goals as goal
 
