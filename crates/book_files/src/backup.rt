@@ -3,9 +3,11 @@
 
 use crate::copied::{Copied, CopyFault, whole};
 use crate::copies::visit_copy_at;
+use crate::faults::failed;
 use crate::log::{Log, sync_folder};
 use crate::new_books::beside;
-use crate::repository::{Files, failed, released, unopened, without_log};
+use crate::releases::{released, unopened, without_log};
+use crate::repository::Files;
 use book_audit::{Audited, Watch};
 use book_sessions::not_looked_through;
 use book_trees::LookFault;
@@ -25,7 +27,7 @@ impl Files<'_> {
     ) -> Opened<Audited> {
         let (log, seed) = match self.begin_with(book) {
             Ok(begun) => begun,
-            Err(fault) => return without_log(Err(fault)),
+            Err(fault) => return without_log(fault),
         };
         let begun = match self.begin_copy(copy) {
             Ok(begun) => begun,
@@ -72,7 +74,7 @@ impl Files<'_> {
     ) -> (Result<(), CopyFault>, bool) {
         let begun_log = match Log::of(self.rt, begun, true) {
             Ok(begun_log) => begun_log,
-            Err(error) => return (Err(CopyFault::Refused(failed(&error))), log.is_kept()),
+            Err(error) => return (Err(CopyFault::Refused(failed(&error))), log.is_kept),
         };
         let Copied {
             answer: copied,

@@ -5,8 +5,10 @@ ghost use Rattle.named_books.specs.Shelves.{ComesBy};
 
 use crate::copied::{Copied, tried_answer};
 use crate::copies::visit_copy_at;
+use crate::faults::failed;
 use crate::log::Log;
-use crate::repository::{Files, failed, released, unopened, without_log};
+use crate::releases::{released, unopened, without_log};
+use crate::repository::Files;
 use named_books::{Opened, RepositoryFault, Visit};
 use sqlite_disk::Unknown;
 use std::fs;
@@ -19,7 +21,7 @@ impl Files<'_> {
     {
         let (log, seed) = match self.begin_with(book) {
             Ok(begun) => begun,
-            Err(fault) => return without_log(Err(fault)),
+            Err(fault) => return without_log(fault),
         };
         let (begun, begun_log) = match self.begin_trial(book) {
             Ok(begun) => begun,

@@ -5,12 +5,15 @@ mod backup;
 mod copied;
 mod copies;
 mod dry_runs;
+mod faults;
 mod kept_pages;
 mod laws;
 mod log;
 mod names;
 mod new_books;
+mod releases;
 mod repository;
+mod seen_logs;
 mod session;
 mod waiting;
 

@@ -1,16 +1,16 @@
-//! The log that lies beside a file of books while a command runs, and what a command leaves of it.
+//! The log that lies beside a file of books while a command runs: it is kept under another name where
+//! it is no use to them, and deleted where it holds nothing.
 
-ghost use Rattle.std.specs.Prelude.{◌≡◌, ◌<◌, false, true, IfOk, IfSome, IsTrue, OnOk};
+ghost use Rattle.std.specs.Prelude.{◌≡◌, ◌<◌, true, IfOk, IsTrue, OnOk};
 ghost use Rattle.book_trees.specs.LedgerFiles.{shortest_log};
-ghost use Rattle.book_files.specs.Logs.{IsOfNoUse, LooksShort};
-ghost use Rattle.book_files.specs.Releases.{IsMoved, UnmovedLooksShort};
+ghost use Rattle.book_files.specs.Logs.{IsOfNoUse};
 
-use crate::repository::failed;
+use crate::faults::failed;
+use crate::seen_logs::is_of_no_use;
 use book_sessions::refused;
-use book_trees::{Closed, LogLeft, OpenFault, is_short, is_unused, lock_at, needs_no_log};
+use book_trees::{lock_at, needs_no_log};
 use named_books::RepositoryFault;
-use sqlite_disk::{Disk, Files, Unknown};
-use std::alloc::Global;
+use sqlite_disk::{Disk, Unknown};
 use std::fs::File;
 use std::io::{ErrorKind, Read};
 use std::{fs, io};
@@ -102,13 +102,6 @@ impl<'a> Log<'a> {
         Ok(())
     }
 
-    /// Whether a log that held nothing of the books was given another name.
-    pub(crate) fn is_kept(&self) -> bool
-        ensures { result ≡ self.now.is_kept }
-    {
-        self.is_kept
-    }
-
     /// Takes the log away where it holds nothing, and says whether none is left. The caller still
     /// has the file open, and with it the lock without which no log is made or written, so no other
     /// program has this one. Nothing is lost: by `needs_no_log` the file alone holds the same
@@ -131,28 +124,6 @@ impl<'a> Log<'a> {
         fs::remove_file(self.rt, self.path.as_str())
     }
 
-    /// Drops the files of books that were closed, with their log where it holds nothing, and says
-    /// whether it holds a part of the books, or one that held nothing was kept. A log that was not to
-    /// be moved is left as it was.
-    pub(crate) fn release<D: Disk + Drop>(&self, closed: Closed<D>) -> bool
-        ensures moved { result ≡ false → IsMoved closed.log }
-        ensures short { result ≡ false → UnmovedLooksShort D.Disk closed.log closed.files }
-        ensures kept { result ≡ false → self.now.is_kept ≡ false }
-    {
-        match closed.log {
-            LogLeft::Unmoved => self.leave(Some(closed.files)),
-            LogLeft::Short => {
-                self.remove_if_empty();
-                drop(closed);
-                self.is_kept
-            }
-            LogLeft::Emptied | LogLeft::Kept(_) => {
-                drop(closed);
-                true
-            }
-        }
-    }
-
     /// Takes away the log of a file that this call began, whatever it holds.
     pub(crate) fn remove(&self)
         requires { IsTrue self.now.is_begun }
@@ -160,56 +131,12 @@ impl<'a> Log<'a> {
         let _ = fs::remove_file(self.rt, self.path.as_str());
     }
 
-    /// Drops the files of an opening that must leave them as they were, and says the same: a log that
-    /// the opening made is removed. Where there are no files another program may have them, and
-    /// nothing is touched.
-    pub(crate) fn leave<D: Disk + Drop>(&self, files: Option<Files<D>>) -> bool
-        ensures short { result ≡ false → IfSome files (LooksShort D.Disk) }
-        ensures kept { result ≡ false → self.now.is_kept ≡ false }
-    {
-        match files {
-            Some(files) => self.leave_locked(files),
-            None => self.is_kept,
-        }
-    }
-
-    /// The same of files that nobody else has. A log that is not seen to be short is told of.
-    fn leave_locked<D: Disk + Drop>(&self, files: Files<D>) -> bool
-        ensures short { result ≡ false → LooksShort D.Disk files }
-        ensures kept { result ≡ false → self.now.is_kept ≡ false }
-    {
-        let mut files = files;
-        if looks_short(&mut files) {
-            self.remove_made();
-            drop(files);
-            self.is_kept
-        } else {
-            drop(files);
-            true
-        }
-    }
-
     /// Takes away a short log that was not there before the opening.
-    fn remove_made(&self) {
+    pub(crate) fn remove_made(&self) {
         if !self.was_there {
             self.remove_if_empty();
         }
     }
-}
-
-/// Whether a log is of no use to books.
-fn is_of_no_use<D: Disk>(alloc: Global, log: &mut D) -> Result<bool, OpenFault>
-    requires { IsTrue (D.Disk.is_usable log.old) }
-    ensures { IfOk result (λ is. IsTrue is → IsOfNoUse D.Disk log.new) }
-{
-    is_unused(alloc, log)
-}
-
-/// Whether the log of files is seen to be too short to hold anything.
-fn looks_short<D: Disk>(files: &mut Files<D>) -> bool
-    ensures { IsTrue result → LooksShort D.Disk files.old }
-{
-    is_short(&mut files.log)
 }
 
 /// Whether a file begins as books do. What is not a regular file is not read: it might never end.

@@ -1,18 +1,17 @@
 //! New books are made under a second name, and get their own once they are whole: a stop at any
 //! moment leaves whole books under that name, or nothing.
 
-ghost use Rattle.std.specs.Prelude.{◌≡◌, IsOk, IsSome, IsTrue};
-ghost use Rattle.book_files.specs.Releases.{seen_answer};
-ghost use Rattle.book_sessions.specs.Sessions.{AreOpened, files_in_hand};
+ghost use Rattle.std.specs.Prelude.{IsOk, IsSome, IsTrue};
 
+use crate::faults::failed;
 use crate::log::{Log, is_there, sync_folder};
 use crate::names::is_log_name;
-use crate::repository::{Files, failed};
+use crate::releases::in_hand;
+use crate::repository::Files;
 use crate::session::{make_at, resume_at};
 use book_core::LedgerFault;
-use book_sessions::Ended;
 use named_books::RepositoryFault;
-use sqlite_disk::{Disk, Files as Pair, Unknown};
+use sqlite_disk::{Files as Pair, Unknown};
 use sqlite_std_file::FileFrom;
 use std::fs::File;
 use std::{fs, io};
@@ -131,27 +130,6 @@ impl Files<'_> {
                 Ok(())
             }
             Err(error) => Err(failed(&error)),
-        }
-    }
-}
-
-/// What came of new books, with their files, which stay locked until the books have their name.
-/// Where no memory was left to see that the files hold books, that is said.
-fn in_hand<D: Disk + Drop>(
-    made: Result<(), RepositoryFault>,
-    ended: Ended<D>,
-) -> (Result<(), RepositoryFault>, Option<Pair<D>>)
-    requires { IsOk made → AreOpened ended }
-    ensures told { result.0 ≡ seen_answer (RepositoryFault.Ledger LedgerFault.Memory) made ended }
-    ensures files { result.1 ≡ files_in_hand ended }
-    ensures held { IsOk result.0 → IsSome result.1 }
-{
-    match ended {
-        Ended::Refused(files) => (made, files),
-        Ended::Closed(closed) if closed.is_kept => (made, Some(closed.files)),
-        Ended::Closed(closed) => {
-            let fault = RepositoryFault::Ledger(LedgerFault::Memory);
-            (Err(fault), Some(closed.files))
         }
     }
 }

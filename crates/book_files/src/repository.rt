@@ -1,22 +1,19 @@
 //! The files of one machine, by their paths.
 
-ghost use Rattle.std.specs.Prelude.{◌≡◌, false, Err, OnErr, OnOk};
-ghost use Rattle.std.specs.IoError.{error_kind};
-ghost use Rattle.book_files.specs.Faults.{file_fault};
-ghost use Rattle.book_files.specs.Releases.{HasMovedLog, LeftLooksShort, seen_answer};
+ghost use Rattle.std.specs.Prelude.{◌≡◌};
 ghost use Rattle.named_books.specs.Shelves.{ComesBy};
 
+use crate::faults::failed;
 use crate::log::{Log, begins_as_books};
+use crate::releases::{released, released_upgraded, without_log};
 use crate::session::{audit_at, upgrade_at, visit_at};
 use crate::waiting::Visited;
 use book_audit::{Audited, AuditedRepository, Watch};
 use book_core::LedgerFault;
-use book_sessions::Ended;
 use named_books::{Opened, Repository, RepositoryFault, Upgraded, Visit, WaitingRepository};
-use sqlite_disk::{Disk, Unknown};
+use sqlite_disk::Unknown;
+use std::fs;
 use std::hash::{BuildHasher, RandomState};
-use std::io::ErrorKind;
-use std::{fs, io};
 
 /// Files, each with the books of one office. Nothing is known about what they hold: what is proved
 /// of an opening is proved whatever that is, as long as a file that lists the tables of books has
@@ -76,7 +73,7 @@ impl<'a> Files<'a> {
                 let (answer, ended) = visit_at(self.rt, book, seed, Unknown, visit);
                 released(&log, answer, ended)
             }
-            Err(fault) => without_log(Err(fault)),
+            Err(fault) => without_log(fault),
         }
     }
 
@@ -88,7 +85,7 @@ impl<'a> Files<'a> {
                 let (upgraded, ended) = upgrade_at(self.rt, book, seed, Unknown);
                 released_upgraded(&log, upgraded, ended)
             }
-            Err(fault) => without_log(Err(fault)),
+            Err(fault) => without_log(fault),
         }
     }
 
@@ -100,19 +97,8 @@ impl<'a> Files<'a> {
                 let (answer, ended) = audit_at(self.rt, book, seed, Unknown, watch);
                 released(&log, answer, ended)
             }
-            Err(fault) => without_log(Err(fault)),
+            Err(fault) => without_log(fault),
         }
-    }
-}
-
-/// What the failure of a file means.
-pub(crate) fn failed(error: &io::Error) -> RepositoryFault
-    ensures { result ≡ file_fault (error_kind error.now) }
-{
-    match error.kind() {
-        ErrorKind::AlreadyExists => RepositoryFault::Exists,
-        ErrorKind::OutOfMemory => RepositoryFault::Ledger(LedgerFault::Memory),
-        _ => RepositoryFault::Io,
     }
 }
 
@@ -173,84 +159,5 @@ impl AuditedRepository for Files<'_> {
     /// for them. They are only read.
     fn back_up<W: Watch>(&mut self, book: &str, copy: &str, watch: &mut W) -> Opened<Audited> {
         self.wait_to_back_up(book, copy, watch)
-    }
-}
-
-/// What came of a session, whose files are dropped. Where no memory was left to see that they hold
-/// books, that is said in place of an answer. Nothing is said of a log only where none is left that
-/// holds pages which were to be moved, one that was to stay looks short, and none was put aside.
-pub(crate) fn released<T: Drop, D: Disk + Drop>(
-    log: &Log<'_>,
-    answer: Result<T, RepositoryFault>,
-    ended: Ended<D>,
-) -> Opened<T>
-    ensures told { result.answer ≡ seen_answer RepositoryFault.Unseen answer ended }
-    ensures log { result.has_log ≡ false → HasMovedLog ended }
-    ensures short { result.has_log ≡ false → LeftLooksShort D.Disk ended }
-    ensures kept { result.has_log ≡ false → log.now.is_kept ≡ false }
-{
-    match ended {
-        Ended::Closed(closed) => {
-            let is_kept = closed.is_kept;
-            let has_log = log.release(closed);
-            if is_kept {
-                Opened { answer, has_log }
-            } else {
-                Opened {
-                    answer: Err(RepositoryFault::Unseen),
-                    has_log,
-                }
-            }
-        }
-        Ended::Refused(files) => {
-            let has_log = log.leave(files);
-            Opened { answer, has_log }
-        }
-    }
-}
-
-/// What came of books that were to be brought to this form. Where they were not, that is said,
-/// whatever is seen of their files.
-fn released_upgraded<D: Disk + Drop>(
-    log: &Log<'_>,
-    upgraded: Result<Upgraded, RepositoryFault>,
-    ended: Ended<D>,
-) -> Opened<Upgraded>
-    ensures told { OnOk upgraded
-        (result.answer ≡ seen_answer RepositoryFault.Unseen upgraded ended) }
-    ensures refused { OnErr upgraded (result.answer ≡ upgraded) }
-    ensures log { result.has_log ≡ false → HasMovedLog ended }
-    ensures short { result.has_log ≡ false → LeftLooksShort D.Disk ended }
-    ensures kept { result.has_log ≡ false → log.now.is_kept ≡ false }
-{
-    let Opened { answer, has_log } = released(log, upgraded, ended);
-    match upgraded {
-        Ok(_) => Opened { answer, has_log },
-        Err(fault) => Opened {
-            answer: Err(fault),
-            has_log,
-        },
-    }
-}
-
-/// What came of books that were not opened, whose log was looked at.
-pub(crate) fn unopened<T: Drop>(log: &Log<'_>, fault: RepositoryFault) -> Opened<T>
-    ensures answer { result.answer ≡ Err fault }
-    ensures kept { result.has_log ≡ log.now.is_kept }
-{
-    Opened {
-        answer: Err(fault),
-        has_log: log.is_kept(),
-    }
-}
-
-/// What came of files that were not opened.
-pub(crate) fn without_log<T: Drop>(answer: Result<T, RepositoryFault>) -> Opened<T>
-    ensures answer { result.answer ≡ answer }
-    ensures log { result.has_log ≡ false }
-{
-    Opened {
-        answer,
-        has_log: false,
     }
 }

@@ -1,6 +1,6 @@
 use Rattle.std.proofs.Common.{subst, sym}
 use Rattle.book_files.specs.Releases.{LeftLooksShort}
-use Rattle.book_files.proofs.repository.released.Goals as goal
+use Rattle.book_files.proofs.releases.released.Goals as goal
 
 pub returns-then-is_kept-clause-short : goal.returns-then-is_kept-clause-short
 returns-then-is_kept-clause-short g c = λ none.

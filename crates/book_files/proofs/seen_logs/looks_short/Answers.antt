@@ -1,4 +1,4 @@
-use Rattle.book_files.proofs.log.looks_short.Goals as goal
+use Rattle.book_files.proofs.seen_logs.looks_short.Goals as goal
 
 -- it is the log after the question for its length
 pub returns : goal.returns

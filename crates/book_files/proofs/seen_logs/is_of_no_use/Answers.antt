@@ -1,7 +1,7 @@
 use Rattle.std.proofs.Common.{subst, sym}
 use Rattle.book_trees.specs.LedgerFiles.{IsUnused}
 use Rattle.book_sessions.proofs.Causes.{ok_so}
-use Rattle.book_files.proofs.log.is_of_no_use.Goals as goal
+use Rattle.book_files.proofs.seen_logs.is_of_no_use.Goals as goal
 
 -- what was seen of it is what it holds still
 pub returns : goal.returns
