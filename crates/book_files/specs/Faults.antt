@@ -1,5 +1,7 @@
 -- What the faults of files mean, and what is answered where there is no copy of books.
+use Rattle.std.specs.IoError.{error_kind}
 use Rattle.std.specs.Prelude.{if◌then◌else◌, Bool, Result, Ok, Err}
+use Rattle.std.specs.declared.io.Error.{Error}
 use Rattle.std.specs.declared.io.ErrorKind.{ErrorKind}
 use Rattle.std.specs.declared.io.ErrorKind.TheVariants as kind
 use Rattle.book_model.specs.declared.fault.LedgerFault.TheVariants as ledger
@@ -16,6 +18,11 @@ abbrev pub file_fault : ErrorKind → RepositoryFault
 file_fault kind.AlreadyExists = Exists
 file_fault kind.OutOfMemory = Ledger ledger.Memory
 file_fault _ = Io
+
+-- what a call on a file gave, or what its failure means
+abbrev pub file_answer : {A : Type 0} → Result A Error → Result A RepositoryFault
+file_answer (Ok given) = Ok given
+file_answer (Err error) = Err (file_fault (error_kind error))
 
 -- what it means that books were not copied
 abbrev pub not_copied : LookFault → CopyFault

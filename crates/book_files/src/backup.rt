@@ -1,11 +1,13 @@
 //! A copy of books under another name: it is begun under a second name, and gets its own once it is
 //! whole and sound.
 
-use crate::copied::{Copied, CopyFault, whole};
+ghost use Rattle.std.specs.Prelude.{IsTrue};
+
+use crate::copied::{CopyFault, whole};
 use crate::copies::visit_copy_at;
-use crate::faults::failed;
-use crate::log::{Log, sync_folder};
-use crate::new_books::beside;
+use crate::faults::of_file;
+use crate::log::Log;
+use crate::paths::{expect_none, sync_folder};
 use crate::releases::{released, unopened, without_log};
 use crate::repository::Files;
 use book_audit::{Audited, Watch};
@@ -14,7 +16,6 @@ use book_trees::LookFault;
 use named_books::{Look, Opened, RepositoryFault};
 use sqlite_disk::Unknown;
 use std::fs;
-use std::fs::File;
 
 impl Files<'_> {
     /// Copies the books of a file to a name that nothing has. Where the copy is not sound, or can't
@@ -29,38 +30,23 @@ impl Files<'_> {
             Ok(begun) => begun,
             Err(fault) => return without_log(fault),
         };
-        let begun = match self.begin_copy(copy) {
+        if let Err(fault) = expect_none(self.rt, copy) {
+            return unopened(&log, fault);
+        }
+        let (begun, begun_log) = match self.begin_beside(copy, "new") {
             Ok(begun) => begun,
             Err(fault) => return unopened(&log, fault),
         };
-        let (copied, has_log) = self.copy_into(book, &log, begun.as_str(), seed);
+        let (copied, has_log) = self.copy_into(book, &log, begun.as_str(), &begun_log, seed);
         let answer = match copied {
             Ok(()) => self.name_if_sound(begun.as_str(), copy, watch),
             Err(CopyFault::Pages) => not_looked_through(LookFault::Pages),
             Err(CopyFault::Refused(fault)) => Err(fault),
         };
-        let is_named = matches!(&answer, Ok(Audited::Sound(_)));
-        if !is_named {
+        if !matches!(&answer, Ok(Audited::Sound(_))) {
             let _ = fs::remove_file(self.rt, begun.as_str());
         }
         Opened { answer, has_log }
-    }
-
-    /// Makes the file in which a copy is begun, and says its name. Nothing may have it, nor the name
-    /// of the copy.
-    fn begin_copy(&self, copy: &str) -> Result<String, RepositoryFault> {
-        self.expect_none(copy)?;
-        self.begin_beside(copy, "new")
-    }
-
-    /// Makes an empty file beside another, and says its name, which nothing may have.
-    pub(crate) fn begin_beside(&self, path: &str, what: &str) -> Result<String, RepositoryFault> {
-        let begun = beside(self.rt, path, what).map_err(|error| failed(&error))?;
-        self.expect_none(begun.as_str())?;
-        match File::create_new(self.rt, begun.as_str()) {
-            Ok(_) => Ok(begun),
-            Err(error) => Err(failed(&error)),
-        }
     }
 
     /// Copies the books into the file that was begun, which then holds all of them, and says whether
@@ -70,23 +56,15 @@ impl Files<'_> {
         book: &str,
         log: &Log<'_>,
         begun: &str,
+        begun_log: &Log<'_>,
         seed: u64,
-    ) -> (Result<(), CopyFault>, bool) {
-        let begun_log = match Log::of(self.rt, begun, true) {
-            Ok(begun_log) => begun_log,
-            Err(error) => return (Err(CopyFault::Refused(failed(&error))), log.is_kept),
-        };
-        let Copied {
-            answer: copied,
-            original,
-            copy,
-        } = visit_copy_at(self.rt, book, Unknown, begun, Unknown, seed, &mut Look);
-        let has_log = log.leave(original);
-        let Opened {
-            answer: closed,
-            has_log: has_own_log,
-        } = released(&begun_log, Ok(()), copy);
-        let answer = copied.and(whole(closed, has_own_log));
+    ) -> (Result<(), CopyFault>, bool)
+        requires { IsTrue begun_log.now.is_begun }
+    {
+        let copied = visit_copy_at(self.rt, book, Unknown, begun, Unknown, seed, &mut Look);
+        let has_log = log.leave(copied.original);
+        let closed = released(begun_log, Ok(()), copied.copy);
+        let answer = copied.answer.and(whole(closed.answer, closed.has_log));
         if answer.is_err() {
             begun_log.remove();
         }
@@ -110,14 +88,12 @@ impl Files<'_> {
     /// Gives a copy its name, which has to reach the disk: a copy that is acknowledged outlasts a
     /// power cut. Where that is not seen, the name is free again.
     fn name_copy(&self, begun: &str, copy: &str) -> Result<(), RepositoryFault> {
-        self.expect_none(copy)?;
-        fs::rename(self.rt, begun, copy).map_err(|error| failed(&error))?;
-        match sync_folder(self.rt, copy) {
-            Ok(()) => Ok(()),
-            Err(error) => {
-                let _ = fs::remove_file(self.rt, copy);
-                Err(failed(&error))
-            }
+        expect_none(self.rt, copy)?;
+        of_file(fs::rename(self.rt, begun, copy))?;
+        let synced = sync_folder(self.rt, copy);
+        if synced.is_err() {
+            let _ = fs::remove_file(self.rt, copy);
         }
+        synced
     }
 }

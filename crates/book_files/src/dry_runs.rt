@@ -1,21 +1,20 @@
 //! What a visit would make of books is tried on a copy of them, which is removed.
 
-ghost use Rattle.std.specs.Prelude.{◌≡◌, IfOk, IsTrue};
+ghost use Rattle.std.specs.Prelude.{◌≡◌};
 ghost use Rattle.named_books.specs.Shelves.{ComesBy};
 
 use crate::copied::{Copied, tried_answer};
 use crate::copies::visit_copy_at;
-use crate::faults::failed;
-use crate::log::Log;
 use crate::releases::{released, unopened, without_log};
 use crate::repository::Files;
-use named_books::{Opened, RepositoryFault, Visit};
+use named_books::{Opened, Visit};
 use sqlite_disk::Unknown;
 use std::fs;
 
 impl Files<'_> {
     /// Visits a copy of the books of a file, made while nobody else has them. They are only read. The
-    /// copy lies beside them, and is removed however the visit ends.
+    /// copy lies beside them, under a name that nothing has: what a stopped dry run left there may be
+    /// somebody's. It is removed however the visit ends.
     pub(crate) fn try_out_books<V: Visit>(&self, book: &str, visit: &mut V) -> Opened<V::Answer>
         ensures { ComesBy (V.Visit.comes visit.old visit.new) (visit.new ≡ visit.old) result.answer }
     {
@@ -23,7 +22,7 @@ impl Files<'_> {
             Ok(begun) => begun,
             Err(fault) => return without_log(fault),
         };
-        let (begun, begun_log) = match self.begin_trial(book) {
+        let (begun, begun_log) = match self.begin_beside(book, "try") {
             Ok(begun) => begun,
             Err(fault) => return unopened(&log, fault),
         };
@@ -38,20 +37,5 @@ impl Files<'_> {
         // Until here nobody else has the books, nor begins a copy.
         let has_log = log.leave(original);
         Opened { answer, has_log }
-    }
-
-    /// Makes the file in which a copy is tried, and says its name and its log. Nothing may have that
-    /// name: what a stopped dry run left there may be somebody's as well.
-    fn begin_trial(&self, book: &str) -> Result<(String, Log<'_>), RepositoryFault>
-        ensures { IfOk result (λ begun. IsTrue begun.1.is_begun) }
-    {
-        let begun = self.begin_beside(book, "try")?;
-        match Log::of(self.rt, begun.as_str(), true) {
-            Ok(begun_log) => Ok((begun, begun_log)),
-            Err(error) => {
-                let _ = fs::remove_file(self.rt, begun.as_str());
-                Err(failed(&error))
-            }
-        }
     }
 }

@@ -5,18 +5,15 @@ ghost use Rattle.std.specs.Prelude.{◌≡◌, ◌<◌, true, IfOk, IsTrue, OnOk
 ghost use Rattle.book_trees.specs.LedgerFiles.{shortest_log};
 ghost use Rattle.book_files.specs.Logs.{IsOfNoUse};
 
-use crate::faults::failed;
+use crate::faults::of_file;
+use crate::paths::{beside, is_there, may_be_books, sync_folder};
 use crate::seen_logs::is_of_no_use;
 use book_sessions::refused;
 use book_trees::{lock_at, needs_no_log};
 use named_books::RepositoryFault;
 use sqlite_disk::{Disk, Unknown};
-use std::fs::File;
-use std::io::{ErrorKind, Read};
+use std::io::ErrorKind;
 use std::{fs, io};
-
-/// What every database of SQLite begins with, and so each file of books from the first on.
-const MAGIC: [u8; 16] = *b"SQLite format 3\0";
 
 /// The log of a file, by its path, and whether it was there before the file was opened.
 #[derive(Drop)]
@@ -36,16 +33,20 @@ impl<'a> Log<'a> {
     /// refuses it here, before there is a log that would stay. Where one is there already another
     /// program may be at work, which such a sync would hold up each time it is asked. Where the
     /// log's name is that of a file of books nothing is opened, since they would be taken for it.
-    pub(crate) fn of(rt: &'a HostRuntime, book: &str, is_begun: bool) -> io::Result<Log<'a>>
+    pub(crate) fn of(
+        rt: &'a HostRuntime,
+        book: &str,
+        is_begun: bool,
+    ) -> Result<Log<'a>, RepositoryFault>
         ensures { IfOk result (λ log. log.is_begun ≡ is_begun) }
     {
-        let real = fs::canonicalize(rt, book)?;
-        let path = format!(in rt.alloc(); "{}-wal", real.as_str())?;
+        let real = of_file(fs::canonicalize(rt, book))?;
+        let path = of_file(beside(rt, real.as_str(), "wal"))?;
         let was_there = is_there(rt, path.as_str())?;
         if !was_there {
             sync_folder(rt, book)?;
-        } else if are_books(rt, path.as_str())? {
-            return Err(ErrorKind::AlreadyExists.into());
+        } else if may_be_books(rt, path.as_str())? {
+            return Err(RepositoryFault::Exists);
         }
         Ok(Log {
             rt,
@@ -56,10 +57,9 @@ impl<'a> Log<'a> {
         })
     }
 
-    /// Gives a log that was there another name, where recovery would take nothing of it and write
-    /// over it: it is somebody's, or damaged, or a stopped command's. By `is_unused` the file alone
-    /// holds the same books, so a stop on the way harms nothing. The two are locked meanwhile: it
-    /// is not the log of a command that runs.
+    /// Gives a log that was there another name, where recovery would write over it: it is somebody's,
+    /// or damaged, or a stopped command's. By `is_unused` the file alone holds the same books. The
+    /// two are locked meanwhile: it is not the log of a command that runs.
     pub(crate) fn keep_unused(&mut self, book: &str) -> Result<(), RepositoryFault> {
         if !self.was_there {
             return Ok(());
@@ -80,22 +80,22 @@ impl<'a> Log<'a> {
             Err(fault) => return Err(refused(fault)),
         };
         if is_unused {
-            return self.keep(log).map_err(|error| failed(&error));
+            return self.keep(log);
         }
         Ok(())
     }
 
     /// Renames a log that is of no use to books, to a name that nothing has. No other place renames
     /// one. The opening that follows syncs the folder too, and fails where it can't.
-    fn keep<D: Disk>(&mut self, _log: &D) -> io::Result<()>
+    fn keep<D: Disk>(&mut self, _log: &D) -> Result<(), RepositoryFault>
         requires { IsOfNoUse D.Disk _log.now }
         ensures { OnOk result (self.new.is_kept ≡ true) }
     {
-        let kept = format!(in self.rt.alloc(); "{}-kept", self.path.as_str())?;
+        let kept = of_file(beside(self.rt, self.path.as_str(), "kept"))?;
         if is_there(self.rt, kept.as_str())? {
-            return Err(ErrorKind::AlreadyExists.into());
+            return Err(RepositoryFault::Exists);
         }
-        fs::rename(self.rt, self.path.as_str(), kept.as_str())?;
+        of_file(fs::rename(self.rt, self.path.as_str(), kept.as_str()))?;
         self.is_kept = true;
         self.was_there = false;
         let _ = sync_folder(self.rt, kept.as_str());
@@ -124,55 +124,17 @@ impl<'a> Log<'a> {
         fs::remove_file(self.rt, self.path.as_str())
     }
 
-    /// Takes away the log of a file that this call began, whatever it holds.
-    pub(crate) fn remove(&self)
-        requires { IsTrue self.now.is_begun }
-    {
-        let _ = fs::remove_file(self.rt, self.path.as_str());
-    }
-
     /// Takes away a short log that was not there before the opening.
     pub(crate) fn remove_made(&self) {
         if !self.was_there {
             self.remove_if_empty();
         }
     }
-}
 
-/// Whether a file begins as books do. What is not a regular file is not read: it might never end.
-pub(crate) fn begins_as_books(rt: &HostRuntime, path: &str) -> io::Result<bool> {
-    if !fs::metadata(rt, path)?.is_file() {
-        return Err(ErrorKind::Unsupported.into());
+    /// Takes away the log of a file that this call began, whatever it holds.
+    pub(crate) fn remove(&self)
+        requires { IsTrue self.now.is_begun }
+    {
+        let _ = fs::remove_file(self.rt, self.path.as_str());
     }
-    let mut file = fs::open(rt, path)?;
-    let mut first = [0; 16];
-    match file.read_exact(&mut first) {
-        Ok(()) => Ok(first == MAGIC),
-        Err(error) if error.kind() == ErrorKind::UnexpectedEof => Ok(false),
-        Err(error) => Err(error),
-    }
-}
-
-/// The same of a file that may be gone by now.
-fn are_books(rt: &HostRuntime, path: &str) -> io::Result<bool> {
-    match begins_as_books(rt, path) {
-        Err(error) if error.kind() == ErrorKind::NotFound => Ok(false),
-        begins => begins,
-    }
-}
-
-/// Whether something lies at a path, if only a link that leads nowhere.
-pub(crate) fn is_there(rt: &HostRuntime, path: &str) -> io::Result<bool> {
-    match fs::symlink_metadata(rt, path) {
-        Ok(_) => Ok(true),
-        Err(error) if error.kind() == ErrorKind::NotFound => Ok(false),
-        Err(error) => Err(error),
-    }
-}
-
-/// Syncs the names in the folder of a file to the disk.
-pub(crate) fn sync_folder(rt: &HostRuntime, book: &str) -> io::Result<()> {
-    let mut folder = fs::canonicalize(rt, book)?;
-    folder.pop();
-    File::open(rt, folder.as_str())?.sync_all()
 }

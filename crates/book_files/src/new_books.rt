@@ -3,34 +3,34 @@
 
 ghost use Rattle.std.specs.Prelude.{IsOk, IsSome, IsTrue};
 
-use crate::faults::failed;
-use crate::log::{Log, is_there, sync_folder};
-use crate::names::is_log_name;
+use crate::faults::of_file;
+use crate::log::Log;
+use crate::paths::{beside, create, expect_none, is_there, sync_folder};
 use crate::releases::in_hand;
 use crate::repository::Files;
+use crate::seeds::seed_from;
 use crate::session::{make_at, resume_at};
 use book_core::LedgerFault;
 use named_books::RepositoryFault;
 use sqlite_disk::{Files as Pair, Unknown};
 use sqlite_std_file::FileFrom;
-use std::fs::File;
-use std::{fs, io};
+use std::fs;
 
 impl Files<'_> {
     /// Makes new books under a name that nothing has. Where they can't be made, what this call
     /// began is removed. What a stopped earlier call left is continued; where that fails too, it stays
     /// with its log, by which the next call tells a file that was begun from a damaged one.
     pub(crate) fn make_new(&self, book: &str) -> Result<(), RepositoryFault> {
-        self.expect_none(book)?;
-        let begun = beside(self.rt, book, "new").map_err(|error| failed(&error))?;
+        expect_none(self.rt, book)?;
+        let begun = of_file(beside(self.rt, book, "new"))?;
         let is_first = self.begin(begun.as_str())?;
         let log = match Log::of(self.rt, begun.as_str(), is_first) {
             Ok(log) => log,
-            Err(error) => {
+            Err(fault) => {
                 if is_first {
                     let _ = fs::remove_file(self.rt, begun.as_str());
                 }
-                return Err(failed(&error));
+                return Err(fault);
             }
         };
         let (made, files) = self.make_in(begun.as_str());
@@ -55,16 +55,11 @@ impl Files<'_> {
     /// Makes the file in which books are begun, and says whether it was not there. Where it was
     /// not, a log or a journal of it belongs to somebody.
     fn begin(&self, begun: &str) -> Result<bool, RepositoryFault> {
-        match is_there(self.rt, begun) {
-            Ok(true) => return Ok(false),
-            Ok(false) => {}
-            Err(error) => return Err(failed(&error)),
+        if is_there(self.rt, begun)? {
+            return Ok(false);
         }
-        self.expect_none(begun)?;
-        match File::create_new(self.rt, begun) {
-            Ok(_) => Ok(true),
-            Err(error) => Err(failed(&error)),
-        }
+        create(self.rt, begun)?;
+        Ok(true)
     }
 
     /// Removes what this call began. While the file is locked it is emptied first: a stop on the
@@ -81,26 +76,12 @@ impl Files<'_> {
         log.remove_if_empty();
     }
 
-    /// Nothing may have the name, nor that of a log or a journal beside it, whose contents would be
-    /// taken for new books' own. Nor may the name be that of a log, for which new books would be
-    /// taken.
-    pub(crate) fn expect_none(&self, book: &str) -> Result<(), RepositoryFault> {
-        if is_log_name(book) {
-            return Err(RepositoryFault::Exists);
-        }
-        match has_traces(self.rt, book) {
-            Ok(false) => Ok(()),
-            Ok(true) => Err(RepositoryFault::Exists),
-            Err(error) => Err(failed(&error)),
-        }
-    }
-
     /// Makes new books in a file that is empty, or that a stop left while they were made. Where they
     /// are made their files are in hand.
     fn make_in(&self, begun: &str) -> (Result<(), RepositoryFault>, Option<Pair<FileFrom<Unknown>>>)
         ensures { IsOk result.0 → IsSome result.1 }
     {
-        let seed = match self.seed() {
+        let seed = match seed_from(self.rt) {
             Ok(seed) => seed,
             Err(fault) => return (Err(fault), None),
         };
@@ -123,25 +104,9 @@ impl Files<'_> {
         if !log.remove_if_empty() {
             return Err(RepositoryFault::Ledger(LedgerFault::Store));
         }
-        self.expect_none(book)?;
-        match fs::rename(self.rt, begun, book) {
-            Ok(()) => {
-                let _ = sync_folder(self.rt, book);
-                Ok(())
-            }
-            Err(error) => Err(failed(&error)),
-        }
+        expect_none(self.rt, book)?;
+        of_file(fs::rename(self.rt, begun, book))?;
+        let _ = sync_folder(self.rt, book);
+        Ok(())
     }
-}
-
-/// The path of a file that belongs to another.
-pub(crate) fn beside(rt: &HostRuntime, book: &str, what: &str) -> io::Result<String> {
-    Ok(format!(in rt.alloc(); "{book}-{what}")?)
-}
-
-/// Whether something has the name, or that of a log or a journal beside it.
-fn has_traces(rt: &HostRuntime, book: &str) -> io::Result<bool> {
-    let log = beside(rt, book, "wal")?;
-    let journal = beside(rt, book, "journal")?;
-    Ok(is_there(rt, book)? || is_there(rt, log.as_str())? || is_there(rt, journal.as_str())?)
 }

@@ -1,11 +1,13 @@
 //! The files of one machine, by their paths.
 
-ghost use Rattle.std.specs.Prelude.{◌≡◌};
+ghost use Rattle.std.specs.Prelude.{◌≡◌, IfOk, IsTrue};
 ghost use Rattle.named_books.specs.Shelves.{ComesBy};
 
-use crate::faults::failed;
-use crate::log::{Log, begins_as_books};
+use crate::faults::{failed, of_file};
+use crate::log::Log;
+use crate::paths::{are_books, beside, create};
 use crate::releases::{released, released_upgraded, without_log};
+use crate::seeds::seed_from;
 use crate::session::{audit_at, upgrade_at, visit_at};
 use crate::waiting::Visited;
 use book_audit::{Audited, AuditedRepository, Watch};
@@ -13,7 +15,6 @@ use book_core::LedgerFault;
 use named_books::{Opened, Repository, RepositoryFault, Upgraded, Visit, WaitingRepository};
 use sqlite_disk::Unknown;
 use std::fs;
-use std::hash::{BuildHasher, RandomState};
 
 /// Files, each with the books of one office. Nothing is known about what they hold: what is proved
 /// of an opening is proved whatever that is, as long as a file that lists the tables of books has
@@ -33,33 +34,37 @@ impl<'a> Files<'a> {
         Files { rt, wait: 0 }
     }
 
-    /// A number that nobody can foresee, for the digests of a store.
-    pub(crate) fn seed(&self) -> Result<u64, RepositoryFault> {
-        match RandomState::new(self.rt) {
-            Ok(state) => Ok(state.hash_one(&0u8)),
-            Err(error) => Err(failed(&error)),
-        }
-    }
-
-    /// The log of a file that may hold books, before that is opened. A file that is no database is
-    /// not opened, whatever log lies beside it.
-    fn log_of(&self, book: &str) -> Result<Log<'a>, RepositoryFault> {
-        match begins_as_books(self.rt, book) {
-            Ok(true) => {}
-            Ok(false) => return Err(RepositoryFault::Ledger(LedgerFault::NotBooks)),
-            Err(error) => return Err(failed(&error)),
-        }
-        Log::of(self.rt, book, false).map_err(|error| failed(&error))
-    }
-
     /// What a session on a file that may hold books begins with: its log, and a number for the
-    /// digests. A log that holds nothing of them is kept under another name.
+    /// digests. A file that is no database is not opened, whatever log lies beside it; and a log
+    /// that holds nothing of the books is kept under another name.
     pub(crate) fn begin_with(&self, book: &str) -> Result<(Log<'a>, u64), RepositoryFault> {
-        let seed = self.seed()?;
-        let mut log = self.log_of(book)?;
+        let seed = seed_from(self.rt)?;
+        if !of_file(are_books(self.rt, book))? {
+            return Err(RepositoryFault::Ledger(LedgerFault::NotBooks));
+        }
+        let mut log = Log::of(self.rt, book, false)?;
         // The last step, since from here on the caller tells of the log.
         log.keep_unused(book)?;
         Ok((log, seed))
+    }
+
+    /// Makes an empty file beside another, and says its name, which nothing may have, and its log.
+    pub(crate) fn begin_beside(
+        &self,
+        path: &str,
+        what: &str,
+    ) -> Result<(String, Log<'a>), RepositoryFault>
+        ensures { IfOk result (λ begun. IsTrue begun.1.is_begun) }
+    {
+        let begun = of_file(beside(self.rt, path, what))?;
+        create(self.rt, begun.as_str())?;
+        match Log::of(self.rt, begun.as_str(), true) {
+            Ok(log) => Ok((begun, log)),
+            Err(fault) => {
+                let _ = fs::remove_file(self.rt, begun.as_str());
+                Err(fault)
+            }
+        }
     }
 
     /// Visits the books of a file that is there. What a ledger left in it is opened at the same
