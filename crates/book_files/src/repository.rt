@@ -9,7 +9,7 @@ use crate::paths::{are_books, beside, create};
 use crate::releases::{released, released_upgraded, without_log};
 use crate::seeds::seed_from;
 use crate::session::{audit_at, upgrade_at, visit_at};
-use crate::waiting::Visited;
+use crate::waiting::{Visited, Waiting, wait};
 use book_audit::{Audited, AuditedRepository, Watch};
 use book_core::LedgerFault;
 use named_books::{Opened, Repository, RepositoryFault, Upgraded, Visit, WaitingRepository};
@@ -70,7 +70,7 @@ impl<'a> Files<'a> {
     /// Visits the books of a file that is there. What a ledger left in it is opened at the same
     /// cost whatever it holds: the whole file is not read. After the visit the books are one file,
     /// where their log could be brought into it.
-    pub(crate) fn visit_books<V: Visit>(&self, book: &str, visit: &mut V) -> Opened<V::Answer>
+    fn visit_books<V: Visit>(&self, book: &str, visit: &mut V) -> Opened<V::Answer>
         ensures { ComesBy (V.Visit.comes visit.old visit.new) (visit.new ≡ visit.old) result.answer }
     {
         match self.begin_with(book) {
@@ -84,7 +84,7 @@ impl<'a> Files<'a> {
 
     /// Brings the books of a file that is there to this form, in one commit. All of its pages are
     /// looked through first.
-    pub(crate) fn upgrade_books(&self, book: &str) -> Opened<Upgraded> {
+    fn upgrade_books(&self, book: &str) -> Opened<Upgraded> {
         match self.begin_with(book) {
             Ok((log, seed)) => {
                 let (upgraded, ended) = upgrade_at(self.rt, book, seed, Unknown);
@@ -104,6 +104,44 @@ impl<'a> Files<'a> {
             }
             Err(fault) => without_log(fault),
         }
+    }
+
+    fn visit<V: Visit>(&self, what: Visited, book: &str, visit: &mut V) -> Opened<V::Answer>
+        ensures { ComesBy (V.Visit.comes visit.old visit.new) (visit.new ≡ visit.old) result.answer }
+    {
+        match what {
+            Visited::Books => self.visit_books(book, visit),
+            Visited::Copy => self.try_out_books(book, visit),
+        }
+    }
+
+    /// Visits books, or a copy of them, and waits for them.
+    fn wait_to_visit<V: Visit>(&self, what: Visited, book: &str, visit: &mut V) -> Opened<V::Answer>
+        ensures { ComesBy (V.Visit.comes visit.old visit.new) (visit.new ≡ visit.old) result.answer }
+    {
+        let mut waiting = Waiting::of(self.rt, self.wait);
+        for _ in 0..waiting.pauses {
+            match waiting.settle(self.visit(what, book, visit)) {
+                None => {}
+                Some(opened) => return opened,
+            }
+        }
+        waiting.end(self.visit(what, book, visit))
+    }
+
+    fn wait_to_upgrade(&self, book: &str) -> Opened<Upgraded> {
+        let waiting = Waiting::of(self.rt, self.wait);
+        wait(waiting, || self.upgrade_books(book))
+    }
+
+    fn wait_to_audit<W: Watch>(&self, book: &str, watch: &mut W) -> Opened<Audited> {
+        let waiting = Waiting::of(self.rt, self.wait);
+        wait(waiting, || self.audit_books(book, watch))
+    }
+
+    fn wait_to_back_up<W: Watch>(&self, book: &str, copy: &str, watch: &mut W) -> Opened<Audited> {
+        let waiting = Waiting::of(self.rt, self.wait);
+        wait(waiting, || self.copy_books(book, copy, watch))
     }
 }
 

@@ -2,13 +2,10 @@
 //! use has touched nothing of theirs: their file is locked before their log is opened, or made.
 
 ghost use Rattle.std.specs.Prelude.{◌≡◌, ◌||◌, Err, MatchOption};
-ghost use Rattle.named_books.specs.Shelves.{ComesBy};
 
-use crate::repository::Files;
-use book_audit::{Audited, Watch};
-use named_books::{Opened, RepositoryFault, Upgraded, Visit};
+use named_books::{Opened, RepositoryFault};
 use std::thread;
-use std::time::{Duration, Instant};
+use std::time::{Clock, Duration, Instant};
 
 /// How long a program sleeps before it asks again, in milliseconds. An opening takes some 15.
 const PAUSE: u64 = 50;
@@ -25,23 +22,35 @@ pub(crate) enum Visited {
     Copy,
 }
 
-/// The time for which an opening may wait.
+/// The time for which an opening may wait. Nothing but a clock is in reach here.
 #[derive(Drop)]
-struct Waiting<'a> {
-    rt: &'a HostRuntime,
+pub(crate) struct Waiting<'a, C: Clock> {
+    clock: &'a C,
     /// When the books were asked for first. Without a clock nothing waits.
     begun: Option<Instant>,
     most: Duration,
+    /// How often an opening asks again, at most.
+    pub(crate) pauses: u32,
     /// An opening that found the books in use had put aside a log that was no use.
     has_log: bool,
 }
 
-impl Waiting<'_> {
+impl<'a, C: Clock> Waiting<'a, C> {
+    pub(crate) fn of(clock: &'a C, seconds: u16) -> Waiting<'a, C> {
+        Waiting {
+            clock,
+            begun: Instant::now(clock).ok(),
+            most: Duration::from_secs(u64::from(seconds)),
+            pauses: u32::from(seconds) * PAUSES_IN_A_SECOND,
+            has_log: false,
+        }
+    }
+
     fn has_time(&self) -> bool {
         let Some(begun) = self.begun else {
             return false;
         };
-        match begun.elapsed(self.rt) {
+        match begun.elapsed(self.clock) {
             Ok(taken) => taken < self.most,
             Err(_) => false,
         }
@@ -49,7 +58,7 @@ impl Waiting<'_> {
 
     /// What came of an opening, if that is all. None where the books were in use: then they are to be
     /// asked for again now, after a pause.
-    fn settle<T: Drop>(&mut self, opened: Opened<T>) -> Option<Opened<T>>
+    pub(crate) fn settle<T: Drop>(&mut self, opened: Opened<T>) -> Option<Opened<T>>
         ensures answer { MatchOption result (opened.answer ≡ Err RepositoryFault.Busy)
             (λ told. told.answer ≡ opened.answer) }
 
@@ -63,7 +72,7 @@ impl Waiting<'_> {
         match answer {
             Err(RepositoryFault::Busy) if self.has_time() => {
                 self.has_log = has_log;
-                thread::sleep(self.rt, Duration::from_millis(PAUSE));
+                thread::sleep(self.clock, Duration::from_millis(PAUSE));
                 None
             }
             answer => Some(Opened { answer, has_log }),
@@ -71,7 +80,7 @@ impl Waiting<'_> {
     }
 
     /// What came of the last opening.
-    fn end<T: Drop>(&self, opened: Opened<T>) -> Opened<T>
+    pub(crate) fn end<T: Drop>(&self, opened: Opened<T>) -> Opened<T>
         ensures answer { result.answer ≡ opened.answer }
         ensures log { result.has_log ≡ (opened.has_log || self.now.has_log) }
     {
@@ -83,80 +92,19 @@ impl Waiting<'_> {
     }
 }
 
-impl<'a> Files<'a> {
-    fn waiting(&self) -> Waiting<'a> {
-        Waiting {
-            rt: self.rt,
-            begun: Instant::now(self.rt).ok(),
-            most: Duration::from_secs(u64::from(self.wait)),
-            has_log: false,
+/// Asks for books, and again while they are in use, as long as there is time.
+pub(crate) fn wait<C: Clock, T: Drop, F: FnMut() -> Opened<T>>(
+    waiting: Waiting<'_, C>,
+    mut ask: F,
+) -> Opened<T>
+    requires { F.IsAlwaysCallable ask }
+{
+    let mut waiting = waiting;
+    for _ in 0..waiting.pauses {
+        match waiting.settle(ask()) {
+            None => {}
+            Some(opened) => return opened,
         }
     }
-
-    /// How often an opening asks again, at most.
-    fn pauses(&self) -> u32 {
-        u32::from(self.wait) * PAUSES_IN_A_SECOND
-    }
-
-    fn visit<V: Visit>(&self, what: Visited, book: &str, visit: &mut V) -> Opened<V::Answer>
-        ensures { ComesBy (V.Visit.comes visit.old visit.new) (visit.new ≡ visit.old) result.answer }
-    {
-        match what {
-            Visited::Books => self.visit_books(book, visit),
-            Visited::Copy => self.try_out_books(book, visit),
-        }
-    }
-
-    /// Visits books, or a copy of them, and waits for them.
-    pub(crate) fn wait_to_visit<V: Visit>(
-        &self,
-        what: Visited,
-        book: &str,
-        visit: &mut V,
-    ) -> Opened<V::Answer>
-        ensures { ComesBy (V.Visit.comes visit.old visit.new) (visit.new ≡ visit.old) result.answer }
-    {
-        let mut waiting = self.waiting();
-        for _ in 0..self.pauses() {
-            match waiting.settle(self.visit(what, book, visit)) {
-                None => {}
-                Some(opened) => return opened,
-            }
-        }
-        waiting.end(self.visit(what, book, visit))
-    }
-
-    /// Asks for books, and again while they are in use, as long as there is time.
-    fn wait<T: Drop, F: FnMut() -> Opened<T>>(&self, mut ask: F) -> Opened<T>
-        requires { F.IsAlwaysCallable ask }
-    {
-        let mut waiting = self.waiting();
-        for _ in 0..self.pauses() {
-            match waiting.settle(ask()) {
-                None => {}
-                Some(opened) => return opened,
-            }
-        }
-        waiting.end(ask())
-    }
-
-    /// Brings books to this form, and waits for them.
-    pub(crate) fn wait_to_upgrade(&self, book: &str) -> Opened<Upgraded> {
-        self.wait(|| self.upgrade_books(book))
-    }
-
-    /// Audits books, and waits for them.
-    pub(crate) fn wait_to_audit<W: Watch>(&self, book: &str, watch: &mut W) -> Opened<Audited> {
-        self.wait(|| self.audit_books(book, watch))
-    }
-
-    /// Copies books, and waits for them.
-    pub(crate) fn wait_to_back_up<W: Watch>(
-        &self,
-        book: &str,
-        copy: &str,
-        watch: &mut W,
-    ) -> Opened<Audited> {
-        self.wait(|| self.copy_books(book, copy, watch))
-    }
+    waiting.end(ask())
 }
