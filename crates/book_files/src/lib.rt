@@ -1,17 +1,15 @@
 //! Books in files: each file a database of its own.
 #![tactic(auto)]
 
-mod backup;
 mod copied;
 mod copies;
-mod dry_runs;
 mod faults;
 mod kept_pages;
 mod laws;
 mod log;
+mod machine;
 mod magic;
 mod names;
-mod new_books;
 mod paths;
 mod releases;
 mod repository;

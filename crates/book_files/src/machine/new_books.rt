@@ -5,9 +5,9 @@ ghost use Rattle.std.specs.Prelude.{IsOk, IsSome, IsTrue};
 
 use crate::faults::of_file;
 use crate::log::Log;
+use crate::machine::Machine;
 use crate::paths::{beside, create, expect_none, is_there, sync_folder};
 use crate::releases::in_hand;
-use crate::repository::Files;
 use crate::seeds::seed_from;
 use crate::session::{make_at, resume_at};
 use book_core::LedgerFault;
@@ -16,7 +16,7 @@ use sqlite_disk::{Files as Pair, Unknown};
 use sqlite_std_file::FileFrom;
 use std::fs;
 
-impl Files<'_> {
+impl Machine<'_> {
     /// Makes new books under a name that nothing has. Where they can't be made, what this call
     /// began is removed. What a stopped earlier call left is continued; where that fails too, it stays
     /// with its log, by which the next call tells a file that was begun from a damaged one.

@@ -7,9 +7,9 @@ use crate::copied::{CopyFault, whole};
 use crate::copies::visit_copy_at;
 use crate::faults::of_file;
 use crate::log::Log;
+use crate::machine::Machine;
 use crate::paths::{expect_none, sync_folder};
 use crate::releases::{released, unopened, without_log};
-use crate::repository::Files;
 use book_audit::{Audited, Watch};
 use book_sessions::not_looked_through;
 use book_trees::LookFault;
@@ -17,7 +17,7 @@ use named_books::{Look, Opened, RepositoryFault};
 use sqlite_disk::Unknown;
 use std::fs;
 
-impl Files<'_> {
+impl Machine<'_> {
     /// Copies the books of a file to a name that nothing has. Where the copy is not sound, or can't
     /// be made, or its name does not reach the disk, nothing is left of it.
     pub(crate) fn copy_books<W: Watch>(

@@ -3,7 +3,7 @@ use Rattle.book_files.specs.Faults.{tried_answer}
 use Rattle.book_files.specs.declared.copied.CopyFault.{CopyFault}
 use Rattle.book_files.specs.declared.copied.CopyFault.TheVariants.{Pages, Refused}
 use Rattle.book_files.proofs.Told.{comes_on}
-use Rattle.book_files.proofs.repository.Files.try_out_books.Goals as goal
+use Rattle.book_files.proofs.machine.Machine.try_out_books.Goals as goal
 
 -- what came of a visit of a copy
 tried_came : {A : Type 0} (Came : A → Type 0) (Same : Type 0) (answer : Result A CopyFault)

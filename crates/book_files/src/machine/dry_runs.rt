@@ -5,13 +5,13 @@ ghost use Rattle.named_books.specs.Shelves.{ComesBy};
 
 use crate::copied::{Copied, tried_answer};
 use crate::copies::visit_copy_at;
+use crate::machine::Machine;
 use crate::releases::{released, unopened, without_log};
-use crate::repository::Files;
 use named_books::{Opened, Visit};
 use sqlite_disk::Unknown;
 use std::fs;
 
-impl Files<'_> {
+impl Machine<'_> {
     /// Visits a copy of the books of a file, made while nobody else has them. They are only read. The
     /// copy lies beside them, under a name that nothing has: what a stopped dry run left there may be
     /// somebody's. It is removed however the visit ends.

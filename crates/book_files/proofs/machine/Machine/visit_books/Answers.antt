@@ -1,6 +1,6 @@
 use Rattle.std.proofs.Common.{◌≡◌}
 use Rattle.book_files.proofs.Told.{comes_on}
-use Rattle.book_files.proofs.repository.Files.visit_books.Goals as goal
+use Rattle.book_files.proofs.machine.Machine.visit_books.Goals as goal
 
 pub returns-in-Ok : goal.returns-in-Ok
 returns-in-Ok g c =
