@@ -34,7 +34,7 @@ use Rattle.chargectl.specs.declared.dated_rulings.DatedAnswer.{DatedAnswer}
 use Rattle.chargectl.specs.declared.answered.Answered.{Answered}
 use Rattle.chargectl.specs.declared.streamed_lists.StreamedList.{StreamedList}
 use Rattle.chargectl.specs.Choices.{ChoosesBy, ChoosesListed, ComesOfList, IsListFault}
-use Rattle.chargectl.specs.Choices.{list_answered}
+use Rattle.chargectl.specs.Choices.{front_of, list_answered}
 use Rattle.chargectl.specs.Commands.{AsksAndTells, AsksNothing, AsksOnceBy, ComesOf, IsFileFault}
 use Rattle.chargectl.specs.Commands.{may_change, once_answered}
 use Rattle.chargectl.specs.Audits.{AuditsBooks, BacksUp}
@@ -356,7 +356,8 @@ module _ (history : List Event) (name : List ℕ) (old new : Shelf)
   list_comes_on had book (Err why) comes =
       step_as (λ made is. (
         λ _. (
-          either_as (old.refuses book) (Refuses book) (follow book) (IsListFault why) why comes.0,
+          either_as (old.refuses book) (Refuses book) (follow book)
+              (IsListFault (front_of had) why) why comes.0,
           is,
         ),
         λ _. is,

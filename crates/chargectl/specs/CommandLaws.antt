@@ -202,7 +202,7 @@ abbrev pub ListBy : Option (List ℕ) → Naming → List Event → (RepositoryF
     → Result ListAnswered CommandFault → List Event → Type 0
 ListBy had naming history Refuses (Ok answered) made =
     ListOf had naming history Refuses answered made
-ListBy had naming history Refuses (Err why) made = ChoosesNothing Refuses why × (made ≡ [])
+ListBy had naming history Refuses (Err why) made = ChoosesNothing had Refuses why × (made ≡ [])
 
 -- and that was written
 pub record ListOfHistory (had : Option (List ℕ)) (naming : Naming) (history : List Event)
