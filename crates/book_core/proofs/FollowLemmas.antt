@@ -6,6 +6,7 @@ use Rattle.book_model.specs.declared.answer.Accepted.{Accepted}
 use Rattle.book_model.specs.declared.answer.Accepted.TheVariants.{Kept, Known, Unpriced}
 use Rattle.book_model.specs.declared.answer.Ruled.{Ruled}
 use Rattle.book_model.specs.declared.answer.Ruled.TheVariants.{Done, Already}
+use Rattle.book_model.specs.MadeByCalls.{AreMadeOf}
 use Rattle.book_model.specs.declared.fault.LedgerFault.{LedgerFault}
 use Rattle.book_model.specs.declared.fault.LedgerFault.TheVariants.{Memory, Store, Reopen, OldRule}
 use Rattle.book_model.specs.Words.{Terms, terms_in, Naming, Book, new_book, Event, PeriodClosed}
@@ -25,8 +26,30 @@ use Rattle.book_core.proofs.TransitionLemmas.{after_all-append}
 
 -- work without an event makes none
 pub none_answered : (naming : Naming) → MakesAnswered naming NoEvent
-none_answered naming = λ history was events is none answered.
-    subst (λ events. IsMadeByCalls naming (events ++ history)) (sym none.none) answered
+none_answered naming = λ book was events is none.
+    subst (AreMadeOf naming book) (sym none.none) tt
+
+-- what calls made of a book, and then of what that left, they made of the book
+pub made_more : (naming : Naming) (late early : List Event) (book : Book)
+    → AreMadeOf naming (after_all early book) late → AreMadeOf naming book early
+    → AreMadeOf naming book (late ++ early)
+made_more naming [] early book later first = first
+made_more naming (event ∷ late) early book later first = (
+  subst (λ (left : Book). IsAnswered naming event left) (sym (after_all-append late early book))
+      later.0,
+  made_more naming late early book later.1 first,
+)
+
+-- and so a history that they made goes on
+pub history_goes_on : (naming : Naming) (events history : List Event)
+    → AreMadeOf naming (book_after history) events → IsMadeByCalls naming history
+    → IsMadeByCalls naming (events ++ history)
+history_goes_on naming [] history made answered = answered
+history_goes_on naming (event ∷ older) history made answered = (
+  subst (λ (left : Book). IsAnswered naming event left)
+      (sym (after_all-append older history new_book)) made.0,
+  history_goes_on naming older history made.1 answered,
+)
 
 -- the book after events is that of the history with them
 pub after_all-book_of : (events history : List Event)
@@ -46,25 +69,21 @@ follows old new Made answers work honest books history of book stands =
     record {
       events = come.events;
       made = made;
-      answered = answers history old.must_reopen come.events new.must_reopen
+      answered = history_goes_on old.naming come.events history
+          (answers (book_after history) old.must_reopen come.events new.must_reopen
           (subst (λ before. Made old.must_reopen before come.events new.must_reopen)
-          (sym (books_follow_history history)) made);
+          (sym (books_follow_history history)) made));
       is = come.leads ∙ ap (after_all come.events) was ∙ after_all-book_of come.events history;
     }
 
 -- work, and then other work
 pub then_answered : (naming : Naming) (First Next : Transition) → MakesAnswered naming First
     → MakesAnswered naming Next → MakesAnswered naming (Then First Next)
-then_answered naming First Next first next history was events is both answered =
-    let early : IsMadeByCalls naming (both.early ++ history) =
-    first history was both.early both.between both.first answered in
-    let late : IsMadeByCalls naming (both.late ++ (both.early ++ history)) =
-    next (both.early ++ history) both.between both.late is
-    (subst (λ middle. Next both.between middle both.late is)
-    (sym (after_all-append both.early history new_book)) both.next) early in
-    subst (IsMadeByCalls naming)
-    (sym (append_assoc both.late both.early history)
-    ∙ ap (λ events. events ++ history) (sym both.all)) late
+then_answered naming First Next first next book was events is both =
+    subst (AreMadeOf naming book) (sym both.all)
+    (made_more naming both.late both.early book
+    (next (after_all both.early book) both.between both.late is both.next)
+    (first book was both.early both.between both.first))
 
 -- a call makes the event of its outcome, or none
 pub called_events : {V A : Type 0} (view : V → A) (outcome : Outcome A)
@@ -79,37 +98,31 @@ called_events view outcome (Err fault) events is = inl is.1
 -- a call that has its outcome's event answered
 pub calls_answered : {V A : Type 0} (naming : Naming) (view : V → A) (outcome : Book → Outcome A)
     (result : Result V LedgerFault)
-    → ((history : List Event) → IsMadeByCalls naming history
-    → IsMadeByCalls naming (listed (outcome (book_after history)).event ++ history))
+    → ((book : Book) → AreMadeOf naming book (listed (outcome book).event))
     → MakesAnswered naming (Calls view outcome result)
-calls_answered naming view outcome result answers history was events is called answered =
-    elim (called_events view (outcome (book_after history)) result events called.makes) [
-      | inl none ↦ subst (λ events. IsMadeByCalls naming (events ++ history)) (sym none) answered
-      | inr all ↦
-          subst (λ events. IsMadeByCalls naming (events ++ history)) (sym all)
-          (answers history answered)
+calls_answered naming view outcome result answers book was events is called =
+    elim (called_events view (outcome book) result events called.makes) [
+      | inl none ↦ subst (AreMadeOf naming book) (sym none) tt
+      | inr all ↦ subst (AreMadeOf naming book) (sym all) (answers book)
     ]
 
 -- the event of the answer to a record
-pub accept_event-answered : (naming : Naming) (bytes : List ℕ) (history : List Event)
-    (answer : Result Accepted LedgerFault)
-    → accept_answer naming (book_after history) bytes ≡ answer → IsMadeByCalls naming history
-    → IsMadeByCalls naming (listed (accept_event bytes answer) ++ history)
-accept_event-answered naming bytes history (Ok Kept) is answered = (is, answered)
-accept_event-answered naming bytes history (Ok Known) is answered = answered
-accept_event-answered naming bytes history (Ok Unpriced) is answered = answered
-accept_event-answered naming bytes history (Err fault) is answered = answered
+pub accept_event-answered : (naming : Naming) (bytes : List ℕ) (book : Book)
+    (answer : Result Accepted LedgerFault) → accept_answer naming book bytes ≡ answer
+    → AreMadeOf naming book (listed (accept_event bytes answer))
+accept_event-answered naming bytes book (Ok Kept) is = (is, tt)
+accept_event-answered naming bytes book (Ok Known) is = tt
+accept_event-answered naming bytes book (Ok Unpriced) is = tt
+accept_event-answered naming bytes book (Err fault) is = tt
 
 -- the event of a ruling is answered, where what was submitted is answered if it is done
-if_done-answered : (naming : Naming) (history : List Event) (submitted : Option Event)
+if_done-answered : (naming : Naming) (book : Book) (submitted : Option Event)
     (answer : Result Ruled LedgerFault)
-    → (answer ≡ Ok Done
-    → IfSome submitted (λ event. IsAnswered naming event (book_after history)))
-    → IsMadeByCalls naming history
-    → IsMadeByCalls naming (listed (if_done submitted answer) ++ history)
-if_done-answered naming history None (Ok Done) done answered = answered
-if_done-answered naming history (Some event) (Ok Done) done answered = (done refl, answered)
-if_done-answered naming history submitted answer done answered = answered
+    → (answer ≡ Ok Done → IfSome submitted (λ event. IsAnswered naming event book))
+    → AreMadeOf naming book (listed (if_done submitted answer))
+if_done-answered naming book None (Ok Done) done = tt
+if_done-answered naming book (Some event) (Ok Done) done = (done refl, tt)
+if_done-answered naming book submitted answer done = tt
 
 rulings_answered : {V : Type 0} (naming : Naming) (view : V → Ruled)
     (submitted : Book → Option Event) (answer : Book → Result Ruled LedgerFault)
@@ -119,9 +132,7 @@ rulings_answered : {V : Type 0} (naming : Naming) (view : V → Ruled)
     → MakesAnswered naming (Calls view (λ book. ruled_as (submitted book) (answer book)) result)
 rulings_answered naming view submitted answer result done =
     calls_answered naming view (λ book. ruled_as (submitted book) (answer book)) result
-    (λ history.
-    let book : Book = book_after history in
-    if_done-answered naming history (submitted book) (answer book) (done book))
+    (λ book. if_done-answered naming book (submitted book) (answer book) (done book))
 
 -- a tariff that a text says
 tariff_done : (naming : Naming) (text : List ℕ) (said : Result Terms TariffFault) (book : Book)

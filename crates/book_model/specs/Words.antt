@@ -100,7 +100,7 @@ pub use Rattle.book_model.specs.Bills.{period_by_trail, period_of_line, steps_of
 pub use Rattle.book_model.specs.Bills.{tariffs_from, tariffs_in, tariffs_through, work_rows}
 pub use Rattle.book_model.specs.History.{book_after, book_of, charged_in, closes, day_of_close}
 pub use Rattle.book_model.specs.History.{held_before, period_after, periods, rulings}
-pub use Rattle.book_model.specs.MadeByCalls.{IsAnswered, IsMadeByCalls}
+pub use Rattle.book_model.specs.MadeByCalls.{AreMadeOf, IsAnswered, IsMadeByCalls}
 pub use Rattle.book_model.specs.RecordBatches.{rulings_in, record_batches}
 pub use Rattle.book_model.specs.Sound.{AreAllDatedThrough, AreAmong, AreDatedThrough, AreHeld}
 pub use Rattle.book_model.specs.Sound.{IsChoiceOf, IsSound}

@@ -1,13 +1,13 @@
 -- How connections are served.
-use Rattle.std.proofs.Common.{◌≡◌, ◌∙◌, Bool, true, false, List, [], ◌∷◌, ◌++◌, ℕ, ◌+◌, refl, sym}
+use Rattle.std.proofs.Common.{◌≡◌, ◌∙◌, Bool, true, false, List, [], ◌∷◌, ℕ, ◌+◌, refl, sym}
 use Rattle.std.proofs.Common.{Option, Some, None, Result, Ok, Err, arith, inl, inr, subst}
 use Rattle.std.proofs.Common.{unwrap_or, IfErr}
 use Rattle.streams.specs.InputOutput.{WriterSeen}
-use Rattle.book_model.specs.Words.{Event, IsMadeByCalls, Naming, book_after}
+use Rattle.book_model.specs.Words.{AreMadeOf, Book, Event, Naming}
 use Rattle.book_core.specs.Words.{MakesAnswered, Transition, NoEvent}
 use Rattle.book_core.proofs.FollowLemmas.{none_answered, then_answered}
 use Rattle.book_http.specs.declared.served.Served.{Served}
-use Rattle.book_http.proofs.LawLemmas.{requests_make_history}
+use Rattle.book_http.proofs.LawLemmas.{request_answered}
 use Rattle.named_books.specs.Shelves.{IsUntouched, OpenedAnew}
 use Rattle.named_books.proofs.ShelfLemmas.{done_after, done_then, opened_refused, opened_untouched}
 use Rattle.without_books.specs.declared.ended.Ended.{Ended}
@@ -27,31 +27,28 @@ use Rattle.book_http.specs.declared.served.Served.TheVariants as served
 -- ---- connections make events that the books answered
 
 some_answered : (naming : Naming) (what : Served) → MakesAnswered naming (AnswersSome naming what)
-some_answered naming what history was events is it answered =
-    (requests_make_history naming history it.bytes it.due was events it.left answered it.made).answered
+some_answered naming what book was events is it =
+    request_answered naming it.bytes it.due book was events it.left it.made
 
-none_made : (naming : Naming) (history events : List Event) → events ≡ []
-    → IsMadeByCalls naming history → IsMadeByCalls naming (events ++ history)
-none_made naming history events none answered =
-    subst (λ (events : List Event). IsMadeByCalls naming (events ++ history)) (sym none) answered
+none_made : (naming : Naming) (book : Book) (events : List Event) → events ≡ []
+    → AreMadeOf naming book events
+none_made naming book events none = subst (AreMadeOf naming book) (sym none) tt
 
-came_answered : (naming : Naming) (came : Result Served RepositoryFault) (history : List Event)
+came_answered : (naming : Naming) (came : Result Served RepositoryFault) (book : Book)
     (was is : Bool) (events : List Event)
-    → OpenedSo (λ why. Unit {0}) (λ so made. AnswersSome naming so was (book_after history) made is)
-    came events
-    → IsMadeByCalls naming history → IsMadeByCalls naming (events ++ history)
-came_answered naming (Ok so) history was is events it answered =
-    some_answered naming so history was events is it answered
-came_answered naming (Err Unseen) history was is events (refused, inl seen) answered =
-    some_answered naming seen.0 history was events is seen.1 answered
-came_answered naming (Err Unseen) history was is events (refused, inr none) answered =
-    none_made naming history events none answered
-came_answered naming (Err why) history was is events (refused, none) answered =
-    none_made naming history events none answered
+    → OpenedSo (λ why. Unit {0}) (λ so made. AnswersSome naming so was book made is) came events
+    → AreMadeOf naming book events
+came_answered naming (Ok so) book was is events it = some_answered naming so book was events is it
+came_answered naming (Err Unseen) book was is events (refused, inl seen) =
+    some_answered naming seen.0 book was events is seen.1
+came_answered naming (Err Unseen) book was is events (refused, inr none) =
+    none_made naming book events none
+came_answered naming (Err why) book was is events (refused, none) =
+    none_made naming book events none
 
 replied : (naming : Naming) (what : Served) → MakesAnswered naming (AnswersOrNot naming what)
-replied naming what history was events is it answered =
-    came_answered naming it.came history was is events it.made answered
+replied naming what book was events is it =
+    came_answered naming it.came book was is events it.made
 
 one_answered : (naming : Naming) (what : Served) → MakesAnswered naming (ServesAny naming what)
 one_answered naming served.Closed = none_answered naming
@@ -60,8 +57,7 @@ one_answered naming what = replied naming what
 
 opened_answered : (naming : Naming) (Made : Transition) → MakesAnswered naming Made
     → MakesAnswered naming (OpenedAnew Made)
-opened_answered naming Made makes history was events is it answered =
-    makes history false events it.left it.made answered
+opened_answered naming Made makes book was events is it = makes book false events it.left it.made
 
 pub each_answered : (naming : Naming) (told : List Served)
     → MakesAnswered naming (ServesEach naming told)

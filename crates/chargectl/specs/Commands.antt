@@ -99,8 +99,8 @@ pub record AsksOnce (naming : Naming) (asked : Asked) (had : Option (List ℕ))
 -- one request makes events that the books answered
 pub once_answered : (naming : Naming) (asked : Asked) (had : Option (List ℕ))
     (told : Result Response LedgerFault) → MakesAnswered naming (AsksOnce naming asked had told)
-once_answered naming asked had told history was events is once =
-    asks_answered naming asked once.dump told history was events is once.made
+once_answered naming asked had told book was events is once =
+    asks_answered naming asked once.dump told book was events is once.made
 
 -- what a visit to the books did that asked this once, by its answer
 abbrev pub AsksOnceBy : Naming → Asked → Option (List ℕ) → Result Answer LedgerFault → Transition
@@ -122,8 +122,8 @@ AsksDatedBy naming asked dated =
 -- it makes events that the books answered
 pub dated_answered : (naming : Naming) (asked : Asked) (dated : DatedAnswer)
     → MakesAnswered naming (AsksDatedBy naming asked dated)
-dated_answered naming asked dated history was events is made =
-    once_answered naming asked (Some []) (response_by dated.answer) history was events is made.once
+dated_answered naming asked dated book was events is made =
+    once_answered naming asked (Some []) (response_by dated.answer) book was events is made.once
 
 -- the answer to a ruling of a day
 abbrev pub answer_told : Result DatedAnswer RepositoryFault

@@ -1,13 +1,13 @@
 -- Dry runs: a ruling is tried on a copy of the books. What is answered by the books as they are, what
 -- is done to the copy, and what is told of it.
-use Rattle.std.specs.Prelude.{◌≡◌, ◌⊎◌, Bool, false, ℕ, List, [], ◌++◌, Option, None}
+use Rattle.std.specs.Prelude.{◌≡◌, ◌⊎◌, Bool, false, ℕ, List, [], Option, None}
 use Rattle.std.specs.Prelude.{Result, Ok, Err, IfOk, Vec, string_bytes}
 use Rattle.std.specs.Global.{Global}
 use Rattle.std.proofs.Common.{inl, inr, sym, subst}
 use Rattle.tariff_rules.specs.declared.fault.TariffFault.{TariffFault}
 use Rattle.book_model.specs.declared.fault.LedgerFault.{LedgerFault}
 use Rattle.book_model.specs.declared.fault.LedgerFault.TheVariants.{Memory, TariffRefused}
-use Rattle.book_model.specs.Words.{Book, Event, IsMadeByCalls, Naming, Terms, adopt_outcome, book_after}
+use Rattle.book_model.specs.Words.{AreMadeOf, Book, Event, Naming, Terms, adopt_outcome}
 use Rattle.book_model.specs.Words.{choose_outcome, close_outcome, tariff_outcome, terms_in}
 use Rattle.book_core.specs.Follow.{MakesAnswered}
 use Rattle.book_core.specs.Transition.{Transition}
@@ -138,15 +138,14 @@ TriesOnceBy naming asked dated =
 -- it makes events that the books answered
 pub tried_answered : (naming : Naming) (asked : Asked) (dated : DatedAnswer)
     → MakesAnswered naming (TriesOnceBy naming asked dated)
-tried_answered naming asked dated history was events is once = made_answered once.made
+tried_answered naming asked dated book was events is once = made_answered once.made
   where
-    made_answered : (events ≡ []) ⊎ IsRuled naming asked was (book_after history) events
-        → IsMadeByCalls naming history → IsMadeByCalls naming (events ++ history)
-    made_answered (inl none) answered =
-        subst (λ events. IsMadeByCalls naming (events ++ history)) (sym none) answered
-    made_answered (inr ruled) answered =
-        asks_answered naming asked (dump_here asked) (response_by ruled.answer) history was events
-        ruled.left ruled.made answered
+    made_answered : (events ≡ []) ⊎ IsRuled naming asked was book events
+        → AreMadeOf naming book events
+    made_answered (inl none) = subst (AreMadeOf naming book) (sym none) tt
+    made_answered (inr ruled) =
+        asks_answered naming asked (dump_here asked) (response_by ruled.answer) book was events
+        ruled.left ruled.made
 
 -- The books of a name were visited as a copy, and this was tried on it once: they are as they were.
 pub record IsTriedOnce (asked : Asked) (book : List ℕ) (old new : Shelf) (answered : Answered) : Type 0

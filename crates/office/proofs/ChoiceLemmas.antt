@@ -105,9 +105,9 @@ choice_refused old now new names answers i d refusal small before made =
 pub choices_answered : (naming : Naming) (names : List (List ℕ)) (answers : List Ruled)
     (refusal : Option LedgerFault) → MakesAnswered naming (ChoosesEach naming names answers refusal)
 choices_answered naming [] [] None = none_answered naming
-choices_answered naming [] [] (Some refusal) = λ history was events is never. absurd never
-choices_answered naming [] (ruled ∷ answers) refusal = λ history was events is never. absurd never
-choices_answered naming (name ∷ names) [] None = λ history was events is never. absurd never
+choices_answered naming [] [] (Some refusal) = λ book was events is never. absurd never
+choices_answered naming [] (ruled ∷ answers) refusal = λ book was events is never. absurd never
+choices_answered naming (name ∷ names) [] None = λ book was events is never. absurd never
 choices_answered naming (name ∷ names) [] (Some refusal) =
     choose_answered naming (λ ruled. ruled) name (Err refusal)
 choices_answered naming (name ∷ names) (ruled ∷ answers) refusal =

@@ -2,6 +2,7 @@
 use Rattle.std.proofs.Common.{◌≡◌, ◌∙◌, Bool, true, false, ℕ, List, [], ◌∷◌, ◌++◌, Result, Ok, Err}
 use Rattle.std.proofs.Common.{inr, refl, sym, ap, subst, true≢false}
 use Rattle.std.specs.Prelude.{string_bytes}
+use Rattle.book_model.specs.MadeByCalls.{AreMadeOf}
 use Rattle.book_model.specs.declared.fault.LedgerFault.{LedgerFault}
 use Rattle.book_model.specs.declared.fault.LedgerFault.TheVariants.{Memory, Store, Reopen}
 use Rattle.book_model.specs.Words.{front, IsMadeByCalls, Book, new_book, Event, after_all, book_after}
@@ -16,6 +17,7 @@ use Rattle.book_core.specs.Follow.{MakesAnswered}
 use Rattle.book_core.proofs.FollowLemmas.{adopt_answered, choose_answered, close_answered}
 use Rattle.book_core.proofs.TransitionLemmas.{after_all-append}
 use Rattle.book_import.specs.Dumps.{stop_after}
+use Rattle.book_core.proofs.FollowLemmas.{history_goes_on}
 use Rattle.book_import.proofs.RepeatLemmas.{is_whole}
 use Rattle.book_import.proofs.EventLemmas.{import_answered}
 use Rattle.book_reports.specs.declared.report.Report as report
@@ -36,11 +38,10 @@ use Rattle.office.proofs.LeavingLemmas.{work_leaves, open_earlier}
 -- the event of an outcome is answered, if calls with it make only answered events
 event_answered : {A : Type 0} (naming : Naming) (outcome : Book → Outcome A)
     → MakesAnswered naming (Calls {V = A} (λ value. value) outcome (Err Store))
-    → (history : List Event) → IsMadeByCalls naming history
-    → IsMadeByCalls naming (listed (outcome (book_after history)).event ++ history)
-event_answered naming outcome makes history answered =
-    makes history false (listed (outcome (book_after history)).event) true
-    (record { makes = inr refl; reopens = record { reopen = refl; store = refl } }) answered
+    → (book : Book) → AreMadeOf naming book (listed (outcome book).event)
+event_answered naming outcome makes book =
+    makes book false (listed (outcome book).event) true
+    (record { makes = inr refl; reopens = record { reopen = refl; store = refl } })
 
 told_answered : {A : Type 0} (naming : Naming) (say : A → Response) (outcome : Book → Outcome A)
     (told : Result Response LedgerFault)
@@ -55,7 +56,7 @@ report_answered : (naming : Naming) (report : report.Report) (told : Result Resp
     → MakesAnswered naming (Calls (λ told. told) (response_outcome Text (report_outcome naming report)) told)
 report_answered naming report told =
     calls_answered naming (λ told. told) (response_outcome Text (report_outcome naming report)) told
-    (λ history answered. answered)
+    (λ book. tt)
 
 -- nor is what a period would have cost by another tariff
 what_if_answered : (naming : Naming) (asked : what_if.WhatIf) (tariff : List ℕ)
@@ -64,16 +65,16 @@ what_if_answered : (naming : Naming) (asked : what_if.WhatIf) (tariff : List ℕ
     (Calls (λ told. told) (response_outcome Text (what_if_report asked tariff)) told)
 what_if_answered naming asked tariff told =
     calls_answered naming (λ told. told) (response_outcome Text (what_if_report asked tariff)) told
-    (λ history answered. answered)
+    (λ book. tt)
 
 pub receives_answered : (naming : Naming) (dump : Dump) (told : Result Response LedgerFault)
     → MakesAnswered naming (Receives naming dump told)
 receives_answered naming dump (Ok (Count receipt)) =
     let found = front dump.layout dump.bytes in
     import_answered naming (stop_after dump.cut found) found.records receipt
-receives_answered naming dump (Ok (Ruling ruled)) = λ history was events is never. absurd never
-receives_answered naming dump (Ok (Text text)) = λ history was events is never. absurd never
-receives_answered naming dump (Err fault) = λ history was events is never. absurd never
+receives_answered naming dump (Ok (Ruling ruled)) = λ book was events is never. absurd never
+receives_answered naming dump (Ok (Text text)) = λ book was events is never. absurd never
+receives_answered naming dump (Err fault) = λ book was events is never. absurd never
 
 -- a request makes only events that the books answered
 pub asks_answered : (naming : Naming) (asked : Asked) (dump : Dump) (told : Result Response LedgerFault)
@@ -210,8 +211,9 @@ told_after : {L : Type 0} (naming : Naming) (start : List Event) (exchanges : Li
 told_after naming start [] end answered is = (start, refl, is)
 told_after naming start (exchange ∷ later) end answered told =
     let made : List Event = told.0 in
-    let more = asks_answered naming exchange.asked told.1.dump (response_by exchange.answer) start
-    false made false told.1.work answered in
+    let more = history_goes_on naming made start
+    (asks_answered naming exchange.asked told.1.dump (response_by exchange.answer)
+    (book_after start) false made false told.1.work) answered in
     let rest = told_after naming (made ++ start) later end more
     (subst (λ book. AreAnsweredOf naming book later end)
     (sym (after_all-append made start new_book)) told.2) in (
