@@ -8,11 +8,11 @@ use Rattle.book_model.specs.Words.{book_after, Outcome, accept_outcome, charges_
 use Rattle.book_model.specs.Words.{adjustments_outcome, disputes_outcome, periods_outcome, Naming}
 use Rattle.book_model.specs.Words.{dispute_outcome, next_detail_outcome, ruling_outcome}
 use Rattle.book_model.specs.Words.{ruling_shown, trail_outcome, trail_shown, what_if_outcome}
+use Rattle.book_model.specs.Words.{AdoptionAsked, ChoiceAsked, CloseAsked, TariffAsked}
 use Rattle.book_core.specs.Words.{Calls, listed, Seen, IsOpenAt, Accepts, Takes, first_of}
 use Rattle.book_core.specs.Words.{IsTransition, MakesAnswered}
 use Rattle.book_core.proofs.FollowLemmas.{then_answered, calls_answered, none_answered}
-use Rattle.book_core.proofs.FollowLemmas.{accept_event-answered, adopt_answered, choose_answered}
-use Rattle.book_core.proofs.FollowLemmas.{close_answered, tariff_answered}
+use Rattle.book_core.proofs.FollowLemmas.{accept_event-answered, ruling_answered}
 use Rattle.book_core.proofs.TransitionLemmas.{no_work, work_then}
 use Rattle.book_reports.proofs.ReadingLemmas.{IsReading}
 use Rattle.office.specs.Laws.{IsStillOpen}
@@ -82,12 +82,13 @@ call_answered naming (HttpDetails bytes held holds served) = λ history was even
     made.answer.0 in
     goes_on.answered
 call_answered naming (SubmitTariff text answer) =
-    tariff_answered naming (λ ruled. ruled) text answer
+    ruling_answered naming (λ ruled. ruled) (TariffAsked text) answer
 call_answered naming (ClosePeriod period through answer) =
-    close_answered naming (λ ruled. ruled) period through answer
+    ruling_answered naming (λ ruled. ruled) (CloseAsked period through) answer
 call_answered naming (ChooseRecord name answer) =
-    choose_answered naming (λ ruled. ruled) name answer
-call_answered naming (AdoptRule rule answer) = adopt_answered naming (λ ruled. ruled) rule answer
+    ruling_answered naming (λ ruled. ruled) (ChoiceAsked name) answer
+call_answered naming (AdoptRule rule answer) =
+    ruling_answered naming (λ ruled. ruled) (AdoptionAsked rule) answer
 call_answered naming (AcceptRecord bytes answer) = record_answered naming bytes answer
 call_answered naming (AcceptRecords records answers) = takes_answered naming records answers
 call_answered naming (ReadCharges period answer) =

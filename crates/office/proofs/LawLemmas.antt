@@ -6,14 +6,14 @@ use Rattle.book_model.specs.declared.fault.LedgerFault.{LedgerFault}
 use Rattle.book_model.specs.declared.fault.LedgerFault.TheVariants.{Memory, Store, Reopen}
 use Rattle.book_model.specs.Words.{front, IsMadeByCalls, Book, new_book, Event, after_all, book_after}
 use Rattle.book_model.specs.Words.{book_of, Outcome, tariff_outcome, close_outcome}
-use Rattle.book_model.specs.Words.{choose_outcome, adopt_outcome, Naming}
+use Rattle.book_model.specs.Words.{choose_outcome, adopt_outcome, Naming, TariffAsked, CloseAsked}
+use Rattle.book_model.specs.Words.{ChoiceAsked, AdoptionAsked}
 use Rattle.book_model.proofs.OrderLemmas.{order_is_free}
 use Rattle.book_model.proofs.StepLemmas.{books_follow_history}
 use Rattle.book_core.specs.Calls.{Calls, listed}
 use Rattle.book_core.specs.Ledgers.{Seen, IsOpenAt}
-use Rattle.book_core.proofs.FollowLemmas.{calls_answered, tariff_answered}
+use Rattle.book_core.proofs.FollowLemmas.{calls_answered, ruling_answered}
 use Rattle.book_core.specs.Follow.{MakesAnswered}
-use Rattle.book_core.proofs.FollowLemmas.{adopt_answered, choose_answered, close_answered}
 use Rattle.book_core.proofs.TransitionLemmas.{after_all-append}
 use Rattle.book_import.specs.Dumps.{stop_after}
 use Rattle.book_import.proofs.RepeatLemmas.{is_whole}
@@ -80,16 +80,16 @@ pub asks_answered : (naming : Naming) (asked : Asked) (dump : Dump) (told : Resu
     → MakesAnswered naming (Asks naming asked dump told)
 asks_answered naming (Tariff text) dump told =
     told_answered naming Ruling (tariff_outcome (string_bytes text)) told
-    (tariff_answered naming (λ value. value) (string_bytes text) (Err Store))
+    (ruling_answered naming (λ value. value) (TariffAsked (string_bytes text)) (Err Store))
 asks_answered naming (Close period through) dump told =
     told_answered naming Ruling (close_outcome period through) told
-    (close_answered naming (λ value. value) period through (Err Store))
+    (ruling_answered naming (λ value. value) (CloseAsked period through) (Err Store))
 asks_answered naming (Choose name) dump told =
     told_answered naming Ruling (choose_outcome naming name) told
-    (choose_answered naming (λ value. value) name (Err Store))
+    (ruling_answered naming (λ value. value) (ChoiceAsked name) (Err Store))
 asks_answered naming (Adopt rule) dump told =
     told_answered naming Ruling (adopt_outcome rule) told
-    (adopt_answered naming (λ value. value) rule (Err Store))
+    (ruling_answered naming (λ value. value) (AdoptionAsked rule) (Err Store))
 asks_answered naming (Import layout) dump told = receives_answered naming dump told
 asks_answered naming (ImportBytes layout bytes) dump told = receives_answered naming dump told
 asks_answered naming (Report report) dump told = report_answered naming report told
