@@ -8,7 +8,6 @@ use Rattle.book_model.specs.Words.{book_after, Outcome, accept_outcome, charges_
 use Rattle.book_model.specs.Words.{adjustments_outcome, disputes_outcome, periods_outcome, Naming}
 use Rattle.book_model.specs.Words.{dispute_outcome, next_detail_outcome, ruling_outcome}
 use Rattle.book_model.specs.Words.{ruling_shown, trail_outcome, trail_shown, what_if_outcome}
-use Rattle.book_model.specs.Words.{AdoptionAsked, ChoiceAsked, CloseAsked, TariffAsked}
 use Rattle.book_core.specs.Words.{Calls, listed, Seen, IsOpenAt, Accepts, Takes, first_of}
 use Rattle.book_core.specs.Words.{IsTransition, MakesAnswered}
 use Rattle.book_core.proofs.FollowLemmas.{then_answered, calls_answered, none_answered}
@@ -23,8 +22,8 @@ use Rattle.office.proofs.RunLemmas.{runs_answered}
 use Rattle.book_http.proofs.LawLemmas.{requests_make_history}
 use Rattle.book_laws.specs.CallLaws.{CallsFollowHistory}
 use Rattle.book_laws.specs.Calls.{Call, Request, RunRequests, AcceptRecord, ReadCharges}
-use Rattle.book_laws.specs.Calls.{AcceptRecords, AdoptRule, ChooseEach, ChooseRecord, ClosePeriod}
-use Rattle.book_laws.specs.Calls.{HttpDetails, SubmitTariff, HttpRequest, ReadAdjustments}
+use Rattle.book_laws.specs.Calls.{AcceptRecords, ChooseEach, MakeRuling, HttpDetails, HttpRequest}
+use Rattle.book_laws.specs.Calls.{ReadAdjustments}
 use Rattle.book_laws.specs.Calls.{ReadDisputes, ReadPeriods, ReadChargesUnder, ReadDetail}
 use Rattle.book_laws.specs.Calls.{ReadDispute, ReadRuling, ReadTrail, Step, AreDone, calls_of}
 use Rattle.book_laws.specs.Calls.{ledger_after_calls, work_of, works_of}
@@ -81,14 +80,8 @@ call_answered naming (HttpDetails bytes held holds served) = λ history was even
     let goes_on = requests_make_history naming history bytes made.reply was events was answered
     made.answer.0 in
     goes_on.answered
-call_answered naming (SubmitTariff text answer) =
-    ruling_answered naming (λ ruled. ruled) (TariffAsked text) answer
-call_answered naming (ClosePeriod period through answer) =
-    ruling_answered naming (λ ruled. ruled) (CloseAsked period through) answer
-call_answered naming (ChooseRecord name answer) =
-    ruling_answered naming (λ ruled. ruled) (ChoiceAsked name) answer
-call_answered naming (AdoptRule rule answer) =
-    ruling_answered naming (λ ruled. ruled) (AdoptionAsked rule) answer
+call_answered naming (MakeRuling ruling answer) =
+    ruling_answered naming (λ ruled. ruled) ruling answer
 call_answered naming (AcceptRecord bytes answer) = record_answered naming bytes answer
 call_answered naming (AcceptRecords records answers) = takes_answered naming records answers
 call_answered naming (ReadCharges period answer) =
