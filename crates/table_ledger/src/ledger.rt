@@ -6,7 +6,7 @@ ghost use Rattle.table_ledger.specs.Stages.{most_in_commit};
 mod creating;
 mod opening;
 
-use crate::accept::{try_accept, try_accept_many};
+use crate::accept::{alone, first_answer, try_accept_many};
 use crate::adjustments::try_adjustments;
 use crate::charges::try_charges;
 use crate::details::try_next_detail;
@@ -56,6 +56,7 @@ fn first_records(records: &[Vec<u8>]) -> &[Vec<u8>]
 impl<S: Store, N: Naming + Drop> Ledger for TableLedger<S, N> {
     ghost use Rattle.std.specs.Prelude.{All, IfOk};
     ghost use Rattle.book_model.specs.Words.{IsUsageRecord};
+    ghost use Rattle.book_core.specs.Calls.{Reopens};
     ghost use Rattle.book_core.specs.Submissions.{Takes, records_in};
     ghost use Rattle.book_core.specs.Transition.{IsTransition};
     ghost use Rattle.table_ledger.specs.LedgerState.{seen_in};
@@ -75,14 +76,9 @@ impl<S: Store, N: Naming + Drop> Ledger for TableLedger<S, N> {
         if self.must_reopen {
             return Err(LedgerFault::Reopen);
         }
-        let tried = try_accept(
-            &mut self.tables,
-            self.alloc,
-            &self.naming,
-            &mut self.summary,
-            bytes,
-        );
-        finish(&mut self.tables, &mut self.must_reopen, tried)
+        let records = alone(self.alloc, bytes)?;
+        let answers = self.accept_many(&records)?;
+        Ok(first_answer(answers))
     }
 
     fn accept_many(&mut self, records: &[Vec<u8>]) -> Result<Vec<Accepted>, LedgerFault>
@@ -91,6 +87,8 @@ impl<S: Store, N: Naming + Drop> Ledger for TableLedger<S, N> {
         ensures takes { IsTransition (seen_in N.name_of self.old) (seen_in N.name_of self.new)
             (Takes (N.name_of self.old.naming) (records_in records.now) result) }
         ensures some { IfOk result (λ answers. 0 < length answers.items) }
+        ensures reopens { Reopens result (seen_in N.name_of self.old).must_reopen
+            (seen_in N.name_of self.new).must_reopen }
 
         // It is one commit, which takes no more records than this, also where a stop comes within.
         ensures few { IsTransition (seen_in N.name_of self.old) (seen_in N.name_of self.new)
