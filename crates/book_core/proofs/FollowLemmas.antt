@@ -1,6 +1,6 @@
 -- Work on books that are those of a history continues it.
 use Rattle.std.proofs.Common.{◌≡◌, ◌∙◌, ℕ, Bool, true, false, List, [], ◌++◌, refl, sym, ap, subst}
-use Rattle.std.proofs.Common.{Result, Ok, Err, ◌⊎◌, inl, inr, append_assoc, eqb-true, ℤ, ◌==◌}
+use Rattle.std.proofs.Common.{Result, Ok, Err, ◌⊎◌, inl, inr, append_assoc, eqb-true, ◌==◌}
 use Rattle.std.proofs.Common.{if◌then◌else◌, IfSome, Option, Some, None}
 use Rattle.book_model.specs.declared.answer.Accepted.{Accepted}
 use Rattle.book_model.specs.declared.answer.Accepted.TheVariants.{Kept, Known, Unpriced}
@@ -12,10 +12,10 @@ use Rattle.book_model.specs.declared.fault.LedgerFault.TheVariants.{Memory, Stor
 use Rattle.book_model.specs.Words.{Terms, terms_in, Naming, Book, new_book, Event, PeriodClosed}
 use Rattle.book_model.specs.Words.{RulingGiven, SecondRuleAdopted, after_all, accept_answer}
 use Rattle.book_model.specs.Words.{tariff_answer, close_answer, Outcome, accept_event, if_done}
-use Rattle.book_model.specs.Words.{ruled_as, tariff_outcome, close_outcome, book_after, book_of}
-use Rattle.book_model.specs.Words.{IsAnswered, IsMadeByCalls, choose_answer, choose_outcome}
-use Rattle.book_model.specs.Words.{record_named, adopt_answer, adopt_outcome, rule_by, second_rule}
-use Rattle.book_model.specs.Words.{TariffFault}
+use Rattle.book_model.specs.Words.{ruled_as, rule_outcome, book_after, book_of, IsAnswered}
+use Rattle.book_model.specs.Words.{IsMadeByCalls, choose_answer, record_named, adopt_answer}
+use Rattle.book_model.specs.Words.{rule_by, second_rule, TariffFault, RulingAsked, TariffAsked}
+use Rattle.book_model.specs.Words.{CloseAsked, ChoiceAsked, AdoptionAsked}
 use Rattle.book_model.proofs.Lemmas.{books_follow_history, closed_open}
 use Rattle.book_core.specs.Words.{Seen, Transition, NoEvent, Then, IsTransition, Makes, Calls}
 use Rattle.book_core.specs.Words.{listed, MakesAnswered}
@@ -141,25 +141,6 @@ tariff_done : (naming : Naming) (text : List ℕ) (said : Result Terms TariffFau
 tariff_done naming text (Ok terms) book done = done
 tariff_done naming text (Err fault) book done = tt
 
--- a tariff that is submitted
-pub tariff_answered : {V : Type 0} (naming : Naming) (view : V → Ruled) (text : List ℕ)
-    (result : Result V LedgerFault)
-    → MakesAnswered naming (Calls view (tariff_outcome text) result)
-tariff_answered naming view text result =
-    rulings_answered naming view (λ book. said_by text (terms_in text))
-    (λ book. tariff_answer book text (terms_in text)) result
-    (tariff_done naming text (terms_in text))
-
--- a close
-pub close_answered : {V : Type 0} (naming : Naming) (view : V → Ruled) (number : ℕ) (day : ℤ)
-    (result : Result V LedgerFault)
-    → MakesAnswered naming (Calls view (close_outcome number day) result)
-close_answered naming view number day result =
-    rulings_answered naming view (λ book. Some (PeriodClosed day))
-    (λ book. close_answer book.rulings number day) result (λ book done.
-    subst (λ number. close_answer book.rulings number day ≡ Ok Done)
-    (closed_open book number day done) done)
-
 -- the choice of a record that is meant
 choice_done : (naming : Naming) (name : List ℕ) (book : Book) (meant : Option (List ℕ))
     → record_named naming book.held name ≡ meant → choose_answer naming book name ≡ Ok Done
@@ -170,15 +151,6 @@ choice_done naming name book (Some bytes) found done =
       subst (λ name. choose_answer naming book name ≡ Ok Done) named done,
       subst (λ name. record_named naming book.held name ≡ Some bytes) named found,
     )
-
--- a choice
-pub choose_answered : {V : Type 0} (naming : Naming) (view : V → Ruled) (name : List ℕ)
-    (result : Result V LedgerFault)
-    → MakesAnswered naming (Calls view (choose_outcome naming name) result)
-choose_answered naming view name result =
-    rulings_answered naming view (λ book. meant_by (record_named naming book.held name))
-    (λ book. choose_answer naming book name) result
-    (λ book. choice_done naming name book (record_named naming book.held name) refl)
 
 -- a rule that is adopted is the second one
 second_done : (rule : ℕ) (book : Book) → adopt_answer book.rulings rule ≡ Ok Done
@@ -194,10 +166,23 @@ second_done rule book done =
     by_tests false true is done = eqb-true rule second_rule is
     by_tests false false is done = cc
 
--- an adoption
-pub adopt_answered : {V : Type 0} (naming : Naming) (view : V → Ruled) (rule : ℕ)
+-- a ruling makes only an event that the books answered
+pub ruling_answered : {V : Type 0} (naming : Naming) (view : V → Ruled) (ruling : RulingAsked)
     (result : Result V LedgerFault)
-    → MakesAnswered naming (Calls view (adopt_outcome rule) result)
-adopt_answered naming view rule result =
+    → MakesAnswered naming (Calls view (rule_outcome naming ruling) result)
+ruling_answered naming view (TariffAsked text) result =
+    rulings_answered naming view (λ book. said_by text (terms_in text))
+    (λ book. tariff_answer book text (terms_in text)) result
+    (tariff_done naming text (terms_in text))
+ruling_answered naming view (CloseAsked number day) result =
+    rulings_answered naming view (λ book. Some (PeriodClosed day))
+    (λ book. close_answer book.rulings number day) result (λ book done.
+    subst (λ number. close_answer book.rulings number day ≡ Ok Done)
+    (closed_open book number day done) done)
+ruling_answered naming view (ChoiceAsked name) result =
+    rulings_answered naming view (λ book. meant_by (record_named naming book.held name))
+    (λ book. choose_answer naming book name) result
+    (λ book. choice_done naming name book (record_named naming book.held name) refl)
+ruling_answered naming view (AdoptionAsked rule) result =
     rulings_answered naming view (λ book. Some (RulingGiven SecondRuleAdopted))
     (λ book. adopt_answer book.rulings rule) result (second_done rule)

@@ -12,8 +12,7 @@ use Rattle.book_model.specs.Words.{ruling_shown, trail_outcome, trail_shown, wha
 use Rattle.book_core.specs.Words.{Calls, listed, Seen, IsOpenAt, Accepts, Takes, first_of}
 use Rattle.book_core.specs.Words.{IsTransition, MakesAnswered}
 use Rattle.book_core.proofs.FollowLemmas.{then_answered, calls_answered, none_answered}
-use Rattle.book_core.proofs.FollowLemmas.{accept_event-answered, adopt_answered, choose_answered}
-use Rattle.book_core.proofs.FollowLemmas.{close_answered, tariff_answered}
+use Rattle.book_core.proofs.FollowLemmas.{accept_event-answered, ruling_answered}
 use Rattle.book_core.proofs.TransitionLemmas.{no_work, work_then}
 use Rattle.book_reports.proofs.ReadingLemmas.{IsReading}
 use Rattle.office.specs.Laws.{IsStillOpen}
@@ -25,8 +24,8 @@ use Rattle.book_core.proofs.FollowLemmas.{history_goes_on}
 use Rattle.book_http.proofs.LawLemmas.{request_answered}
 use Rattle.book_laws.specs.CallLaws.{CallsFollowHistory}
 use Rattle.book_laws.specs.Calls.{Call, Request, RunRequests, AcceptRecord, ReadCharges}
-use Rattle.book_laws.specs.Calls.{AcceptRecords, AdoptRule, ChooseEach, ChooseRecord, ClosePeriod}
-use Rattle.book_laws.specs.Calls.{HttpDetails, SubmitTariff, HttpRequest, ReadAdjustments}
+use Rattle.book_laws.specs.Calls.{AcceptRecords, ChooseEach, MakeRuling, HttpDetails, HttpRequest}
+use Rattle.book_laws.specs.Calls.{ReadAdjustments}
 use Rattle.book_laws.specs.Calls.{ReadDisputes, ReadPeriods, ReadChargesUnder, ReadDetail}
 use Rattle.book_laws.specs.Calls.{ReadDispute, ReadRuling, ReadTrail, Step, AreDone, calls_of}
 use Rattle.book_laws.specs.Calls.{ledger_after_calls, work_of, works_of}
@@ -77,13 +76,8 @@ call_answered naming (ChooseEach names answers refusal) =
 call_answered naming (HttpRequest bytes reply) = request_answered naming bytes reply
 call_answered naming (HttpDetails bytes held holds served) = λ book was events is made.
     request_answered naming bytes made.reply book was events was made.answer.0
-call_answered naming (SubmitTariff text answer) =
-    tariff_answered naming (λ ruled. ruled) text answer
-call_answered naming (ClosePeriod period through answer) =
-    close_answered naming (λ ruled. ruled) period through answer
-call_answered naming (ChooseRecord name answer) =
-    choose_answered naming (λ ruled. ruled) name answer
-call_answered naming (AdoptRule rule answer) = adopt_answered naming (λ ruled. ruled) rule answer
+call_answered naming (MakeRuling ruling answer) =
+    ruling_answered naming (λ ruled. ruled) ruling answer
 call_answered naming (AcceptRecord bytes answer) = record_answered naming bytes answer
 call_answered naming (AcceptRecords records answers) = takes_answered naming records answers
 call_answered naming (ReadCharges period answer) =

@@ -6,15 +6,13 @@ use Rattle.book_model.specs.MadeByCalls.{AreMadeOf}
 use Rattle.book_model.specs.declared.fault.LedgerFault.{LedgerFault}
 use Rattle.book_model.specs.declared.fault.LedgerFault.TheVariants.{Memory, Store, Reopen}
 use Rattle.book_model.specs.Words.{front, IsMadeByCalls, Book, new_book, Event, after_all, book_after}
-use Rattle.book_model.specs.Words.{book_of, Outcome, tariff_outcome, close_outcome}
-use Rattle.book_model.specs.Words.{choose_outcome, adopt_outcome, Naming}
+use Rattle.book_model.specs.Words.{book_of, Outcome, rule_outcome, Naming}
 use Rattle.book_model.proofs.OrderLemmas.{order_is_free}
 use Rattle.book_model.proofs.StepLemmas.{books_follow_history}
 use Rattle.book_core.specs.Calls.{Calls, listed}
 use Rattle.book_core.specs.Ledgers.{Seen, IsOpenAt}
-use Rattle.book_core.proofs.FollowLemmas.{calls_answered, tariff_answered}
+use Rattle.book_core.proofs.FollowLemmas.{calls_answered, ruling_answered}
 use Rattle.book_core.specs.Follow.{MakesAnswered}
-use Rattle.book_core.proofs.FollowLemmas.{adopt_answered, choose_answered, close_answered}
 use Rattle.book_core.proofs.TransitionLemmas.{after_all-append}
 use Rattle.book_import.specs.Dumps.{stop_after}
 use Rattle.book_core.proofs.FollowLemmas.{history_goes_on}
@@ -25,10 +23,10 @@ use Rattle.book_reports.specs.declared.what_if.WhatIf as what_if
 use Rattle.book_reports.specs.BookTexts.{report_outcome}
 use Rattle.book_reports.specs.WhatIfTexts.{what_if_report}
 use Rattle.office.specs.declared.request.Asked.{Asked}
-use Rattle.office.specs.declared.request.Asked.TheVariants.{Tariff, Close, Choose, Adopt, Import}
-use Rattle.office.specs.declared.request.Asked.TheVariants.{ImportBytes, Report, WhatIf}
+use Rattle.office.specs.declared.request.Asked.TheVariants.{Import, ImportBytes, Report, Rule}
+use Rattle.office.specs.declared.request.Asked.TheVariants.{WhatIf}
 use Rattle.office.specs.Requests.{Dump, Response, Ruling, Count, Text, response_by, response_outcome}
-use Rattle.office.specs.Requests.{Receives, Asks}
+use Rattle.office.specs.Requests.{Receives, Asks, ruling_of}
 use Rattle.office.specs.Outcomes.{AskedOutcome, events_by, asked_outcome_by, import_asked_outcome, asked_outcome, is_hindering, is_hindered}
 use Rattle.office.specs.Laws.{AnswersAreFree, AnswersFollowBook, AnswersFollowHistory, AreAnswered}
 use Rattle.office.specs.Laws.{AreAnsweredAfter, AreAnsweredOf, DiffersAsAllowed, Exchange}
@@ -79,18 +77,9 @@ receives_answered naming dump (Err fault) = λ book was events is never. absurd 
 -- a request makes only events that the books answered
 pub asks_answered : (naming : Naming) (asked : Asked) (dump : Dump) (told : Result Response LedgerFault)
     → MakesAnswered naming (Asks naming asked dump told)
-asks_answered naming (Tariff text) dump told =
-    told_answered naming Ruling (tariff_outcome (string_bytes text)) told
-    (tariff_answered naming (λ value. value) (string_bytes text) (Err Store))
-asks_answered naming (Close period through) dump told =
-    told_answered naming Ruling (close_outcome period through) told
-    (close_answered naming (λ value. value) period through (Err Store))
-asks_answered naming (Choose name) dump told =
-    told_answered naming Ruling (choose_outcome naming name) told
-    (choose_answered naming (λ value. value) name (Err Store))
-asks_answered naming (Adopt rule) dump told =
-    told_answered naming Ruling (adopt_outcome rule) told
-    (adopt_answered naming (λ value. value) rule (Err Store))
+asks_answered naming (Rule ruling) dump told =
+    told_answered naming Ruling (rule_outcome naming (ruling_of ruling)) told
+    (ruling_answered naming (λ value. value) (ruling_of ruling) (Err Store))
 asks_answered naming (Import layout) dump told = receives_answered naming dump told
 asks_answered naming (ImportBytes layout bytes) dump told = receives_answered naming dump told
 asks_answered naming (Report report) dump told = report_answered naming report told
