@@ -233,7 +233,7 @@ const NUMBER: Argument = Argument::InPlaceOr(
     "0",
 );
 
-/// The commands in the order of the program's help.
+/// The commands in the order of the program's help. Of reports the row has the word and the help.
 pub(crate) static KNOWN_COMMANDS: [KnownCommand; 23] = [
     KnownCommand {
         name: "trial",
@@ -276,53 +276,53 @@ pub(crate) static KNOWN_COMMANDS: [KnownCommand; 23] = [
         words: &[BOOK, DRY_RUN, WAIT],
     },
     KnownCommand {
-        name: "statement",
-        about: "Prints what a period charges",
+        name: report_rows::STATEMENT.word,
+        about: report_rows::STATEMENT.about,
         words: &[BOOK, PERIOD, CSV, CENTRE, OTHER_PRICES, WAIT],
     },
     KnownCommand {
-        name: "adjustments",
-        about: "Prints what a period adds to closed periods and reverses in them",
+        name: report_rows::ADJUSTMENTS.word,
+        about: report_rows::ADJUSTMENTS.about,
         words: &[BOOK, PERIOD, CSV, CENTRE, WAIT],
     },
     KnownCommand {
-        name: "details",
-        about: "Prints each record that a period counts, and what it costs",
+        name: report_rows::DETAILS.word,
+        about: report_rows::DETAILS.about,
         words: &[BOOK, PERIOD, CSV, CENTRE, WAIT],
     },
     KnownCommand {
-        name: "bill",
-        about: "Prints the bill of a centre for a period, or what each centre owes",
+        name: report_rows::BILL.word,
+        about: report_rows::BILL.about,
         words: &[BOOK, PERIOD, CSV, CENTRE, WAIT],
     },
     KnownCommand {
-        name: "page",
-        about: "Prints a period as a page for a browser",
+        name: report_rows::PAGE.word,
+        about: report_rows::PAGE.about,
         words: &[BOOK, PERIOD, WAIT],
     },
     KnownCommand {
-        name: "disputes",
-        about: "Prints the records in dispute",
+        name: report_rows::DISPUTES.word,
+        about: report_rows::DISPUTES.about,
         words: &[BOOK, DISPUTE_CSV, WAIT],
     },
     KnownCommand {
-        name: "record",
-        about: "Prints a record, how it was priced, and what became of it",
+        name: report_rows::RECORD.word,
+        about: report_rows::RECORD.about,
         words: &[BOOK, RECORD_NAME, WAIT],
     },
     KnownCommand {
-        name: "periods",
-        about: "Prints the periods",
+        name: report_rows::PERIODS.word,
+        about: report_rows::PERIODS.about,
         words: &[BOOK, WAIT],
     },
     KnownCommand {
-        name: "rulings",
-        about: "Prints the tariffs, the closes, the choices and the adoption",
+        name: report_rows::RULINGS.word,
+        about: report_rows::RULINGS.about,
         words: &[BOOK, WAIT],
     },
     KnownCommand {
-        name: "tariff-text",
-        about: "Prints the tariff file that begins on a day, byte for byte",
+        name: report_rows::TARIFF_TEXT.word,
+        about: report_rows::TARIFF_TEXT.about,
         words: &[BOOK, FIRST_DAY, WAIT],
     },
     KnownCommand {

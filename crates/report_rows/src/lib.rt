@@ -8,4 +8,7 @@ mod report_row;
 
 pub use about::{About, report_about};
 pub use named_reports::{named_report, row_of};
-pub use report_row::{BodyKind, ReportName, ReportRow, Shape};
+pub use report_row::{
+    ADJUSTMENTS, BILL, BodyKind, DETAILS, DISPUTES, PAGE, PERIODS, RECORD, RULINGS, ReportName,
+    ReportRow, STATEMENT, Shape, TARIFF_TEXT,
+};
