@@ -181,7 +181,7 @@ met_command a P words wants off holds none =
     (walk_stop b.top (names_of b) args (walk_from nothing_held) off fault.walks tt)
     fault.beneath is
 
-is_none : List (Text × List WordSeen) → Bool
+abbrev is_none : List (Text × List WordSeen) → Bool
 is_none [] = true
 is_none (command ∷ more) = false
 

@@ -1,7 +1,7 @@
 //! What the words of reports ask of books.
 
 ghost use Rattle.std.specs.Prelude.{◌≡◌, ◌≢◌, IfSome, IsSome, codes, false, true};
-ghost use Rattle.report_rows.specs.ReportRows as table;
+ghost use Rattle.report_rows.specs.ReportRows as reports;
 ghost use Rattle.command_line.specs.Given.{HasWord, HasWords};
 ghost use Rattle.command_line.specs.Known as known;
 ghost use Rattle.command_line.specs.Requests.{AsksReport, HasShape, IsForm, IsLeftOut, IsOfBooks};
@@ -92,7 +92,7 @@ fn words_in<'a>(shape: Shape, found: &ArgMatches<'a>) -> Option<Words<'a>>
 /// What is asked of books: a report, or one that is printed while it is read.
 fn request_for<'a>(streamed: bool, asked: ReportAsked<'a>) -> BookRequest<'a>
     ensures { (text : _) (rows : _) → AsksReport text rows asked.entry
-        → (table.row_of asked.entry.name).streamed ≡ streamed → IsOfBooks text rows result }
+        → (reports.row_of asked.entry.name).streamed ≡ streamed → IsOfBooks text rows result }
 {
     if streamed {
         BookRequest::List(asked)
@@ -103,10 +103,10 @@ fn request_for<'a>(streamed: bool, asked: ReportAsked<'a>) -> BookRequest<'a>
 
 /// What is asked by the word of a report, other than a statement.
 pub(crate) fn report_in<'a>(name: ReportName, found: &ArgMatches<'a>) -> Option<BookRequest<'a>>
-    ensures asked { (text : _) → text ≡ (table.row_of name).word → text ≢ codes "statement"
+    ensures asked { (text : _) → text ≡ (reports.row_of name).word → text ≢ codes "statement"
         → IfSome result (IsOfBooks text (rows_in found.now)) }
-    ensures some { HasWords (rows_in found.now) (known.named_by (table.row_of name).shape)
-        → ((table.row_of name).csv ≡ true → HasWord (rows_in found.now) known.csv)
+    ensures some { HasWords (rows_in found.now) (known.named_by (reports.row_of name).shape)
+        → ((reports.row_of name).csv ≡ true → HasWord (rows_in found.now) known.csv)
         → IsSome result }
 {
     let row = row_of(name);

@@ -1,6 +1,10 @@
 -- The reports, a row for each.
-use Rattle.std.specs.Prelude.{ℕ, Bool, true, false, List, [], ◌∷◌, Option, Some, None, bytes_eq}
+use Rattle.std.specs.Prelude.{ℕ, ℤ, Bool, true, false, List, [], ◌∷◌, Option, Some, None, bytes_eq}
 use Rattle.std.specs.Prelude.{codes, find, option_map}
+use Rattle.book_reports.specs.declared.report.PeriodReport.{PeriodReport}
+use Rattle.book_reports.specs.declared.report.PeriodReport.TheVariants as of_period
+use Rattle.book_reports.specs.declared.report.Report.{Report}
+use Rattle.book_reports.specs.declared.report.Report.TheVariants as made
 use Rattle.book_reports.specs.declared.what_if.StatementForm.{StatementForm}
 use Rattle.book_reports.specs.declared.what_if.StatementForm.TheVariants as form
 use Rattle.report_rows.specs.declared.report_row.BodyKind.{BodyKind}
@@ -9,7 +13,8 @@ use Rattle.report_rows.specs.declared.report_row.ReportName.{ReportName}
 use Rattle.report_rows.specs.declared.report_row.ReportName.TheVariants as report
 use Rattle.report_rows.specs.declared.report_row.ReportRow.{ReportRow}
 use Rattle.report_rows.specs.declared.report_row.Shape.{Shape}
-use Rattle.report_rows.specs.declared.report_row.Shape.TheVariants.{OfCentre, OfPeriod, OfOffice, OfDay, OfRecord}
+use Rattle.report_rows.specs.declared.report_row.Shape.TheVariants.{OfCentre, OfDay, OfOffice}
+use Rattle.report_rows.specs.declared.report_row.Shape.TheVariants.{OfPeriod, OfRecord}
 
 -- A report's word; what it is about; whether it is also a table; whether it is written while the books are
 -- open; whether it is also made by the prices of another tariff; where it is served, as a text and as a
@@ -161,3 +166,46 @@ path_in row form.Table = row.csv_path
 abbrev pub kind_in : Row → StatementForm → BodyKind
 kind_in row form.Text = row.kind
 kind_in row form.Table = body.Csv
+
+-- The report that a name makes of what it is about. Details are made only as they are written.
+abbrev pub statement_in : StatementForm → PeriodReport
+statement_in form.Text = of_period.Statement
+statement_in form.Table = of_period.StatementTable
+
+abbrev pub adjustments_in : StatementForm → PeriodReport
+adjustments_in form.Text = of_period.AdjustmentList
+adjustments_in form.Table = of_period.AdjustmentTable
+
+abbrev pub disputes_in : StatementForm → Report
+disputes_in form.Text = made.DisputeList
+disputes_in form.Table = made.DisputeTable
+
+-- of a period, of one centre or of the whole office
+abbrev pub report_of_centre : ReportName → StatementForm → ℕ → Option (List ℕ) → Option Report
+report_of_centre report.Statement form period centre =
+    Some (made.OfPeriod (statement_in form) period centre)
+report_of_centre report.Adjustments form period centre =
+    Some (made.OfPeriod (adjustments_in form) period centre)
+report_of_centre report.Bill form period centre = Some (made.Bill form period centre)
+report_of_centre name form period centre = None
+
+-- of a period of the whole office: a page is never a table
+abbrev pub report_of_period : ReportName → StatementForm → ℕ → Option Report
+report_of_period report.Page form.Text period = Some (made.PeriodPage period)
+report_of_period name form period = None
+
+-- of the books
+abbrev pub report_of_office : ReportName → StatementForm → Option Report
+report_of_office report.Disputes form = Some (disputes_in form)
+report_of_office report.Periods form = Some made.PeriodList
+report_of_office report.Rulings form = Some made.RulingList
+report_of_office name form = None
+
+-- of the tariff of a day, and of a record
+abbrev pub report_of_day : ReportName → ℤ → Option Report
+report_of_day report.TariffText day = Some (made.TariffText day)
+report_of_day name day = None
+
+abbrev pub report_of_record : ReportName → List ℕ → Option Report
+report_of_record report.Record record_name = Some (made.Record record_name)
+report_of_record name record_name = None

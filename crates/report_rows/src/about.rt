@@ -3,8 +3,11 @@
 ghost use Rattle.std.specs.Prelude.{◌≡◌};
 ghost use Rattle.report_rows.specs.Abouts as spec;
 
-use crate::report_row::ReportName;
-use book_reports::{PeriodReport, Report, StatementForm};
+use crate::report_row::{
+    ReportName, report_of_centre, report_of_day, report_of_office, report_of_period,
+    report_of_record,
+};
+use book_reports::{Report, StatementForm};
 use smf_text::Name;
 
 /// What a report is about, by its shape.
@@ -27,84 +30,6 @@ pub enum About {
     OfRecord([u8; 32]),
 }
 
-fn statement_in(form: StatementForm) -> PeriodReport
-    ensures { result ≡ spec.statement_in form }
-{
-    match form {
-        StatementForm::Text => PeriodReport::Statement,
-        StatementForm::Table => PeriodReport::StatementTable,
-    }
-}
-
-fn adjustments_in(form: StatementForm) -> PeriodReport
-    ensures { result ≡ spec.adjustments_in form }
-{
-    match form {
-        StatementForm::Text => PeriodReport::AdjustmentList,
-        StatementForm::Table => PeriodReport::AdjustmentTable,
-    }
-}
-
-fn disputes_in(form: StatementForm) -> Report
-    ensures { result ≡ spec.disputes_in form }
-{
-    match form {
-        StatementForm::Text => Report::DisputeList,
-        StatementForm::Table => Report::DisputeTable,
-    }
-}
-
-/// The report of a period, of one centre or of the whole office.
-fn report_of_centre(
-    name: ReportName,
-    form: StatementForm,
-    period: u16,
-    centre: Option<Name>,
-) -> Option<Report>
-    ensures { result ≡ spec.report_of_centre name form period centre }
-{
-    match name {
-        ReportName::Statement => Some(Report::OfPeriod {
-            report: statement_in(form),
-            period,
-            centre,
-        }),
-        ReportName::Adjustments => Some(Report::OfPeriod {
-            report: adjustments_in(form),
-            period,
-            centre,
-        }),
-        ReportName::Bill => Some(Report::Bill {
-            form,
-            period,
-            centre,
-        }),
-        _ => None,
-    }
-}
-
-/// The report of a period of the whole office.
-fn report_of_period(name: ReportName, period: u16) -> Option<Report>
-    ensures { result ≡ spec.report_of_period name period }
-{
-    match name {
-        ReportName::Page => Some(Report::PeriodPage(period)),
-        _ => None,
-    }
-}
-
-/// The report of the books.
-fn report_of_office(name: ReportName, form: StatementForm) -> Option<Report>
-    ensures { result ≡ spec.report_of_office name form }
-{
-    match name {
-        ReportName::Disputes => Some(disputes_in(form)),
-        ReportName::Periods => Some(Report::PeriodList),
-        ReportName::Rulings => Some(Report::RulingList),
-        _ => None,
-    }
-}
-
 /// The report of this name about that. `None`: it is not about such a thing, or it is made only as
 /// it is written.
 pub fn report_about(name: ReportName, form: StatementForm, about: About) -> Option<Report>
@@ -112,15 +37,9 @@ pub fn report_about(name: ReportName, form: StatementForm, about: About) -> Opti
 {
     match about {
         About::OfCentre { period, centre } => report_of_centre(name, form, period, centre),
-        About::OfPeriod(period) => report_of_period(name, period),
+        About::OfPeriod(period) => report_of_period(name, form, period),
         About::OfOffice => report_of_office(name, form),
-        About::OfDay(day) => match name {
-            ReportName::TariffText => Some(Report::TariffText(day)),
-            _ => None,
-        },
-        About::OfRecord(record) => match name {
-            ReportName::Record => Some(Report::Record(record)),
-            _ => None,
-        },
+        About::OfDay(day) => report_of_day(name, day),
+        About::OfRecord(record) => report_of_record(name, record),
     }
 }

@@ -7,8 +7,8 @@ mod named_reports;
 mod report_row;
 
 pub use about::{About, report_about};
-pub use named_reports::{named_report, row_of};
+pub use named_reports::named_report;
 pub use report_row::{
     ADJUSTMENTS, BILL, BodyKind, DETAILS, DISPUTES, PAGE, PERIODS, RECORD, RULINGS, ReportName,
-    ReportRow, STATEMENT, Shape, TARIFF_TEXT,
+    ReportRow, STATEMENT, Shape, TARIFF_TEXT, row_of,
 };

@@ -1,45 +1,9 @@
-//! The table of the reports: the row of each, and each by its word.
+//! Each report by its word.
 
 ghost use Rattle.std.specs.Prelude.{◌≡◌, find, option_copied};
 ghost use Rattle.report_rows.specs.ReportRows as spec;
 
-use crate::report_row::{
-    ADJUSTMENTS, BILL, DETAILS, DISPUTES, PAGE, PERIODS, RECORD, RULINGS, ReportName, ReportRow,
-    STATEMENT, TARIFF_TEXT,
-};
-
-/// The row of a report.
-#[tactic(auto, unfolding(crate::specs::ReportRows::row_of))]
-pub fn row_of(name: ReportName) -> ReportRow
-    ensures { spec.row_of name ≡ spec.row_seen result }
-{
-    match name {
-        ReportName::Statement => STATEMENT,
-        ReportName::Adjustments => ADJUSTMENTS,
-        ReportName::Details => DETAILS,
-        ReportName::Bill => BILL,
-        ReportName::Page => PAGE,
-        ReportName::Disputes => DISPUTES,
-        ReportName::Record => RECORD,
-        ReportName::Periods => PERIODS,
-        ReportName::Rulings => RULINGS,
-        ReportName::TariffText => TARIFF_TEXT,
-    }
-}
-
-/// The reports in the order of the program's help.
-static REPORTS: [ReportName; 10] = [
-    ReportName::Statement,
-    ReportName::Adjustments,
-    ReportName::Details,
-    ReportName::Bill,
-    ReportName::Page,
-    ReportName::Disputes,
-    ReportName::Record,
-    ReportName::Periods,
-    ReportName::Rulings,
-    ReportName::TariffText,
-];
+use crate::report_row::{REPORTS, ReportName, row_of};
 
 fn all_reports() -> &'static [ReportName]
     ensures { result.now ≡ spec.reports }

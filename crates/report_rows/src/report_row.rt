@@ -1,7 +1,11 @@
+//! The table of the reports. All that a report adds to this crate stands in this file: its name, its
+//! row, its place in the order of the program's help, and the report of `book_reports` that it is.
+
 ghost use Rattle.std.specs.Prelude.{◌≡◌, option_map};
 ghost use Rattle.report_rows.specs.ReportRows as spec;
 
-use book_reports::StatementForm;
+use book_reports::{PeriodReport, Report, StatementForm};
+use smf_text::Name;
 
 /// A report, by its name.
 #[derive(Clone, Copy)]
@@ -230,3 +234,141 @@ pub const TARIFF_TEXT: ReportRow = ReportRow {
     csv_path: None,
     kind: BodyKind::TariffFile,
 };
+
+/// The row of a report.
+#[tactic(auto, unfolding(crate::specs::ReportRows::row_of))]
+pub fn row_of(name: ReportName) -> ReportRow
+    ensures { spec.row_of name ≡ spec.row_seen result }
+{
+    match name {
+        ReportName::Statement => STATEMENT,
+        ReportName::Adjustments => ADJUSTMENTS,
+        ReportName::Details => DETAILS,
+        ReportName::Bill => BILL,
+        ReportName::Page => PAGE,
+        ReportName::Disputes => DISPUTES,
+        ReportName::Record => RECORD,
+        ReportName::Periods => PERIODS,
+        ReportName::Rulings => RULINGS,
+        ReportName::TariffText => TARIFF_TEXT,
+    }
+}
+
+/// The reports in the order of the program's help.
+pub(crate) static REPORTS: [ReportName; 10] = [
+    ReportName::Statement,
+    ReportName::Adjustments,
+    ReportName::Details,
+    ReportName::Bill,
+    ReportName::Page,
+    ReportName::Disputes,
+    ReportName::Record,
+    ReportName::Periods,
+    ReportName::Rulings,
+    ReportName::TariffText,
+];
+
+fn statement_in(form: StatementForm) -> PeriodReport
+    ensures { result ≡ spec.statement_in form }
+{
+    match form {
+        StatementForm::Text => PeriodReport::Statement,
+        StatementForm::Table => PeriodReport::StatementTable,
+    }
+}
+
+fn adjustments_in(form: StatementForm) -> PeriodReport
+    ensures { result ≡ spec.adjustments_in form }
+{
+    match form {
+        StatementForm::Text => PeriodReport::AdjustmentList,
+        StatementForm::Table => PeriodReport::AdjustmentTable,
+    }
+}
+
+fn disputes_in(form: StatementForm) -> Report
+    ensures { result ≡ spec.disputes_in form }
+{
+    match form {
+        StatementForm::Text => Report::DisputeList,
+        StatementForm::Table => Report::DisputeTable,
+    }
+}
+
+/// The report of a period, of one centre or of the whole office.
+pub(crate) fn report_of_centre(
+    name: ReportName,
+    form: StatementForm,
+    period: u16,
+    centre: Option<Name>,
+) -> Option<Report>
+    ensures { result ≡ spec.report_of_centre name form period centre }
+{
+    match name {
+        ReportName::Statement => Some(Report::OfPeriod {
+            report: statement_in(form),
+            period,
+            centre,
+        }),
+        ReportName::Adjustments => Some(Report::OfPeriod {
+            report: adjustments_in(form),
+            period,
+            centre,
+        }),
+        ReportName::Bill => Some(Report::Bill {
+            form,
+            period,
+            centre,
+        }),
+        _ => None,
+    }
+}
+
+/// The report of a period of the whole office. A page is never a table.
+pub(crate) fn report_of_period(
+    name: ReportName,
+    form: StatementForm,
+    period: u16,
+) -> Option<Report>
+    ensures { result ≡ spec.report_of_period name form period }
+{
+    match name {
+        ReportName::Page => match form {
+            StatementForm::Text => Some(Report::PeriodPage(period)),
+            StatementForm::Table => None,
+        },
+        _ => None,
+    }
+}
+
+/// The report of the books.
+pub(crate) fn report_of_office(name: ReportName, form: StatementForm) -> Option<Report>
+    ensures { result ≡ spec.report_of_office name form }
+{
+    match name {
+        ReportName::Disputes => Some(disputes_in(form)),
+        ReportName::Periods => Some(Report::PeriodList),
+        ReportName::Rulings => Some(Report::RulingList),
+        _ => None,
+    }
+}
+
+/// The report of the tariff that begins on a day.
+pub(crate) fn report_of_day(name: ReportName, day: i32) -> Option<Report>
+    ensures { result ≡ spec.report_of_day name day }
+{
+    match name {
+        ReportName::TariffText => Some(Report::TariffText(day)),
+        _ => None,
+    }
+}
+
+/// The report of a record.
+pub(crate) fn report_of_record(name: ReportName, record: [u8; 32]) -> Option<Report>
+    ensures { result ≡ spec.report_of_record name record }
+{
+    match name {
+        ReportName::Record => Some(Report::Record(record)),
+        _ => None,
+    }
+}
