@@ -103,8 +103,7 @@ fn named_in<'a>(name: &str, found: &ArgMatches<'a>) -> Option<Request<'a>>
         → NoneIs (bookless ++ changes ++ services) name.now → IsSome result }
 {
     let report = named_report(name)?;
-    let asked = report_in(report, found);
-    of_books_in(found, asked)
+    of_books_in(found, report_in(report, found))
 }
 
 /// The request to books, where there is something asked of them, and how long it waits for them.

@@ -11,14 +11,14 @@ pub returns-in_err-form-clause-some : goal.returns-in_err-form-clause-some
 returns-in_err-form-clause-some c =
     λ named csv.
     absurd (true_false (sym (c.in_err-form.ensures.some
-    (λ is. csv (ap (λ (row : Row). row.csv) c.row_of.ensures ∙ is)))))
+    (λ is. csv (ap (λ (row : Row). row.csv) c.row_of-row.ensures ∙ is)))))
 
 pub returns-in_err-words-clause-some : goal.returns-in_err-words-clause-some
 returns-in_err-words-clause-some c =
     λ named csv.
     absurd (true_false (sym (c.in_err-words.ensures.some
     (subst (λ (row : Row). HasWords (rows_in c.args.found.now) (named_by row.shape))
-    c.row_of.ensures named))))
+    c.row_of-row.ensures named))))
 
 -- they are those of the row
 pub returns-clause-asked : goal.returns-clause-asked
@@ -28,11 +28,11 @@ returns-clause-asked c =
     (record {
       word = is;
       table = λ may.
-          c.in_ok-form.ensures.table (sym (ap (λ (row : Row). row.csv) c.row_of.ensures) ∙ may);
+          c.in_ok-form.ensures.table (sym (ap (λ (row : Row). row.csv) c.row_of-row.ensures) ∙ may);
       text = λ never.
-          c.in_ok-form.ensures.text (sym (ap (λ (row : Row). row.csv) c.row_of.ensures) ∙ never);
+          c.in_ok-form.ensures.text (sym (ap (λ (row : Row). row.csv) c.row_of-row.ensures) ∙ never);
       words = subst (λ (row : Row). HasShape row.shape (rows_in c.args.found.now) c.in_ok-words.words)
-          (sym c.row_of.ensures) c.in_ok-words.ensures.words;
+          (sym c.row_of-row.ensures) c.in_ok-words.ensures.words;
       charged = λ it. absurd (other it);
     })
-    (ap (λ (row : Row). row.streamed) c.row_of.ensures)
+    (ap (λ (row : Row). row.streamed) c.row_of-row.ensures)
