@@ -1,6 +1,7 @@
 //! The commands that the program knows, with their words and options.
 
 use crate::help_texts::Help;
+use report_rows::report_row;
 
 /// A command of the program.
 #[derive(Clone, Copy)]
@@ -276,53 +277,53 @@ pub(crate) static KNOWN_COMMANDS: [KnownCommand; 23] = [
         words: &[BOOK, DRY_RUN, WAIT],
     },
     KnownCommand {
-        name: report_rows::STATEMENT.word,
-        about: report_rows::STATEMENT.about,
+        name: report_row::STATEMENT.word,
+        about: report_row::STATEMENT.about,
         words: &[BOOK, PERIOD, CSV, CENTRE, OTHER_PRICES, WAIT],
     },
     KnownCommand {
-        name: report_rows::ADJUSTMENTS.word,
-        about: report_rows::ADJUSTMENTS.about,
+        name: report_row::ADJUSTMENTS.word,
+        about: report_row::ADJUSTMENTS.about,
         words: &[BOOK, PERIOD, CSV, CENTRE, WAIT],
     },
     KnownCommand {
-        name: report_rows::DETAILS.word,
-        about: report_rows::DETAILS.about,
+        name: report_row::DETAILS.word,
+        about: report_row::DETAILS.about,
         words: &[BOOK, PERIOD, CSV, CENTRE, WAIT],
     },
     KnownCommand {
-        name: report_rows::BILL.word,
-        about: report_rows::BILL.about,
+        name: report_row::BILL.word,
+        about: report_row::BILL.about,
         words: &[BOOK, PERIOD, CSV, CENTRE, WAIT],
     },
     KnownCommand {
-        name: report_rows::PAGE.word,
-        about: report_rows::PAGE.about,
+        name: report_row::PAGE.word,
+        about: report_row::PAGE.about,
         words: &[BOOK, PERIOD, WAIT],
     },
     KnownCommand {
-        name: report_rows::DISPUTES.word,
-        about: report_rows::DISPUTES.about,
+        name: report_row::DISPUTES.word,
+        about: report_row::DISPUTES.about,
         words: &[BOOK, DISPUTE_CSV, WAIT],
     },
     KnownCommand {
-        name: report_rows::RECORD.word,
-        about: report_rows::RECORD.about,
+        name: report_row::RECORD.word,
+        about: report_row::RECORD.about,
         words: &[BOOK, RECORD_NAME, WAIT],
     },
     KnownCommand {
-        name: report_rows::PERIODS.word,
-        about: report_rows::PERIODS.about,
+        name: report_row::PERIODS.word,
+        about: report_row::PERIODS.about,
         words: &[BOOK, WAIT],
     },
     KnownCommand {
-        name: report_rows::RULINGS.word,
-        about: report_rows::RULINGS.about,
+        name: report_row::RULINGS.word,
+        about: report_row::RULINGS.about,
         words: &[BOOK, WAIT],
     },
     KnownCommand {
-        name: report_rows::TARIFF_TEXT.word,
-        about: report_rows::TARIFF_TEXT.about,
+        name: report_row::TARIFF_TEXT.word,
+        about: report_row::TARIFF_TEXT.about,
         words: &[BOOK, FIRST_DAY, WAIT],
     },
     KnownCommand {

@@ -4,11 +4,8 @@
 
 mod about;
 mod named_reports;
-mod report_row;
+pub mod report_row;
 
 pub use about::{About, report_about};
 pub use named_reports::named_report;
-pub use report_row::{
-    ADJUSTMENTS, BILL, BodyKind, DETAILS, DISPUTES, PAGE, PERIODS, RECORD, RULINGS, ReportName,
-    ReportRow, STATEMENT, Shape, TARIFF_TEXT, row_of,
-};
+pub use report_row::{BodyKind, ReportName, ReportRow, Shape, row_of};
