@@ -16,6 +16,7 @@ mod office_answers;
 mod request;
 mod requested;
 mod route;
+mod routes;
 mod sending;
 mod serve;
 mod served;
@@ -27,6 +28,7 @@ pub use laws::{
 };
 pub use office_answers::{ask_details, ask_office};
 pub use requested::{OfficeRequest, Requested, read_request};
+pub use routes::Routes;
 pub use sending::{send, send_details};
 pub use serve::{serve_details, serve_one};
 pub use served::{Served, Unanswered};

@@ -21,6 +21,7 @@ use crate::body::{BodyFault, read_body};
 use crate::head::{HeadRead, MAX_FIELDS, MAX_HEAD, read_head};
 use crate::request::{Request, request_in};
 use crate::route::find_route;
+use crate::routes::Routes;
 use crate::served::Unanswered;
 use crate::status::Status;
 use book_core::Source;
@@ -105,7 +106,7 @@ fn read_asked<R: Reader + Drop>(
 
 /// Reads on after the head of a request.
 fn read_rest<R: Reader + Drop>(
-    alloc: Global,
+    routes: &mut Routes,
     source: &mut Source<R>,
     request: &Request<'_>,
 ) -> Result<Requested, ReadFailed>
@@ -121,7 +122,7 @@ fn read_rest<R: Reader + Drop>(
     ensures left { NothingUnread
         (has_ended source.new) (R.remaining (reader_of source.new)) }
 {
-    let Ok(found) = find_route(alloc, request.target) else {
+    let Ok(found) = find_route(routes, request.target) else {
         return Ok(Requested::Settled(Answer::Refusal(Status::Unavailable)));
     };
     let asked = asked_framed(
@@ -131,13 +132,13 @@ fn read_rest<R: Reader + Drop>(
         request.method,
         request.has_origin,
     );
-    read_asked(alloc, source, request.behind, asked)
+    read_asked(routes.alloc(), source, request.behind, asked)
 }
 
 /// Reads one request, whole: its head, and the body of a request that is served with one. Bytes
 /// after it are not looked at.
 pub fn read_request<R: Reader + Drop>(
-    alloc: Global,
+    routes: &mut Routes,
     source: &mut Source<R>,
 ) -> Result<Requested, Unanswered>
     requires asked { reads_of source.old ≤ 2 ^ 62 }
@@ -164,7 +165,7 @@ pub fn read_request<R: Reader + Drop>(
         HeadRead::Refused => Ok(Requested::Settled(Answer::Refusal(Status::BadRequest))),
         HeadRead::Whole(whole) => {
             let request = request_in(&buffer[..whole.filled], &fields, whole.spans);
-            let Ok(requested) = read_rest(alloc, source, &request) else {
+            let Ok(requested) = read_rest(routes, source, &request) else {
                 return Err(Unanswered::Failed);
             };
             Ok(requested)

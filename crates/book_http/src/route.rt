@@ -5,15 +5,14 @@ ghost use Rattle.book_http.specs.Paths as paths;
 ghost use Rattle.book_http.specs.Paths.{IsPathOf};
 ghost use Rattle.book_http.specs.declared.route.Route.{Route};
 ghost use Rattle.book_http.specs.Routes as spec;
-ghost use Rattle.book_http.specs.Routes.{route_rows};
 
 use crate::decimal_value::decimal_value;
+use crate::routes::Routes;
 use book_reports::{DetailReport, name_of_text};
-use matchit::{InsertError, Router};
 use office::{PeriodReport, Report, StatementForm, WhatIf, centre_named};
 use smf_frames::Layout;
 use smf_text::{Name, day_of_text};
-use std::alloc::{AllocError, Global};
+use std::alloc::AllocError;
 use std::str;
 
 /// What a path is for.
@@ -60,95 +59,6 @@ pub enum Endpoint {
 
 /// The most digits of a period.
 const PERIOD_DIGITS: usize = 4;
-
-/// A router with one more endpoint.
-fn with_endpoint(
-    mut router: Router<Endpoint>,
-    route: &str,
-    endpoint: Endpoint,
-) -> Result<Router<Endpoint>, InsertError>
-    ensures { IfOk result (λ more. more ≡ spec.with_route route.now endpoint router) }
-{
-    router.insert(route, endpoint)?;
-    Ok(router)
-}
-
-/// The routes of all endpoints.
-static ROUTES: [(&str, Endpoint); 18] = [
-    ("/periods", Endpoint::Periods),
-    (
-        "/statement/{*rest}",
-        Endpoint::OfPeriod(PeriodReport::Statement),
-    ),
-    (
-        "/statement-csv/{*rest}",
-        Endpoint::OfPeriod(PeriodReport::StatementTable),
-    ),
-    (
-        "/adjustments/{*rest}",
-        Endpoint::OfPeriod(PeriodReport::AdjustmentList),
-    ),
-    (
-        "/adjustments-csv/{*rest}",
-        Endpoint::OfPeriod(PeriodReport::AdjustmentTable),
-    ),
-    ("/details/{*rest}", Endpoint::Details(StatementForm::Text)),
-    (
-        "/details-csv/{*rest}",
-        Endpoint::Details(StatementForm::Table),
-    ),
-    ("/disputes", Endpoint::Disputes),
-    ("/disputes-csv", Endpoint::DisputesCsv),
-    ("/record/{*rest}", Endpoint::Record),
-    ("/rulings", Endpoint::Rulings),
-    ("/tariff/{*rest}", Endpoint::Tariff),
-    ("/what-if/{*rest}", Endpoint::WhatIf(StatementForm::Text)),
-    (
-        "/what-if-csv/{*rest}",
-        Endpoint::WhatIf(StatementForm::Table),
-    ),
-    ("/import", Endpoint::Import(Layout::Rdw)),
-    ("/import-bdw", Endpoint::Import(Layout::Bdw)),
-    ("/", Endpoint::Office),
-    ("/period/{*rest}", Endpoint::Period),
-];
-
-/// They are read whole here, so that callers need not.
-fn all_routes() -> &'static [(&'static str, Endpoint)]
-    ensures { spec.rows_by result.now ≡ route_rows }
-{
-    ROUTES.as_slice()
-}
-
-/// A router of routes, which are put in one after the other. An error means that memory ran out.
-fn router_of(alloc: Global, routes: &[(&str, Endpoint)]) -> Result<Router<Endpoint>, InsertError>
-    ensures { IfOk result (λ router. router ≡ spec.rows_by routes.now) }
-{
-    let mut router = Router::new(alloc);
-    for route in routes {
-        router = with_endpoint(router, route.0, route.1)?;
-    }
-    Ok(router)
-}
-
-/// The endpoints by their paths.
-fn endpoints(alloc: Global) -> Result<Router<Endpoint>, InsertError>
-    ensures { IfOk result (λ router. router ≡ route_rows) }
-{
-    router_of(alloc, all_routes())
-}
-
-/// The endpoint of a path, if it has one.
-#[tactic(auto, unfolding(crate::specs::Routes::endpoint_of))]
-fn endpoint_at(router: &Router<Endpoint>, path: &str) -> Option<Endpoint>
-    requires { router.now ≡ route_rows }
-    ensures { result ≡ spec.endpoint_of path.now }
-{
-    match router.at(path) {
-        Ok(found) => Some(*found.value),
-        Err(_) => None,
-    }
-}
 
 /// The period that a text names: 1 to 4 digits, the first of them no 0.
 #[tactic(auto, unfolding(crate::specs::Routes::period))]
@@ -336,7 +246,7 @@ fn path_of(target: &str) -> &str
 }
 
 /// What the path of a target is for, if anything. An error means that memory ran out.
-pub fn find_route(alloc: Global, target: &[u8]) -> Result<Option<Route>, AllocError>
+pub fn find_route(routes: &mut Routes, target: &[u8]) -> Result<Option<Route>, AllocError>
     requires { IsUtf8 target.now }
     ensures value { IfOk result (λ found. found ≡ spec.route (spec.path_of target.now)) }
     // What is found is served at that path, and what is served there is found.
@@ -344,14 +254,14 @@ pub fn find_route(alloc: Global, target: &[u8]) -> Result<Option<Route>, AllocEr
     ensures finds { IfOk result (λ found. (asked : Route)
         → IsPathOf (spec.path_of target.now) asked → found ≡ Some asked) }
 {
-    let Ok(router) = endpoints(alloc) else {
-        return Err(AllocError);
-    };
     let Ok(target) = str::from_utf8(target) else {
         return Ok(None);
     };
     let path = path_of(target);
-    match endpoint_at(&router, path) {
+    let Ok(found) = routes.endpoint_at(path) else {
+        return Err(AllocError);
+    };
+    match found {
         Some(endpoint) => Ok(route_at(endpoint, path)),
         None => Ok(None),
     }

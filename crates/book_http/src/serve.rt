@@ -14,6 +14,7 @@ ghost use Rattle.book_http.specs.Served.{is_read_fault, is_unanswered, is_write_
 
 use crate::office_answers::{ask_details, ask_office};
 use crate::requested::{Requested, read_request};
+use crate::routes::Routes;
 use crate::sending::{send, send_details};
 use crate::served::{Served, Unanswered};
 use book_core::{Ledger, Sink, Source};
@@ -74,7 +75,8 @@ pub fn serve_one<R: Reader + Drop, W: Writer + Drop, L: Ledger>(
     ensures read { has_failed source.new ≡ is_read_fault result }
     ensures written { sinks.has_failed sink.new ≡ is_write_fault result }
 {
-    match read_request(alloc, source) {
+    let mut routes = Routes::new(alloc);
+    match read_request(&mut routes, source) {
         Ok(Requested::Settled(answer)) => send(sink, &answer),
         Ok(Requested::Office(request)) => {
             let answer = ask_office(alloc, ledger, request);

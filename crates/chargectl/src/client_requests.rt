@@ -16,7 +16,7 @@ ghost use Rattle.chargectl.specs.ClientRequests.{IsAnsweredFrom, IsServedFrom, L
 use crate::port::Peer;
 use book_core::{Ledger, Sink, Source};
 use book_http::{
-    Answer, OfficeRequest, Requested, Served, Status, Unanswered, ask_details, ask_office,
+    Answer, OfficeRequest, Requested, Routes, Served, Status, Unanswered, ask_details, ask_office,
     read_request, send, send_details,
 };
 use named_books::{Opened, Repository, RepositoryFault, Visit};
@@ -202,7 +202,7 @@ fn answer_from_books<W: Peer + Drop, S: Repository>(
 /// Serves one request as `book_http::serve_one` does, from the books of a name, which are opened for
 /// it once it came whole.
 pub fn serve_request<R: Reader + Drop, W: Peer + Drop, S: Repository>(
-    alloc: Global,
+    routes: &mut Routes,
     source: &mut Source<R>,
     writer: W,
     repository: &mut S,
@@ -228,7 +228,8 @@ pub fn serve_request<R: Reader + Drop, W: Peer + Drop, S: Repository>(
     ensures write { is_write_fault result.0.served ≡ true
         → ∥ HasFailed W.Writer.may_answer result.1 ∥₁ }
 {
-    match read_request(alloc, source) {
+    let alloc = routes.alloc();
+    match read_request(routes, source) {
         Ok(Requested::Settled(answer)) => {
             let (served, writer) = send_to(writer, &answer);
             (Attended { served, log: None }, writer)
