@@ -21,7 +21,6 @@ use Rattle.book_http.proofs.ServeLemmas.{bytes_answered}
 use Rattle.book_http.proofs.StreamLemmas.{AnswersSized}
 use Rattle.named_books.specs.Shelves.{IsUntouched}
 use Rattle.named_books.proofs.ShelfLemmas.{untouched}
-use Rattle.chargectl.specs.declared.client_requests.Told.{Told}
 use Rattle.chargectl.specs.ClientRequests.{AsksOpen, ComesOpen, EndsBy, EndsUnseen, FailsBefore}
 use Rattle.chargectl.specs.ClientRequests.{IsAnsweredFrom, IsReplied, IsServedByReads, IsServedFrom}
 use Rattle.chargectl.specs.ClientRequests.{SendsOpen, StreamsAnswer, away_reply, is_streamed}
@@ -31,7 +30,6 @@ use Rattle.chargectl.proofs.Words.{done_as}
 use Rattle.book_http.specs.declared.requested.Requested.TheVariants as requested
 use Rattle.book_http.specs.declared.served.Served.TheVariants as served
 use Rattle.named_books.specs.declared.repository.RepositoryFault.TheVariants as shelf
-use Rattle.chargectl.specs.declared.client_requests.Told.TheVariants as tells
 
 -- ---- what is sent
 
@@ -65,7 +63,7 @@ pub settled : (book : List ℕ) (place : Shelf) (answer : Answer) (held holds : 
     (what : Served) → IsSent (reply_of answer) held holds what
     → IsAnsweredFrom book place place (requested.Settled answer) held holds what
 settled book place answer held holds what sent = record {
-  told = Ok (tells.Due answer);
+  told = Ok (Err answer);
   shown = held;
   done = done_as book NoEvent (RefusesRequest (reply_of answer) (reply_of answer)) place place
       (λ before events is none. record { none = none; replied = refl }) (untouched book place);
@@ -76,7 +74,7 @@ settled book place answer held holds what sent = record {
 
 module _ (request : Requested) (held shown : Option (List ℕ)) (Failed Same : Type 0) where
   -- so much was sent by a visit, or nothing, where there was none
-  pub sent_open : (told : Result Told RepositoryFault) → (Same → shown ≡ held)
+  pub sent_open : (told : Result (Result Served Answer) RepositoryFault) → (Same → shown ≡ held)
       → ComesBy (ComesOpen request held shown Failed) Same told
       → ComesBy (SendsOpen request held shown) (shown ≡ held) told
   sent_open (Ok answer) still came = came.sends
@@ -85,7 +83,7 @@ module _ (request : Requested) (held shown : Option (List ℕ)) (Failed Same : T
   sent_open (Err why) still same = still same
 
   -- and a write of that failed, where it is told
-  pub failed_open : (told : Result Told RepositoryFault)
+  pub failed_open : (told : Result (Result Served Answer) RepositoryFault)
       → ComesBy (ComesOpen request held shown Failed) Same told → FailsBefore Failed told
   failed_open (Ok answer) came = came.failed
   failed_open (Err why) same = tt
@@ -155,44 +153,45 @@ module _ (book : List ℕ) (old new : Shelf) (bytes : List ℕ) (request : Reque
   }
 
   due_answers : (so : Served) (answer : Answer) → Fits so (reply_of answer)
-      → IsDoneTo book (AsksOpen old.naming request held shown (tells.Due answer)) old new
+      → IsDoneTo book (AsksOpen old.naming request held shown (Err answer)) old new
       → IsDoneTo book (AnswersSome old.naming so) old new
   due_answers so answer fits done =
-      done_as book (AsksOpen old.naming request held shown (tells.Due answer))
+      done_as book (AsksOpen old.naming request held shown (Err answer))
       (AnswersSome old.naming so) old new
       (λ before events is made. some_answers so (reply_of answer) before events is is fits made) done
 
   -- so with details, which were sent while the books were open
   sent_answers : (so sent : Served) → ((due : Reply) → IsSentAsRead due held shown sent → Fits so due)
-      → IsDoneTo book (AsksOpen old.naming request held shown (tells.Sent sent)) old new
+      → IsDoneTo book (AsksOpen old.naming request held shown (Ok sent)) old new
       → IsDoneTo book (AnswersSome old.naming so) old new
   sent_answers so sent fits done =
-      done_as book (AsksOpen old.naming request held shown (tells.Sent sent))
+      done_as book (AsksOpen old.naming request held shown (Ok sent))
       (AnswersSome old.naming so) old new
       (λ before events is it. some_answers so it.reply before events it.left is
       (fits it.reply it.sent) it.answer)
       done
 
   -- no answer was told
-  untold_answers : (told : Told) → IsDoneTo book (AsksOpen old.naming request held shown told) old new
+  untold_answers : (told : Result Served Answer)
+      → IsDoneTo book (AsksOpen old.naming request held shown told) old new
       → IsDoneTo book (AnswersSome old.naming served.Cut) old new
-  untold_answers (tells.Due answer) done = due_answers served.Cut answer tt done
-  untold_answers (tells.Sent sent) done = sent_answers served.Cut sent (λ due as_read. tt) done
+  untold_answers (Err answer) done = due_answers served.Cut answer tt done
+  untold_answers (Ok sent) done = sent_answers served.Cut sent (λ due as_read. tt) done
 
   unseen_fits : (streamed : Bool) → EndsUnseen streamed shown holds what
       → Fits what (refusal Unavailable)
   unseen_fits true ends = subst (λ what. Fits what (refusal Unavailable)) (sym ends.0) tt
   unseen_fits false ends = whole_fits (refusal Unavailable) shown holds what ends
 
-  pub request_done : (told : Result Told RepositoryFault)
+  pub request_done : (told : Result (Result Served Answer) RepositoryFault)
       → IsOpened (AsksOpen old.naming request held shown) book old new told
       → EndsBy (is_streamed request) told shown holds what → Replies book what old new
-  request_done (Ok (tells.Due answer)) done ends = record {
+  request_done (Ok (Err answer)) done ends = record {
     came = Ok what;
     done = due_answers what answer (whole_fits (reply_of answer) shown holds what ends) done;
     told = refl;
   }
-  request_done (Ok (tells.Sent sent)) done ends = record {
+  request_done (Ok (Ok sent)) done ends = record {
     came = Ok what;
     done = sent_answers what sent
         (λ due as_read. subst (λ what. Fits what due) (sym ends.0)

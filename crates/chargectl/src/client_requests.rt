@@ -32,15 +32,6 @@ pub struct Attended {
     pub log: Option<bool>,
 }
 
-/// What came of a request while the books were open.
-#[derive(Drop)]
-enum Told {
-    /// This answer is due, once they are closed.
-    Due(Answer),
-    /// Details were sent.
-    Sent(Served),
-}
-
 /// A request that is asked of the books, and the writer that details go to.
 #[derive(Drop)]
 struct OpenRequest<W: Peer + Drop> {
@@ -54,7 +45,8 @@ impl<W: Peer + Writer + Drop> Visit for OpenRequest<W> {
     ghost use Rattle.streams.specs.Failures.{HasFailed};
     ghost use Rattle.chargectl.specs.ClientRequests.{AsksOpen, ComesOpen, open_answered};
 
-    type Answer = Told;
+    /// Details were sent; or this answer is due, once the books are closed.
+    type Answer = Result<Served, Answer>;
 
     ghost work = { λ naming it after told. AsksOpen naming it.request
         (W.contents it.writer) (W.contents after.writer) told };
@@ -71,7 +63,7 @@ impl<W: Peer + Writer + Drop> Visit for OpenRequest<W> {
         matches!(self.request, Requested::Office(OfficeRequest::Report(_)))
     }
 
-    fn visit<L: Ledger>(&mut self, books: &mut L) -> Told {
+    fn visit<L: Ledger>(&mut self, books: &mut L) -> Result<Served, Answer> {
         let request = mem::replace(&mut self.request, Requested::Settled(Answer::Busy));
         let (told, writer) = ask_open(self.alloc, books, request, self.writer);
         self.writer = writer;
@@ -85,7 +77,7 @@ fn ask_open<L: Ledger, W: Peer + Drop>(
     books: &mut L,
     request: Requested,
     writer: W,
-) -> (Told, W)
+) -> (Result<Served, Answer>, W)
     ensures done { IsTransition (L.seen books.old) (L.seen books.new)
         (AsksOpen (L.seen books.old).naming request
         (W.contents writer) (W.contents result.1) result.0) }
@@ -93,18 +85,18 @@ fn ask_open<L: Ledger, W: Peer + Drop>(
         (∥ HasFailed W.Writer.may_answer result.1 ∥₁) result.0 }
 {
     match request {
-        Requested::Settled(settled) => (Told::Due(settled), writer),
+        Requested::Settled(settled) => (Err(settled), writer),
         Requested::Office(asked) => {
             let answer = ask_office(alloc, books, asked);
-            (Told::Due(answer), writer)
+            (Err(answer), writer)
         }
         Requested::Details(details) => match ask_details(alloc, books, &details) {
-            Err(reply) => (Told::Due(reply), writer),
+            Err(reply) => (Err(reply), writer),
             Ok(size) => {
                 writer.hurry();
                 let mut sink = Sink::new(writer);
                 let what = send_details(alloc, books, details, size, &mut sink);
-                (Told::Sent(what), sink.into_inner())
+                (Ok(what), sink.into_inner())
             }
         },
     }
@@ -134,7 +126,7 @@ fn send_to<W: Peer + Drop>(writer: W, answer: &Answer) -> (Served, W)
 /// Answers a client after the books were closed.
 fn end_request<W: Peer + Drop>(
     streamed: bool,
-    told: Result<Told, RepositoryFault>,
+    told: Result<Result<Served, Answer>, RepositoryFault>,
     writer: W,
 ) -> (Served, W)
     requires { FailsBefore (∥ HasFailed W.Writer.may_answer writer ∥₁) told }
@@ -142,8 +134,8 @@ fn end_request<W: Peer + Drop>(
     ensures write { is_write_fault result.0 ≡ true → ∥ HasFailed W.Writer.may_answer result.1 ∥₁ }
 {
     match told {
-        Ok(Told::Due(answer)) => send_to(writer, &answer),
-        Ok(Told::Sent(what)) => (what, writer),
+        Ok(Ok(what)) => (what, writer),
+        Ok(Err(answer)) => send_to(writer, &answer),
         Err(fault) => send_away(streamed, fault, writer),
     }
 }

@@ -1,11 +1,10 @@
-use Rattle.std.proofs.Common.{◌∙◌, ap, subst, sym}
+use Rattle.std.proofs.Common.{◌∙◌, Ok, ap, subst, sym}
 use Rattle.streams.specs.Sinks.{writer_of}
 use Rattle.book_core.specs.Transition.{IsTransition}
 use Rattle.book_http.specs.declared.requested.Requested.TheVariants as requested
 use Rattle.book_http.specs.Replies.{reply_of}
 use Rattle.book_http.proofs.ServeLemmas.{refuses}
 use Rattle.book_http.proofs.StreamLemmas.{sized_sent}
-use Rattle.chargectl.specs.declared.client_requests.Told.TheVariants as tells
 use Rattle.chargectl.specs.ClientRequests.{SendsLong, SendsOpen, StreamsAnswer}
 use Rattle.chargectl.proofs.ClientLemmas.{details_open, written_so}
 use Rattle.chargectl.proofs.client_requests.ask_open.Goals as goal
@@ -49,6 +48,6 @@ returns-in-Ok-clause-came g c =
     record {
       sends = subst
           (λ request. SendsOpen request (contents c.args.writer) (contents c.into_inner.result)
-          (tells.Sent sent.result)) (sym c.in-Details.is) sends;
+          (Ok sent.result)) (sym c.in-Details.is) sends;
       failed = λ told. c.into_inner.ensures.cause (sent.ensures.failed ∙ told);
     }
