@@ -149,12 +149,11 @@ module _ (naming : Naming) (once twice : Reply) (before : Book) (first second : 
       (unhindered.whole a.receipt (one.replied ∙ ap (office_reply kinds.Text) a.counted)) b.imported
 
   -- what a head asks
-  asked_twice : (wanted : Asked) (behind : List ℕ)
+  asked_twice : (wanted : Asked ℕ) (behind : List ℕ)
       → AnswersAsked naming wanted behind once false before first between → IsUnhindered once
       → AnswersAsked naming wanted behind twice between (after_all first before) second is
       → after_all (second ++ first) before ≡ after_all first before
-  asked_twice (asks.Refusal status) behind one unhindered two = nothing_more two.none.none
-  asked_twice (asks.OtherMethod method) behind one unhindered two = nothing_more two.none.none
+  asked_twice (asks.Settled due) behind one unhindered two = nothing_more two.none.none
   asked_twice (asks.Report report) behind one unhindered two =
       nothing_more (report_none naming report twice between (after_all first before) second is two)
   asked_twice (asks.Details wanted) behind one unhindered two =
@@ -205,11 +204,9 @@ body_answered true naming layout body reply past was events is made =
 body_answered false naming layout body reply past was events is made =
     receives_answered naming (whole_dump layout body) made.told past was events is made.made
 
-asked_answered : (wanted : Asked) (naming : Naming) (behind : List ℕ) (reply : Reply)
+asked_answered : (wanted : Asked ℕ) (naming : Naming) (behind : List ℕ) (reply : Reply)
     → MakesAnswered naming (AnswersAsked naming wanted behind reply)
-asked_answered (asks.Refusal status) naming behind reply past was events is made =
-    none_answered naming past events made.none.none
-asked_answered (asks.OtherMethod method) naming behind reply past was events is made =
+asked_answered (asks.Settled due) naming behind reply past was events is made =
     none_answered naming past events made.none.none
 asked_answered (asks.Report report) naming behind reply past was events is made =
     none_answered naming past events

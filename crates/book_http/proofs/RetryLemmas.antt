@@ -84,14 +84,12 @@ module _ (once twice alone : Reply) (before : Book) (first second all : List Eve
       ]
 
   -- what a head asks
-  asked_mended : (wanted : Asked) (naming : Naming) (behind : List ℕ)
+  asked_mended : (wanted : Asked ℕ) (naming : Naming) (behind : List ℕ)
       → (first ≡ []) ⊎ AnswersAsked naming wanted behind once false before first between
       → AnswersAsked naming wanted behind twice false (after_all first before) second is
       → IsWhole twice → AnswersAsked naming wanted behind alone false before all end
       → IsUnhindered alone → after_all (second ++ first) before ≡ after_all all before
-  asked_mended (asks.Refusal status) naming behind one two whole single unhindered =
-      none_at_all (none_once one (λ made. made.none.none)) two.none.none single.none.none
-  asked_mended (asks.OtherMethod method) naming behind one two whole single unhindered =
+  asked_mended (asks.Settled due) naming behind one two whole single unhindered =
       none_at_all (none_once one (λ made. made.none.none)) two.none.none single.none.none
   asked_mended (asks.Report report) naming behind one two whole single unhindered =
       none_at_all

@@ -34,7 +34,7 @@ use Rattle.book_http.specs.declared.asked.Asked.TheVariants as asks
 use Rattle.book_http.specs.declared.status.Status.TheVariants.{BadRequest, NotFound, Unavailable}
 use Rattle.book_http.specs.Asked.{asked}
 use Rattle.book_http.specs.Head.{HasHead, HasNoHead}
-use Rattle.book_http.specs.Replies.{Reply, success, refusal, other_method, receipt_reply}
+use Rattle.book_http.specs.Replies.{Reply, success, refusal, receipt_reply, reply_of}
 
 abbrev pub body_kind : Report → BodyKind
 body_kind (report.OfPeriod StatementTable period centre) = Csv
@@ -127,9 +127,8 @@ AnswersBody Whole size behind reply =
     UnlessBad (nat_lt (length behind) size) (Whole (take size behind) reply) reply
 
 -- what is asked is answered, by the bytes after the head
-abbrev pub AnswersAsked : Naming → Asked → List ℕ → Reply → Transition
-AnswersAsked naming (asks.Refusal status) behind reply = RefusesRequest (refusal status) reply
-AnswersAsked naming (asks.OtherMethod method) behind reply = RefusesRequest (other_method method) reply
+abbrev pub AnswersAsked : Naming → Asked ℕ → List ℕ → Reply → Transition
+AnswersAsked naming (asks.Settled due) behind reply = RefusesRequest (reply_of due) reply
 AnswersAsked naming (asks.Report report) behind reply = AnswersReport naming report reply
 AnswersAsked naming (asks.Details wanted) behind reply = AnswersDetails naming wanted reply
 AnswersAsked naming (asks.Import layout size) behind reply =

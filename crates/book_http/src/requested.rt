@@ -25,48 +25,23 @@ use crate::routes::Routes;
 use crate::served::Unanswered;
 use crate::status::Status;
 use book_core::Source;
-use book_reports::DetailReport;
 use httparse::spans::EMPTY_HEADER_SPAN;
-use office::{Report, WhatIf};
-use smf_frames::Layout;
 use std::alloc::Global;
 use streams::Reader;
-
-/// What a request asks that was read whole.
-#[derive(Drop)]
-pub enum Requested {
-    /// Nothing of the books: this answers it.
-    Settled(Answer),
-    /// One answer of the office.
-    Office(OfficeRequest),
-    /// The details of a period, whose text is sent while it is read.
-    Details(DetailReport),
-}
-
-/// What is asked of the office, with the body that it takes.
-#[derive(Drop)]
-pub enum OfficeRequest {
-    /// A report.
-    Report(Report),
-    /// What a period would have cost by the tariff that the body is.
-    WhatIf { what_if: WhatIf, body: Vec<u8> },
-    /// The import of the body, which is a whole dump.
-    Import { layout: Layout, body: Vec<u8> },
-}
 
 /// A read failed before the request was whole.
 #[derive(Clone, Copy)]
 pub struct ReadFailed;
 
 /// What is asked without a whole body: nothing.
-fn refuse_body(fault: BodyFault) -> Result<Requested, ReadFailed>
+fn refuse_body(fault: BodyFault) -> Result<Asked<Vec<u8>>, ReadFailed>
     ensures refused { IfOk result (λ request.
         request_seen request ≡ Settles (refusal (body_status fault))) }
     ensures failed { is_err result ≡ is_failed_read fault }
 {
     match fault {
-        BodyFault::Short => Ok(Requested::Settled(Answer::Refusal(Status::BadRequest))),
-        BodyFault::Memory => Ok(Requested::Settled(Answer::Refusal(Status::Unavailable))),
+        BodyFault::Short => Ok(Asked::Settled(Answer::Refusal(Status::BadRequest))),
+        BodyFault::Memory => Ok(Asked::Settled(Answer::Refusal(Status::Unavailable))),
         BodyFault::Read => Err(ReadFailed),
     }
 }
@@ -76,8 +51,8 @@ fn read_asked<R: Reader + Drop>(
     alloc: Global,
     source: &mut Source<R>,
     front: &[u8],
-    asked: Asked,
-) -> Result<Requested, ReadFailed>
+    asked: Asked<u64>,
+) -> Result<Asked<Vec<u8>>, ReadFailed>
     requires limit { IsServable asked }
     requires asked { reads_of source.old ≤ 2 ^ 62 + most_head_bytes }
     requires failed { has_failed source.old ≡ false }
@@ -89,18 +64,17 @@ fn read_asked<R: Reader + Drop>(
         (has_ended source.new) (R.remaining (reader_of source.new)) }
 {
     match asked {
-        Asked::Report(report) => Ok(Requested::Office(OfficeRequest::Report(report))),
-        Asked::Details(details) => Ok(Requested::Details(details)),
+        Asked::Report(report) => Ok(Asked::Report(report)),
+        Asked::Details(details) => Ok(Asked::Details(details)),
         Asked::WhatIf(what_if, size) => match read_body(alloc, source, front, size as usize) {
-            Ok(body) => Ok(Requested::Office(OfficeRequest::WhatIf { what_if, body })),
+            Ok(body) => Ok(Asked::WhatIf(what_if, body)),
             Err(fault) => refuse_body(fault),
         },
         Asked::Import(layout, size) => match read_body(alloc, source, front, size as usize) {
-            Ok(body) => Ok(Requested::Office(OfficeRequest::Import { layout, body })),
+            Ok(body) => Ok(Asked::Import(layout, body)),
             Err(fault) => refuse_body(fault),
         },
-        Asked::Refusal(status) => Ok(Requested::Settled(Answer::Refusal(status))),
-        Asked::OtherMethod(method) => Ok(Requested::Settled(Answer::OtherMethod(method))),
+        Asked::Settled(answer) => Ok(Asked::Settled(answer)),
     }
 }
 
@@ -109,7 +83,7 @@ fn read_rest<R: Reader + Drop>(
     routes: &mut Routes,
     source: &mut Source<R>,
     request: &Request<'_>,
-) -> Result<Requested, ReadFailed>
+) -> Result<Asked<Vec<u8>>, ReadFailed>
     requires text { IsUtf8 request.now.target.now }
     requires asked { reads_of source.old ≤ 2 ^ 62 + most_head_bytes }
     requires failed { has_failed source.old ≡ false }
@@ -123,7 +97,7 @@ fn read_rest<R: Reader + Drop>(
         (has_ended source.new) (R.remaining (reader_of source.new)) }
 {
     let Ok(found) = find_route(routes, request.target) else {
-        return Ok(Requested::Settled(Answer::Refusal(Status::Unavailable)));
+        return Ok(Asked::Settled(Answer::Refusal(Status::Unavailable)));
     };
     let asked = asked_framed(
         request.framing,
@@ -140,7 +114,7 @@ fn read_rest<R: Reader + Drop>(
 pub fn read_request<R: Reader + Drop>(
     routes: &mut Routes,
     source: &mut Source<R>,
-) -> Result<Requested, Unanswered>
+) -> Result<Asked<Vec<u8>>, Unanswered>
     requires asked { reads_of source.old ≤ 2 ^ 62 }
     requires failed { has_failed source.old ≡ false }
     requires ended { has_ended source.old ≡ false }
@@ -162,7 +136,7 @@ pub fn read_request<R: Reader + Drop>(
     match read_head(source, &mut buffer, &mut fields) {
         HeadRead::Closed => Err(Unanswered::Closed),
         HeadRead::Failed => Err(Unanswered::Failed),
-        HeadRead::Refused => Ok(Requested::Settled(Answer::Refusal(Status::BadRequest))),
+        HeadRead::Refused => Ok(Asked::Settled(Answer::Refusal(Status::BadRequest))),
         HeadRead::Whole(whole) => {
             let request = request_in(&buffer[..whole.filled], &fields, whole.spans);
             let Ok(requested) = read_rest(routes, source, &request) else {

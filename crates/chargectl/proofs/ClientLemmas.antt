@@ -7,14 +7,13 @@ use Rattle.book_model.specs.Words.{Book, Event}
 use Rattle.book_core.specs.Words.{Seen, IsTransition, NoEvent}
 use Rattle.book_reports.specs.declared.streamed_details.DetailReport.{DetailReport}
 use Rattle.book_http.specs.declared.answer.Answer.{Answer}
-use Rattle.book_http.specs.declared.requested.Requested.{Requested}
 use Rattle.book_http.specs.declared.served.Served.{Served}
 use Rattle.book_http.specs.declared.status.Status.TheVariants.{Unavailable}
 use Rattle.book_http.specs.Answer.{RefusesRequest, most_gathered}
 use Rattle.book_http.specs.Reads.{AreDue, IsDue, ReadOutcome, ReadsOn, bytes_read, ended_after}
 use Rattle.book_http.specs.Reads.{failed_after}
 use Rattle.book_http.specs.Replies.{Reply, refusal, reply_of}
-use Rattle.book_http.specs.Requested.{AnswersRequest, AreAsking, request_seen}
+use Rattle.book_http.specs.Requested.{AnswersRequest, AreAsking, WholeRequest, request_seen}
 use Rattle.book_http.specs.Served.{IsSent, IsSentAsRead, SendsReplyAsRead, is_read_fault}
 use Rattle.book_http.specs.Served.{is_unanswered}
 use Rattle.book_http.proofs.ServeLemmas.{bytes_answered}
@@ -23,11 +22,12 @@ use Rattle.named_books.specs.Shelves.{IsUntouched}
 use Rattle.named_books.proofs.ShelfLemmas.{untouched}
 use Rattle.chargectl.specs.ClientRequests.{AsksOpen, ComesOpen, EndsBy, EndsUnseen, FailsBefore}
 use Rattle.chargectl.specs.ClientRequests.{IsAnsweredFrom, IsReplied, IsServedByReads, IsServedFrom}
-use Rattle.chargectl.specs.ClientRequests.{SendsOpen, StreamsAnswer, away_reply, is_streamed}
+use Rattle.chargectl.specs.ClientRequests.{SendsOpen, StreamsAnswer, asks_books, away_reply}
+use Rattle.chargectl.specs.ClientRequests.{is_streamed}
 use Rattle.chargectl.specs.Serving.{AnswersSome, Fits, Replies, ServesOne, is_answered}
 use Rattle.chargectl.proofs.Words.{work_as, RepositoryFault, ComesBy, IsDoneTo, IsOpened, Shelf}
 use Rattle.chargectl.proofs.Words.{done_as}
-use Rattle.book_http.specs.declared.requested.Requested.TheVariants as requested
+use Rattle.book_http.specs.declared.asked.Asked.TheVariants as wants
 use Rattle.book_http.specs.declared.served.Served.TheVariants as served
 use Rattle.named_books.specs.declared.repository.RepositoryFault.TheVariants as shelf
 
@@ -43,10 +43,10 @@ written_so Is old held has holds one two is =
 pub details_open : (old new : Seen) (details : DetailReport) (size : ℕ)
     (held holds : Option (List ℕ)) (what : Served) → most_gathered < size
     → IsTransition old new (SendsReplyAsRead (AnswersSized old.naming details size) held holds what)
-    → IsTransition old new (StreamsAnswer old.naming (requested.Details details) held holds what)
+    → IsTransition old new (StreamsAnswer old.naming (wants.Details details) held holds what)
 details_open old new details size held holds what long sends =
     work_as old new (SendsReplyAsRead (AnswersSized old.naming details size) held holds what)
-    (StreamsAnswer old.naming (requested.Details details) held holds what)
+    (StreamsAnswer old.naming (wants.Details details) held holds what)
     (λ was before events is it. record {
       reply = it.reply;
       long = subst (λ size. most_gathered < size) (sym it.answer.1) long;
@@ -61,7 +61,7 @@ details_open old new details size held holds what long sends =
 -- a request that asks nothing of the books
 pub settled : (book : List ℕ) (place : Shelf) (answer : Answer) (held holds : Option (List ℕ))
     (what : Served) → IsSent (reply_of answer) held holds what
-    → IsAnsweredFrom book place place (requested.Settled answer) held holds what
+    → IsAnsweredFrom book place place (wants.Settled answer) held holds what
 settled book place answer held holds what sent = record {
   told = Ok (Err answer);
   shown = held;
@@ -72,7 +72,13 @@ settled book place answer held holds what sent = record {
   ends = sent;
 }
 
-module _ (request : Requested) (held shown : Option (List ℕ)) (Failed Same : Type 0) where
+-- what asks nothing of them is settled
+pub settled_by : (request : WholeRequest) → asks_books request ≡ false
+    → (answer : Answer) × (request ≡ wants.Settled answer)
+settled_by (wants.Settled answer) none = (answer, refl)
+settled_by request none = absurd (true≢false none)
+
+module _ (request : WholeRequest) (held shown : Option (List ℕ)) (Failed Same : Type 0) where
   -- so much was sent by a visit, or nothing, where there was none
   pub sent_open : (told : Result (Result Served Answer) RepositoryFault) → (Same → shown ≡ held)
       → ComesBy (ComesOpen request held shown Failed) Same told
@@ -136,7 +142,7 @@ whole_fits : (reply : Reply) (held holds : Option (List ℕ)) (what : Served)
 whole_fits reply held holds (served.Answered status) sent = sent.0
 whole_fits reply held holds what sent = tt
 
-module _ (book : List ℕ) (old new : Shelf) (bytes : List ℕ) (request : Requested)
+module _ (book : List ℕ) (old new : Shelf) (bytes : List ℕ) (request : WholeRequest)
     (asks : AreAsking bytes (request_seen request)) (held shown holds : Option (List ℕ))
     (what : Served) where
   -- a request that was answered answers its bytes
