@@ -6,6 +6,7 @@ mod answer_head;
 mod asked;
 mod body;
 mod decimal_value;
+mod endpoint;
 mod framing;
 mod head;
 mod host;

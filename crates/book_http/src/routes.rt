@@ -1,91 +1,135 @@
 //! The routes of the server.
 
-ghost use Rattle.std.specs.Prelude.{◌≡◌, IfOk, IfSome};
+ghost use Rattle.std.specs.Prelude.{◌≡◌, IfOk, IfSome, string_bytes};
 ghost use Rattle.std.proofs.Props.{props};
 ghost use Rattle.book_http.specs.Routes as spec;
 ghost use Rattle.book_http.specs.Routes.{route_rows};
 
-use crate::route::Endpoint;
+use crate::endpoint::{Endpoint, front_of, shape_of};
 use matchit::{InsertError, Router};
-use office::{PeriodReport, StatementForm};
+use office::StatementForm;
+use report_rows::{ReportName, Shape, all_reports};
 use smf_frames::Layout;
 use std::alloc::{AllocError, Global};
 
-/// A router with one more endpoint.
-fn with_endpoint(
+/// The endpoints that are no reports.
+static OTHER_PLACES: [Endpoint; 5] = [
+    Endpoint::Office,
+    Endpoint::WhatIf(StatementForm::Text),
+    Endpoint::WhatIf(StatementForm::Table),
+    Endpoint::Import(Layout::Rdw),
+    Endpoint::Import(Layout::Bdw),
+];
+
+fn other_places() -> &'static [Endpoint]
+    ensures { result.now ≡ spec.other_places }
+{
+    OTHER_PLACES.as_slice()
+}
+
+/// The route of a front with whatever follows it.
+fn open_route(alloc: Global, front: &str) -> Result<String, AllocError>
+    ensures { IfOk result (λ route. string_bytes route ≡ spec.open_route front.now) }
+{
+    let mut route = String::new(alloc);
+    route.push_str(front)?;
+    route.push_str("{*rest}")?;
+    Ok(route)
+}
+
+/// A router with one more route.
+fn with_route(
     mut router: Router<Endpoint>,
     route: &str,
-    endpoint: Endpoint,
+    place: Endpoint,
 ) -> Result<Router<Endpoint>, InsertError>
-    ensures { IfOk result (λ more. more ≡ spec.with_route route.now endpoint router) }
+    ensures { IfOk result (λ more. more ≡ spec.with_route route.now place router) }
 {
-    router.insert(route, endpoint)?;
+    router.insert(route, place)?;
     Ok(router)
 }
 
-/// The routes of all endpoints.
-static ROUTES: [(&str, Endpoint); 18] = [
-    ("/periods", Endpoint::Periods),
-    (
-        "/statement/{*rest}",
-        Endpoint::OfPeriod(PeriodReport::Statement),
-    ),
-    (
-        "/statement-csv/{*rest}",
-        Endpoint::OfPeriod(PeriodReport::StatementTable),
-    ),
-    (
-        "/adjustments/{*rest}",
-        Endpoint::OfPeriod(PeriodReport::AdjustmentList),
-    ),
-    (
-        "/adjustments-csv/{*rest}",
-        Endpoint::OfPeriod(PeriodReport::AdjustmentTable),
-    ),
-    ("/details/{*rest}", Endpoint::Details(StatementForm::Text)),
-    (
-        "/details-csv/{*rest}",
-        Endpoint::Details(StatementForm::Table),
-    ),
-    ("/disputes", Endpoint::Disputes),
-    ("/disputes-csv", Endpoint::DisputesCsv),
-    ("/record/{*rest}", Endpoint::Record),
-    ("/rulings", Endpoint::Rulings),
-    ("/tariff/{*rest}", Endpoint::Tariff),
-    ("/what-if/{*rest}", Endpoint::WhatIf(StatementForm::Text)),
-    (
-        "/what-if-csv/{*rest}",
-        Endpoint::WhatIf(StatementForm::Table),
-    ),
-    ("/import", Endpoint::Import(Layout::Rdw)),
-    ("/import-bdw", Endpoint::Import(Layout::Bdw)),
-    ("/", Endpoint::Office),
-    ("/period/{*rest}", Endpoint::Period),
-];
-
-/// They are read whole here, so that callers need not.
-fn all_routes() -> &'static [(&'static str, Endpoint)]
-    ensures { spec.rows_by result.now ≡ route_rows }
+/// The paths of this shape name nothing behind their front.
+fn is_plain(shape: Shape) -> bool
+    ensures { result ≡ spec.is_plain shape }
 {
-    ROUTES.as_slice()
+    match shape {
+        Shape::OfOffice => true,
+        _ => false,
+    }
 }
 
-/// A router of routes, which are put in one after the other. An error means that memory ran out.
-fn router_of(alloc: Global, routes: &[(&str, Endpoint)]) -> Result<Router<Endpoint>, InsertError>
-    ensures { IfOk result (λ router. router ≡ spec.rows_by routes.now) }
+/// A router with an endpoint at this front.
+fn with_front(
+    alloc: Global,
+    router: Router<Endpoint>,
+    place: Endpoint,
+    front: &str,
+) -> Result<Router<Endpoint>, InsertError>
+    ensures { IfOk result (λ more. more ≡ spec.with_front place (Some front.now) router) }
+{
+    if is_plain(shape_of(place)) {
+        return with_route(router, front, place);
+    }
+    let Ok(route) = open_route(alloc, front) else {
+        return Err(InsertError::OutOfMemory);
+    };
+    with_route(router, route.as_str(), place)
+}
+
+/// A router with an endpoint, if that is served.
+fn with_place(
+    alloc: Global,
+    router: Router<Endpoint>,
+    place: Endpoint,
+) -> Result<Router<Endpoint>, InsertError>
+    ensures { IfOk result (λ more. more ≡ spec.with_place place router) }
+{
+    match front_of(place) {
+        Some(front) => with_front(alloc, router, place, front),
+        None => Ok(router),
+    }
+}
+
+/// A router of endpoints, which are put in one after the other. An error means that memory ran out.
+fn router_of(alloc: Global, places: &[Endpoint]) -> Result<Router<Endpoint>, InsertError>
+    ensures { IfOk result (λ router. router ≡ spec.rows_of places.now) }
 {
     let mut router = Router::new(alloc);
-    for route in routes {
-        router = with_endpoint(router, route.0, route.1)?;
+    for place in places {
+        router = with_place(alloc, router, *place)?;
     }
     Ok(router)
 }
 
-/// The endpoints by their paths.
+/// A router with a report, in both forms.
+fn with_report(
+    alloc: Global,
+    router: Router<Endpoint>,
+    name: ReportName,
+) -> Result<Router<Endpoint>, InsertError>
+    ensures { IfOk result (λ more. more ≡ spec.with_report router name) }
+{
+    let router = with_place(alloc, router, Endpoint::Report(name, StatementForm::Text))?;
+    with_place(alloc, router, Endpoint::Report(name, StatementForm::Table))
+}
+
+/// A router of reports, and of what else is served.
+fn router_with(alloc: Global, names: &[ReportName]) -> Result<Router<Endpoint>, InsertError>
+    ensures { IfOk result (λ router. router ≡ spec.rows_with names.now) }
+{
+    let mut router = router_of(alloc, other_places())?;
+    for name in names {
+        router = with_report(alloc, router, *name)?;
+    }
+    Ok(router)
+}
+
+/// All that is served, by its paths.
 fn endpoints(alloc: Global) -> Result<Router<Endpoint>, InsertError>
     ensures { IfOk result (λ router. router ≡ route_rows) }
 {
-    router_of(alloc, all_routes())
+    router_with(alloc, all_reports())
 }
 
 /// The endpoint of a path, if it has one.

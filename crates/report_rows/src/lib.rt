@@ -7,5 +7,5 @@ mod named_reports;
 pub mod report_row;
 
 pub use about::{About, report_about};
-pub use named_reports::named_report;
+pub use named_reports::{all_reports, named_report};
 pub use report_row::{BodyKind, ReportName, ReportRow, Shape, row_of};

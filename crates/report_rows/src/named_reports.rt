@@ -5,7 +5,8 @@ ghost use Rattle.report_rows.specs.ReportRows as spec;
 
 use crate::report_row::{REPORTS, ReportName, row_of};
 
-fn all_reports() -> &'static [ReportName]
+/// The reports in the order of the program's help.
+pub fn all_reports() -> &'static [ReportName]
     ensures { result.now ≡ spec.reports }
 {
     REPORTS.as_slice()
