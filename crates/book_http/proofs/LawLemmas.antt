@@ -28,8 +28,8 @@ use Rattle.office.specs.Requests.{Receives, whole_dump}
 use Rattle.office.proofs.LawLemmas.{receives_answered}
 use Rattle.book_http.specs.declared.asked.Asked.{Asked}
 use Rattle.book_http.specs.declared.asked.Asked.TheVariants as asks
-use Rattle.book_http.specs.declared.answer_head.BodyKind.{BodyKind}
-use Rattle.book_http.specs.declared.answer_head.BodyKind.TheVariants as kinds
+use Rattle.report_rows.specs.declared.report_row.BodyKind.{BodyKind}
+use Rattle.report_rows.specs.declared.report_row.BodyKind.TheVariants as kinds
 use Rattle.book_http.specs.Asked.{asked}
 use Rattle.book_http.specs.Answer.{office_reply, AnswersOffice, AnswersReport, AnswersImport}
 use Rattle.book_http.specs.Answer.{AnswersDetails, AnswersWhatIf, AnswersBody, AnswersAsked, Prices}
@@ -57,11 +57,11 @@ text_none kind text reply was before events is no_event answers =
     ]
 
 -- a report is no event
-pub report_none : (naming : Naming) (asked : Report) (reply : Reply) (was : Bool) (before : Book)
-    (events : List Event) (is : Bool) → AnswersReport naming asked reply was before events is
-    → events ≡ []
-report_none naming asked reply was before events is answers =
-    text_none _ (report_outcome naming asked) reply was before events is refl answers
+pub report_none : (naming : Naming) (asked : Report) (kind : BodyKind) (reply : Reply) (was : Bool)
+    (before : Book) (events : List Event) (is : Bool)
+    → AnswersReport naming asked kind reply was before events is → events ≡ []
+report_none naming asked kind reply was before events is answers =
+    text_none kind (report_outcome naming asked) reply was before events is refl answers
 
 -- nor are details
 pub details_none : (naming : Naming) (wanted : DetailReport) (reply : Reply) (was : Bool) (before : Book)
@@ -154,8 +154,9 @@ module _ (naming : Naming) (once twice : Reply) (before : Book) (first second : 
       → AnswersAsked naming wanted behind twice between (after_all first before) second is
       → after_all (second ++ first) before ≡ after_all first before
   asked_twice (asks.Settled due) behind one unhindered two = nothing_more two.none.none
-  asked_twice (asks.Report report) behind one unhindered two =
-      nothing_more (report_none naming report twice between (after_all first before) second is two)
+  asked_twice (asks.Report report kind) behind one unhindered two =
+      nothing_more
+      (report_none naming report kind twice between (after_all first before) second is two)
   asked_twice (asks.Details wanted) behind one unhindered two =
       nothing_more (details_none naming wanted twice between (after_all first before) second is two)
   asked_twice (asks.WhatIf what_if size) behind one unhindered two =
@@ -208,9 +209,9 @@ asked_answered : (wanted : Asked ℕ) (naming : Naming) (behind : List ℕ) (rep
     → MakesAnswered naming (AnswersAsked naming wanted behind reply)
 asked_answered (asks.Settled due) naming behind reply past was events is made =
     none_answered naming past events made.none.none
-asked_answered (asks.Report report) naming behind reply past was events is made =
+asked_answered (asks.Report report kind) naming behind reply past was events is made =
     none_answered naming past events
-    (report_none naming report reply was (book_after past) events is made)
+    (report_none naming report kind reply was (book_after past) events is made)
 asked_answered (asks.Details wanted) naming behind reply past was events is made =
     none_answered naming past events
     (details_none naming wanted reply was (book_after past) events is made)
@@ -236,9 +237,9 @@ pub wanted_answered : (naming : Naming) (request : RequestSeen) (reply : Reply)
     → MakesAnswered naming (AnswersRequest naming request reply)
 wanted_answered naming (Settles due) reply past was events is made =
     none_answered naming past events made.none.none
-wanted_answered naming (WantsReport report) reply past was events is made =
+wanted_answered naming (WantsReport report kind) reply past was events is made =
     none_answered naming past events
-    (report_none naming report reply was (book_after past) events is made)
+    (report_none naming report kind reply was (book_after past) events is made)
 wanted_answered naming (WantsDetails wanted) reply past was events is made =
     none_answered naming past events
     (details_none naming wanted reply was (book_after past) events is made)

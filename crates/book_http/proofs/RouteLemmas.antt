@@ -3,6 +3,7 @@ use Rattle.std.proofs.Common.{◌≡◌, ◌∙◌, List, ◌++◌, refl, ap, �
 use Rattle.std.specs.Option.{option_and_then}
 use Rattle.std.specs.Prelude.{option_map}
 use Rattle.report_rows.specs.Abouts.{report_about}
+use Rattle.report_rows.specs.ReportRows.{kind_in, row_of}
 use Rattle.report_rows.specs.declared.about.About.{About}
 use Rattle.report_rows.specs.declared.report_row.ReportName.{ReportName}
 use Rattle.report_rows.specs.declared.report_row.ReportName.TheVariants as report
@@ -20,7 +21,8 @@ use Rattle.book_http.proofs.ThingLemmas.{thing_found, thing_named}
 -- any report but details is made whole
 pub made_whole : (name : ReportName) (form : StatementForm) (thing : About)
     → (name ≡ report.Details → ⊥)
-    → report_of name form thing ≡ whole_report (report_about name form thing)
+    → report_of name form thing
+    ≡ whole_report (kind_in (row_of name) form) (report_about name form thing)
 made_whole report.Details form thing other = absurd (other refl)
 made_whole name form thing other = refl
 

@@ -51,7 +51,7 @@ asked_answered : (wanted : Asked ℕ) (naming : Naming) (behind : List ℕ) (rep
     → Implies (AnswersRequest naming (wanted_by wanted behind) reply)
     (AnswersAsked naming wanted behind reply)
 asked_answered (asks.Settled due) naming behind reply = λ was before events is made. made
-asked_answered (asks.Report report) naming behind reply = λ was before events is made. made
+asked_answered (asks.Report report kind) naming behind reply = λ was before events is made. made
 asked_answered (asks.Details details) naming behind reply = λ was before events is made. made
 asked_answered (asks.WhatIf what_if size) naming behind reply =
     wanted_answered (nat_lt (length behind) size) naming (WantsWhatIf what_if)
@@ -127,7 +127,8 @@ details_wanted : (wanted : Asked ℕ) (behind : List ℕ) (details : DetailRepor
 details_wanted (asks.Details other) behind details same =
     ap asks.Details (sym (ap (details_or details) same))
 details_wanted (asks.Settled due) behind details same = absurd (true≢false (ap are_details same))
-details_wanted (asks.Report report) behind details same = absurd (true≢false (ap are_details same))
+details_wanted (asks.Report report kind) behind details same =
+    absurd (true≢false (ap are_details same))
 details_wanted (asks.WhatIf what_if size) behind details same =
     absurd (true≢false (ap are_details same
     ∙ no_details (nat_lt (length behind) size) (refusal BadRequest)

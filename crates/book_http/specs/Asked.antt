@@ -39,14 +39,14 @@ asked_body takes (Err status) = asks.Settled (Refusal status)
 
 -- what is asked at a route by its method: a dump and a tariff are submitted alike
 abbrev pub asked_on : Route → Bool → Framing → Asked ℕ
-asked_on (Report report) origin body = asks.Report report
+asked_on (Report report kind) origin body = asks.Report report kind
 asked_on (Details details) origin body = asks.Details details
 asked_on (WhatIf what_if) origin body = asked_body (asks.WhatIf what_if) (posted_size origin body)
 asked_on (Import layout) origin body = asked_body (asks.Import layout) (posted_size origin body)
 
 -- each route has one method
 abbrev pub method_of : Route → Method
-method_of (Report report) = Get
+method_of (Report report kind) = Get
 method_of (Details details) = Get
 method_of (WhatIf what_if) = Post
 method_of (Import layout) = Post

@@ -10,9 +10,11 @@ use Rattle.book_reports.specs.declared.report.Report.TheVariants as made
 use Rattle.book_reports.specs.declared.what_if.StatementForm.{StatementForm}
 use Rattle.book_reports.specs.declared.what_if.StatementForm.TheVariants as shown_as
 use Rattle.report_rows.specs.Abouts.{report_about}
-use Rattle.report_rows.specs.ReportRows.{path_in, row_of}
+use Rattle.report_rows.specs.ReportRows.{kind_in, path_in, row_of}
 use Rattle.report_rows.specs.declared.about.About.{About}
 use Rattle.report_rows.specs.declared.about.About.TheVariants as about
+use Rattle.report_rows.specs.declared.report_row.BodyKind.{BodyKind}
+use Rattle.report_rows.specs.declared.report_row.BodyKind.TheVariants.{Page}
 use Rattle.report_rows.specs.declared.report_row.ReportName.{ReportName}
 use Rattle.report_rows.specs.declared.report_row.ReportName.TheVariants as report
 use Rattle.report_rows.specs.declared.report_row.Shape.{Shape}
@@ -78,18 +80,19 @@ what_if_of form (about.OfCentre n centre) =
     Some (route_to.WhatIf (record { form = form; period = n; centre = centre }))
 what_if_of form thing = None
 
--- any other report is made whole
-abbrev pub whole_report : Option Report → Option Route
-whole_report asked = option_map route_to.Report asked
+-- any other report is made whole, as a body of this kind
+abbrev pub whole_report : BodyKind → Option Report → Option Route
+whole_report kind found = option_map (λ asked. route_to.Report asked kind) found
 
 abbrev pub report_of : ReportName → StatementForm → About → Option Route
 report_of report.Details form thing = details_of form thing
-report_of name form thing = whole_report (report_about name form thing)
+report_of name form thing =
+    whole_report (kind_in (row_of name) form) (report_about name form thing)
 
 -- what is asked at an endpoint of what a path names
 abbrev pub asked_of : Endpoint → About → Option Route
 asked_of (endpoint.Report name form) thing = report_of name form thing
-asked_of endpoint.Office thing = Some (route_to.Report made.OfficePage)
+asked_of endpoint.Office thing = Some (route_to.Report made.OfficePage Page)
 asked_of (endpoint.WhatIf form) thing = what_if_of form thing
 asked_of (endpoint.Import layout) thing = Some (route_to.Import layout)
 

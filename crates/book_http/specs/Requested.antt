@@ -11,6 +11,7 @@ use Rattle.book_core.specs.Transition.{Transition}
 use Rattle.book_reports.specs.declared.report.Report.{Report}
 use Rattle.book_reports.specs.declared.streamed_details.DetailReport.{DetailReport}
 use Rattle.book_reports.specs.declared.what_if.WhatIf.{WhatIf}
+use Rattle.report_rows.specs.declared.report_row.BodyKind.{BodyKind}
 use Rattle.book_http.specs.declared.asked.Asked.{Asked}
 use Rattle.book_http.specs.declared.asked.Asked.TheVariants as asks
 use Rattle.book_http.specs.declared.requested.ReadFailed.{ReadFailed}
@@ -27,7 +28,7 @@ use Rattle.book_http.specs.Replies.{Reply, refusal, reply_of}
 -- what a request asks of the books; or the reply to it, where it asks nothing of them
 pub data RequestSeen : Type 0 where
   Settles : Reply → RequestSeen
-  WantsReport : Report → RequestSeen
+  WantsReport : Report → BodyKind → RequestSeen
   WantsDetails : DetailReport → RequestSeen
   WantsWhatIf : WhatIf → List ℕ → RequestSeen
   WantsImport : Layout → List ℕ → RequestSeen
@@ -38,7 +39,7 @@ WholeRequest = Asked (Vec ℕ Global)
 
 abbrev pub request_seen : WholeRequest → RequestSeen
 request_seen (asks.Settled due) = Settles (reply_of due)
-request_seen (asks.Report report) = WantsReport report
+request_seen (asks.Report report kind) = WantsReport report kind
 request_seen (asks.Details details) = WantsDetails details
 request_seen (asks.WhatIf what_if body) = WantsWhatIf what_if body.items
 request_seen (asks.Import layout body) = WantsImport layout body.items
@@ -52,7 +53,7 @@ wanted_with Wants size behind =
 -- what a head asks, by the bytes after it
 abbrev pub wanted_by : Asked ℕ → List ℕ → RequestSeen
 wanted_by (asks.Settled due) behind = Settles (reply_of due)
-wanted_by (asks.Report report) behind = WantsReport report
+wanted_by (asks.Report report kind) behind = WantsReport report kind
 wanted_by (asks.Details details) behind = WantsDetails details
 wanted_by (asks.WhatIf what_if size) behind = wanted_with (WantsWhatIf what_if) size behind
 wanted_by (asks.Import layout size) behind = wanted_with (WantsImport layout) size behind
@@ -100,7 +101,7 @@ IsReadAs ended (Err Failed) taken = Unit {0}
 -- a request is answered, and this is the reply
 abbrev pub AnswersRequest : Naming → RequestSeen → Reply → Transition
 AnswersRequest naming (Settles due) reply = RefusesRequest due reply
-AnswersRequest naming (WantsReport report) reply = AnswersReport naming report reply
+AnswersRequest naming (WantsReport report kind) reply = AnswersReport naming report kind reply
 AnswersRequest naming (WantsDetails wanted) reply = AnswersDetails naming wanted reply
 AnswersRequest naming (WantsWhatIf what_if body) reply = AnswersWhatIf what_if body reply
 AnswersRequest naming (WantsImport layout body) reply = AnswersImport naming layout body reply

@@ -13,6 +13,7 @@ use crate::route::Route;
 use crate::status::Status;
 use book_reports::DetailReport;
 use office::{Report, WhatIf};
+use report_rows::BodyKind;
 use smf_frames::Layout;
 
 /// What a request asks, with the body that it brings: how many bytes that has, or they themselves.
@@ -20,8 +21,8 @@ use smf_frames::Layout;
 pub enum Asked<Body> {
     /// Nothing of the books: this answers it.
     Settled(Answer),
-    /// A report.
-    Report(Report),
+    /// A report, and what kind of body it is.
+    Report(Report, BodyKind),
     /// The details of a period, whose text is sent while it is read.
     Details(DetailReport),
     /// What a period would have cost by the tariff that the body is.
@@ -62,7 +63,7 @@ fn asked_on(route: &Route, has_origin: bool, framing: Framing) -> Asked<u64>
     ensures limit { IsServable result }
 {
     match route {
-        Route::Report(report) => Asked::Report(*report),
+        Route::Report(report, kind) => Asked::Report(*report, *kind),
         Route::Details(details) => Asked::Details(*details),
         Route::WhatIf(what_if) => match posted_size(has_origin, framing) {
             Ok(size) => Asked::WhatIf(*what_if, size),
@@ -80,7 +81,7 @@ fn method_of(route: &Route) -> Method
     ensures { result ≡ spec.method_of route.now }
 {
     match route {
-        Route::Report(_) => Method::Get,
+        Route::Report(_, _) => Method::Get,
         Route::Details(_) => Method::Get,
         Route::WhatIf(_) => Method::Post,
         Route::Import(_) => Method::Post,

@@ -11,33 +11,17 @@ ghost use Rattle.book_http.specs.Replies.{reply_of};
 ghost use Rattle.book_http.specs.Served.{AsksOffice, IsGathered, IsRefused, Measures};
 
 use crate::answer::Answer;
-use crate::answer_head::BodyKind;
 use crate::asked::Asked;
 use crate::status::Status;
 use book_core::{Ledger, LedgerFault, Sink};
 use book_reports::{DetailReport, ReportFault, details_length, write_details};
-use office::{PeriodReport, Report, StatementForm, WhatIf, ask_without_reader};
+use office::{Report, StatementForm, WhatIf, ask_without_reader};
+use report_rows::BodyKind;
 use smf_frames::Layout;
 use std::alloc::Global;
 
 /// The most bytes of details that are gathered before they are sent.
 const MOST_GATHERED: usize = 16_777_216;
-
-/// The form of a report.
-fn body_kind(report: &Report) -> BodyKind
-    ensures { result ≡ spec.body_kind report.now }
-{
-    match report {
-        Report::DisputeTable
-        | Report::OfPeriod {
-            report: PeriodReport::StatementTable | PeriodReport::AdjustmentTable,
-            ..
-        } => BodyKind::Csv,
-        Report::OfficePage | Report::PeriodPage(_) => BodyKind::Page,
-        Report::TariffText(_) => BodyKind::TariffFile,
-        _ => BodyKind::Text,
-    }
-}
 
 /// The form of details, and of what a period would have cost.
 pub fn form_kind(form: StatementForm) -> BodyKind
@@ -65,12 +49,16 @@ fn answer_of(kind: BodyKind, told: Result<office::Answer, LedgerFault>) -> Answe
     }
 }
 
-/// Answers a report.
-fn answer_report<L: Ledger>(alloc: Global, ledger: &mut L, report: Report) -> Answer
+/// Answers a report, as a body of this kind.
+fn answer_report<L: Ledger>(
+    alloc: Global,
+    ledger: &mut L,
+    report: Report,
+    kind: BodyKind,
+) -> Answer
     ensures { IsTransition (L.seen ledger.old) (L.seen ledger.new)
-        (AnswersReport (L.seen ledger.old).naming report (reply_of result)) }
+        (AnswersReport (L.seen ledger.old).naming report kind (reply_of result)) }
 {
-    let kind = body_kind(&report);
     let asked = office::Asked::Report(report);
     answer_of(kind, ask_without_reader(alloc, ledger, &asked))
 }
@@ -174,7 +162,7 @@ pub fn ask_office<L: Ledger>(
 {
     match asked {
         Asked::Settled(answer) => Ok(answer),
-        Asked::Report(report) => Ok(answer_report(alloc, ledger, report)),
+        Asked::Report(report, kind) => Ok(answer_report(alloc, ledger, report, kind)),
         Asked::Details(details) => Err(details),
         Asked::WhatIf(what_if, body) => Ok(answer_what_if(alloc, ledger, what_if, body)),
         Asked::Import(layout, body) => Ok(answer_import(alloc, ledger, layout, body)),

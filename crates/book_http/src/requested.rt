@@ -64,7 +64,7 @@ fn read_asked<R: Reader + Drop>(
         (has_ended source.new) (R.remaining (reader_of source.new)) }
 {
     match asked {
-        Asked::Report(report) => Ok(Asked::Report(report)),
+        Asked::Report(report, kind) => Ok(Asked::Report(report, kind)),
         Asked::Details(details) => Ok(Asked::Details(details)),
         Asked::WhatIf(what_if, size) => match read_body(alloc, source, front, size as usize) {
             Ok(body) => Ok(Asked::WhatIf(what_if, body)),

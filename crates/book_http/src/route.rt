@@ -11,7 +11,7 @@ use crate::endpoint::{Endpoint, front_of, shape_of};
 use crate::routes::Routes;
 use book_reports::{DetailReport, name_of_text};
 use office::{Report, StatementForm, WhatIf, centre_named};
-use report_rows::{About, ReportName, Shape, report_about};
+use report_rows::{About, BodyKind, ReportName, Shape, report_about, row_of};
 use smf_frames::Layout;
 use smf_text::{Name, day_of_text};
 use std::alloc::AllocError;
@@ -20,8 +20,8 @@ use std::str;
 /// What a path is for.
 #[derive(Clone, Copy)]
 pub enum Route {
-    /// A report is read there.
-    Report(Report),
+    /// A report is read there, and what kind of body it is.
+    Report(Report, BodyKind),
     /// The details of a period are read there.
     Details(DetailReport),
     /// A tariff is submitted there: what a period would have cost by it is read.
@@ -170,11 +170,11 @@ fn what_if_of(form: StatementForm, thing: About) -> Option<Route>
 }
 
 /// A report that is made whole, if there is one.
-fn whole_report(report: Option<Report>) -> Option<Route>
-    ensures { result ≡ paths.whole_report report }
+fn whole_report(kind: BodyKind, report: Option<Report>) -> Option<Route>
+    ensures { result ≡ paths.whole_report kind report }
 {
     let report = report?;
-    Some(Route::Report(report))
+    Some(Route::Report(report, kind))
 }
 
 /// A report of what a path names. Details are written while they are read.
@@ -183,7 +183,7 @@ fn report_of(name: ReportName, form: StatementForm, thing: About) -> Option<Rout
 {
     match name {
         ReportName::Details => details_of(form, thing),
-        _ => whole_report(report_about(name, form, thing)),
+        _ => whole_report(row_of(name).kind_in(form), report_about(name, form, thing)),
     }
 }
 
@@ -193,7 +193,7 @@ fn asked_of(place: Endpoint, thing: About) -> Option<Route>
 {
     match place {
         Endpoint::Report(name, form) => report_of(name, form, thing),
-        Endpoint::Office => Some(Route::Report(Report::OfficePage)),
+        Endpoint::Office => Some(Route::Report(Report::OfficePage, BodyKind::Page)),
         Endpoint::WhatIf(form) => what_if_of(form, thing),
         Endpoint::Import(layout) => Some(Route::Import(layout)),
     }

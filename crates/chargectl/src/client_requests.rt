@@ -62,7 +62,7 @@ impl<W: Peer + Writer + Drop> Visit for OpenRequest<W> {
 
     /// A report is. Imports, other prices and details go over many pages.
     fn is_brief(&self) -> bool {
-        matches!(self.request, Asked::Report(_))
+        matches!(self.request, Asked::Report(_, _))
     }
 
     fn visit<L: Ledger>(&mut self, books: &mut L) -> Result<Served, Answer> {
