@@ -29,8 +29,8 @@ use Rattle.office.specs.Requests.{Receives, whole_dump}
 use Rattle.office.proofs.LawLemmas.{receives_answered}
 use Rattle.book_http.specs.declared.asked.Asked.{Asked}
 use Rattle.book_http.specs.declared.asked.Asked.TheVariants as asks
-use Rattle.book_http.specs.declared.answer_head.BodyKind.{BodyKind}
-use Rattle.book_http.specs.declared.answer_head.BodyKind.TheVariants as kinds
+use Rattle.report_rows.specs.declared.report_row.BodyKind.{BodyKind}
+use Rattle.report_rows.specs.declared.report_row.BodyKind.TheVariants as kinds
 use Rattle.book_http.specs.Asked.{asked}
 use Rattle.book_http.specs.Answer.{office_reply, AnswersOffice, AnswersReport, AnswersImport}
 use Rattle.book_http.specs.Answer.{AnswersDetails, AnswersWhatIf, AnswersBody, AnswersAsked, Prices}
@@ -58,11 +58,11 @@ text_none kind text reply was before events is no_event answers =
     ]
 
 -- a report is no event
-pub report_none : (naming : Naming) (asked : Report) (reply : Reply) (was : Bool) (before : Book)
-    (events : List Event) (is : Bool) → AnswersReport naming asked reply was before events is
-    → events ≡ []
-report_none naming asked reply was before events is answers =
-    text_none _ (report_outcome naming asked) reply was before events is refl answers
+pub report_none : (naming : Naming) (asked : Report) (kind : BodyKind) (reply : Reply) (was : Bool)
+    (before : Book) (events : List Event) (is : Bool)
+    → AnswersReport naming asked kind reply was before events is → events ≡ []
+report_none naming asked kind reply was before events is answers =
+    text_none kind (report_outcome naming asked) reply was before events is refl answers
 
 -- nor are details
 pub details_none : (naming : Naming) (wanted : DetailReport) (reply : Reply) (was : Bool) (before : Book)
@@ -150,14 +150,14 @@ module _ (naming : Naming) (once twice : Reply) (before : Book) (first second : 
       (unhindered.whole a.receipt (one.replied ∙ ap (office_reply kinds.Text) a.counted)) b.imported
 
   -- what a head asks
-  asked_twice : (wanted : Asked) (behind : List ℕ)
+  asked_twice : (wanted : Asked ℕ) (behind : List ℕ)
       → AnswersAsked naming wanted behind once false before first between → IsUnhindered once
       → AnswersAsked naming wanted behind twice between (after_all first before) second is
       → after_all (second ++ first) before ≡ after_all first before
-  asked_twice (asks.Refusal status) behind one unhindered two = nothing_more two.none.none
-  asked_twice (asks.OtherMethod method) behind one unhindered two = nothing_more two.none.none
-  asked_twice (asks.Report report) behind one unhindered two =
-      nothing_more (report_none naming report twice between (after_all first before) second is two)
+  asked_twice (asks.Settled due) behind one unhindered two = nothing_more two.none.none
+  asked_twice (asks.Report report kind) behind one unhindered two =
+      nothing_more
+      (report_none naming report kind twice between (after_all first before) second is two)
   asked_twice (asks.Details wanted) behind one unhindered two =
       nothing_more (details_none naming wanted twice between (after_all first before) second is two)
   asked_twice (asks.WhatIf what_if size) behind one unhindered two =
@@ -205,14 +205,12 @@ body_answered true naming layout body reply book was events is made =
 body_answered false naming layout body reply book was events is made =
     receives_answered naming (whole_dump layout body) made.told book was events is made.made
 
-asked_answered : (wanted : Asked) (naming : Naming) (behind : List ℕ) (reply : Reply)
+asked_answered : (wanted : Asked ℕ) (naming : Naming) (behind : List ℕ) (reply : Reply)
     → MakesAnswered naming (AnswersAsked naming wanted behind reply)
-asked_answered (asks.Refusal status) naming behind reply book was events is made =
+asked_answered (asks.Settled due) naming behind reply book was events is made =
     none_answered naming book events made.none.none
-asked_answered (asks.OtherMethod method) naming behind reply book was events is made =
-    none_answered naming book events made.none.none
-asked_answered (asks.Report report) naming behind reply book was events is made =
-    none_answered naming book events (report_none naming report reply was book events is made)
+asked_answered (asks.Report report kind) naming behind reply book was events is made =
+    none_answered naming book events (report_none naming report kind reply was book events is made)
 asked_answered (asks.Details wanted) naming behind reply book was events is made =
     none_answered naming book events (details_none naming wanted reply was book events is made)
 asked_answered (asks.WhatIf what_if size) naming behind reply book was events is made =
@@ -237,8 +235,8 @@ pub wanted_answered : (naming : Naming) (request : RequestSeen) (reply : Reply)
     → MakesAnswered naming (AnswersRequest naming request reply)
 wanted_answered naming (Settles due) reply book was events is made =
     none_answered naming book events made.none.none
-wanted_answered naming (WantsReport report) reply book was events is made =
-    none_answered naming book events (report_none naming report reply was book events is made)
+wanted_answered naming (WantsReport report kind) reply book was events is made =
+    none_answered naming book events (report_none naming report kind reply was book events is made)
 wanted_answered naming (WantsDetails wanted) reply book was events is made =
     none_answered naming book events (details_none naming wanted reply was book events is made)
 wanted_answered naming (WantsWhatIf what_if body) reply book was events is made =

@@ -9,9 +9,8 @@ ghost use Rattle.chargectl.specs.Serving.{Attends, is_answered};
 use crate::client_requests::{Attended, serve_request};
 use crate::connection::Client;
 use book_core::Source;
-use book_http::Served;
+use book_http::{Routes, Served};
 use named_books::Repository;
-use std::alloc::Global;
 use std::io;
 use std::net::{TcpListener, TcpStream};
 use streams::{Reader, Writer};
@@ -78,6 +77,8 @@ pub(crate) struct Port<'a> {
     rt: &'a HostRuntime,
     listener: &'a TcpListener,
     pub(crate) left: u32,
+    /// One router for all that they ask.
+    routes: Routes,
 }
 
 impl<'a> Port<'a> {
@@ -89,6 +90,7 @@ impl<'a> Port<'a> {
             rt,
             listener,
             left: requests,
+            routes: Routes::new(rt.alloc()),
         }
     }
 }
@@ -110,13 +112,14 @@ impl Connections for Port<'_> {
     fn next<S: Repository>(&mut self, repository: &mut S, book: &str) -> io::Result<Attended> {
         self.left -= 1;
         let (stream, _) = self.listener.accept()?;
-        Ok(answer_stream(self.rt, &stream, repository, book))
+        Ok(answer_stream(self.rt, &mut self.routes, &stream, repository, book))
     }
 }
 
 /// Answers one connection. Where the clock fails the time is not bounded, so nothing is read.
 fn answer_stream<S: Repository>(
     rt: &HostRuntime,
+    routes: &mut Routes,
     stream: &TcpStream,
     repository: &mut S,
     book: &str,
@@ -128,14 +131,14 @@ fn answer_stream<S: Repository>(
         let served = Served::ReadFault;
         return Attended { served, log: None };
     };
-    let (attended, _) = answer_peer(rt.alloc(), client, repository, book);
+    let (attended, _) = answer_peer(routes, client, repository, book);
     attended
 }
 
 /// Reads one request of a client, asks it of the books of a name, and answers. A client that was
 /// answered is drained before it is let go, so that it can read its answer.
 pub fn answer_peer<P: Peer + Drop, S: Repository>(
-    alloc: Global,
+    routes: &mut Routes,
     peer: P,
     repository: &mut S,
     book: &str,
@@ -159,7 +162,7 @@ pub fn answer_peer<P: Peer + Drop, S: Repository>(
     ensures drained { is_answered result.0.served ≡ true → P.is_drained result.1 ≡ true }
 {
     let mut source = Source::new(peer);
-    let (attended, peer) = serve_request(alloc, &mut source, peer, repository, book);
+    let (attended, peer) = serve_request(routes, &mut source, peer, repository, book);
     match attended.served {
         Served::Answered(_) => (attended, peer.drain()),
         _ => (attended, peer),

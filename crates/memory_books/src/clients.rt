@@ -1,8 +1,8 @@
 //! Clients in memory: it is known what each sends.
 
+use book_http::Routes;
 use chargectl::{Attended, Connections, Peer, answer_peer};
 use named_books::Repository;
-use std::alloc::Global;
 use std::io;
 use std::io::{Read, Write};
 
@@ -47,10 +47,11 @@ impl Peer for MemoryClient<'_> {
 /// Clients that each send the same bytes, one after the other.
 #[derive(Drop)]
 pub struct MemoryClients<'a> {
-    pub alloc: Global,
     pub bytes: &'a [u8],
     /// How many of them are to be answered.
     pub left: u32,
+    /// One router for all that they ask.
+    pub routes: Routes,
 }
 
 impl Connections for MemoryClients<'_> {
@@ -76,7 +77,7 @@ impl Connections for MemoryClients<'_> {
             rest: self.bytes,
             is_drained: false,
         };
-        let (attended, _) = answer_peer(self.alloc, client, repository, book);
+        let (attended, _) = answer_peer(&mut self.routes, client, repository, book);
         Ok(attended)
     }
 }
