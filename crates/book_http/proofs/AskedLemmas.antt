@@ -1,5 +1,5 @@
 -- What a head asks, by what was found in it.
-use Rattle.std.proofs.Common.{◌≡◌, ◌∙◌, ap, Option}
+use Rattle.std.proofs.Common.{◌≡◌, ◌∙◌, ℕ, ap, Option}
 use Rattle.httparse.specs.Grammar.{RequestHead}
 use Rattle.book_http.specs.declared.asked.Asked.{Asked}
 use Rattle.book_http.specs.declared.request.Request.{Request}
@@ -11,7 +11,7 @@ use Rattle.book_http.specs.Hosts.{is_foreign}
 use Rattle.book_http.specs.Requests.{DescribesHead}
 use Rattle.book_http.specs.Routes.{path_of, route}
 
-pub asked_by : (head : RequestHead) (request : Request) (found : Option Route) (asked : Asked)
+pub asked_by : (head : RequestHead) (request : Request) (found : Option Route) (asked : Asked ℕ)
     → DescribesHead head request → found ≡ route (path_of request.target.now)
     → asked
     ≡ asked_framed request.framing request.is_foreign found request.method.now request.has_origin

@@ -22,7 +22,7 @@ use Rattle.book_reports.proofs.ReadingLemmas.{IsAlike, Tells, fault_alike, goes_
 use Rattle.book_reports.proofs.ReadingLemmas.{reopens_alike}
 use Rattle.book_reports.proofs.WritingLemmas.{same_value}
 use Rattle.office.specs.Requests.{Response, Text, response_outcome}
-use Rattle.book_http.specs.declared.answer_head.BodyKind.{BodyKind}
+use Rattle.report_rows.specs.declared.report_row.BodyKind.{BodyKind}
 use Rattle.book_http.specs.declared.status.Status.TheVariants.{Done}
 use Rattle.book_http.specs.Answer.{AnswersDetails, form_kind, gathered, most_gathered, office_reply}
 use Rattle.book_http.specs.Replies.{Reply}

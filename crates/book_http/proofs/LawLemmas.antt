@@ -5,13 +5,14 @@ use Rattle.std.specs.Str.{is_utf8}
 use Rattle.httparse.specs.Grammar.{RequestHead}
 use Rattle.smf_frames.specs.declared.dump.Layout.{Layout}
 use Rattle.book_model.specs.Words.{front, Book, Event, Outcome, after_all, book_after, Naming}
-use Rattle.book_model.specs.MadeByCalls as history
+use Rattle.book_model.specs.MadeByCalls.{AreMadeOf}
 use Rattle.book_model.proofs.StepLemmas.{books_follow_history}
 use Rattle.book_model.specs.declared.fault.LedgerFault.{LedgerFault}
 use Rattle.book_core.specs.Calls.{Calls, listed}
 use Rattle.book_core.specs.Ledgers.{Seen}
 use Rattle.book_core.specs.Transition.{IsTransition, Transition}
 use Rattle.book_core.proofs.FollowLemmas.{called_events, follows, after_all-book_of}
+use Rattle.book_core.proofs.FollowLemmas.{history_goes_on}
 use Rattle.book_core.specs.Follow.{MakesAnswered}
 use Rattle.book_import.specs.declared.receipt.Receipt.{Receipt}
 use Rattle.book_import.specs.Dumps.{stop_after}
@@ -28,8 +29,8 @@ use Rattle.office.specs.Requests.{Receives, whole_dump}
 use Rattle.office.proofs.LawLemmas.{receives_answered}
 use Rattle.book_http.specs.declared.asked.Asked.{Asked}
 use Rattle.book_http.specs.declared.asked.Asked.TheVariants as asks
-use Rattle.book_http.specs.declared.answer_head.BodyKind.{BodyKind}
-use Rattle.book_http.specs.declared.answer_head.BodyKind.TheVariants as kinds
+use Rattle.report_rows.specs.declared.report_row.BodyKind.{BodyKind}
+use Rattle.report_rows.specs.declared.report_row.BodyKind.TheVariants as kinds
 use Rattle.book_http.specs.Asked.{asked}
 use Rattle.book_http.specs.Answer.{office_reply, AnswersOffice, AnswersReport, AnswersImport}
 use Rattle.book_http.specs.Answer.{AnswersDetails, AnswersWhatIf, AnswersBody, AnswersAsked, Prices}
@@ -57,11 +58,11 @@ text_none kind text reply was before events is no_event answers =
     ]
 
 -- a report is no event
-pub report_none : (naming : Naming) (asked : Report) (reply : Reply) (was : Bool) (before : Book)
-    (events : List Event) (is : Bool) → AnswersReport naming asked reply was before events is
-    → events ≡ []
-report_none naming asked reply was before events is answers =
-    text_none _ (report_outcome naming asked) reply was before events is refl answers
+pub report_none : (naming : Naming) (asked : Report) (kind : BodyKind) (reply : Reply) (was : Bool)
+    (before : Book) (events : List Event) (is : Bool)
+    → AnswersReport naming asked kind reply was before events is → events ≡ []
+report_none naming asked kind reply was before events is answers =
+    text_none kind (report_outcome naming asked) reply was before events is refl answers
 
 -- nor are details
 pub details_none : (naming : Naming) (wanted : DetailReport) (reply : Reply) (was : Bool) (before : Book)
@@ -149,14 +150,14 @@ module _ (naming : Naming) (once twice : Reply) (before : Book) (first second : 
       (unhindered.whole a.receipt (one.replied ∙ ap (office_reply kinds.Text) a.counted)) b.imported
 
   -- what a head asks
-  asked_twice : (wanted : Asked) (behind : List ℕ)
+  asked_twice : (wanted : Asked ℕ) (behind : List ℕ)
       → AnswersAsked naming wanted behind once false before first between → IsUnhindered once
       → AnswersAsked naming wanted behind twice between (after_all first before) second is
       → after_all (second ++ first) before ≡ after_all first before
-  asked_twice (asks.Refusal status) behind one unhindered two = nothing_more two.none.none
-  asked_twice (asks.OtherMethod method) behind one unhindered two = nothing_more two.none.none
-  asked_twice (asks.Report report) behind one unhindered two =
-      nothing_more (report_none naming report twice between (after_all first before) second is two)
+  asked_twice (asks.Settled due) behind one unhindered two = nothing_more two.none.none
+  asked_twice (asks.Report report kind) behind one unhindered two =
+      nothing_more
+      (report_none naming report kind twice between (after_all first before) second is two)
   asked_twice (asks.Details wanted) behind one unhindered two =
       nothing_more (details_none naming wanted twice between (after_all first before) second is two)
   asked_twice (asks.WhatIf what_if size) behind one unhindered two =
@@ -193,68 +194,61 @@ request_twice_is_once naming before bytes once twice first second between is one
     two
 
 -- events that are none are answered
-none_answered : (naming : Naming) (past events : List Event) → events ≡ []
-    → history.IsMadeByCalls naming past → history.IsMadeByCalls naming (events ++ past)
-none_answered naming past events none answered =
-    subst (λ (events : List Event). history.IsMadeByCalls naming (events ++ past)) (sym none) answered
+none_answered : (naming : Naming) (book : Book) (events : List Event) → events ≡ []
+    → AreMadeOf naming book events
+none_answered naming book events none = subst (AreMadeOf naming book) (sym none) tt
 
 body_answered : (short : Bool) (naming : Naming) (layout : Layout) (body : List ℕ) (reply : Reply)
     → MakesAnswered naming (UnlessBad short (AnswersImport naming layout body reply) reply)
-body_answered true naming layout body reply past was events is made =
-    none_answered naming past events made.none.none
-body_answered false naming layout body reply past was events is made =
-    receives_answered naming (whole_dump layout body) made.told past was events is made.made
+body_answered true naming layout body reply book was events is made =
+    none_answered naming book events made.none.none
+body_answered false naming layout body reply book was events is made =
+    receives_answered naming (whole_dump layout body) made.told book was events is made.made
 
-asked_answered : (wanted : Asked) (naming : Naming) (behind : List ℕ) (reply : Reply)
+asked_answered : (wanted : Asked ℕ) (naming : Naming) (behind : List ℕ) (reply : Reply)
     → MakesAnswered naming (AnswersAsked naming wanted behind reply)
-asked_answered (asks.Refusal status) naming behind reply past was events is made =
-    none_answered naming past events made.none.none
-asked_answered (asks.OtherMethod method) naming behind reply past was events is made =
-    none_answered naming past events made.none.none
-asked_answered (asks.Report report) naming behind reply past was events is made =
-    none_answered naming past events
-    (report_none naming report reply was (book_after past) events is made)
-asked_answered (asks.Details wanted) naming behind reply past was events is made =
-    none_answered naming past events
-    (details_none naming wanted reply was (book_after past) events is made)
-asked_answered (asks.WhatIf what_if size) naming behind reply past was events is made =
-    none_answered naming past events
-    (what_if_body_none what_if size behind reply was (book_after past) events is made)
-asked_answered (asks.Import layout size) naming behind reply past was events is made =
-    body_answered (ltb (length behind) size) naming layout (take size behind) reply past was events
+asked_answered (asks.Settled due) naming behind reply book was events is made =
+    none_answered naming book events made.none.none
+asked_answered (asks.Report report kind) naming behind reply book was events is made =
+    none_answered naming book events (report_none naming report kind reply was book events is made)
+asked_answered (asks.Details wanted) naming behind reply book was events is made =
+    none_answered naming book events (details_none naming wanted reply was book events is made)
+asked_answered (asks.WhatIf what_if size) naming behind reply book was events is made =
+    none_answered naming book events
+    (what_if_body_none what_if size behind reply was book events is made)
+asked_answered (asks.Import layout size) naming behind reply book was events is made =
+    body_answered (ltb (length behind) size) naming layout (take size behind) reply book was events
     is made
 
-request_answered : (naming : Naming) (bytes : List ℕ) (reply : Reply)
+pub request_answered : (naming : Naming) (bytes : List ℕ) (reply : Reply)
     → MakesAnswered naming (Answers naming bytes reply)
-request_answered naming bytes reply past was events is (no_head some never refused) =
-    none_answered naming past events refused.none.none
-request_answered naming bytes reply past was events is
+request_answered naming bytes reply book was events is (no_head some never refused) =
+    none_answered naming book events refused.none.none
+request_answered naming bytes reply book was events is
     (a_head head behind stands (no_memory refused)) =
-    none_answered naming past events refused.none.none
-request_answered naming bytes reply past was events is (a_head head behind stands (done made)) =
-    asked_answered (asked head) naming behind reply past was events is made
+    none_answered naming book events refused.none.none
+request_answered naming bytes reply book was events is (a_head head behind stands (done made)) =
+    asked_answered (asked head) naming behind reply book was events is made
 
 -- so does what was read of a request, whatever bytes asked it
 pub wanted_answered : (naming : Naming) (request : RequestSeen) (reply : Reply)
     → MakesAnswered naming (AnswersRequest naming request reply)
-wanted_answered naming (Settles due) reply past was events is made =
-    none_answered naming past events made.none.none
-wanted_answered naming (WantsReport report) reply past was events is made =
-    none_answered naming past events
-    (report_none naming report reply was (book_after past) events is made)
-wanted_answered naming (WantsDetails wanted) reply past was events is made =
-    none_answered naming past events
-    (details_none naming wanted reply was (book_after past) events is made)
-wanted_answered naming (WantsWhatIf what_if body) reply past was events is made =
-    none_answered naming past events
-    (what_if_none what_if body reply was (book_after past) events is made)
-wanted_answered naming (WantsImport layout body) reply past was events is made =
-    receives_answered naming (whole_dump layout body) made.told past was events is made.made
+wanted_answered naming (Settles due) reply book was events is made =
+    none_answered naming book events made.none.none
+wanted_answered naming (WantsReport report kind) reply book was events is made =
+    none_answered naming book events (report_none naming report kind reply was book events is made)
+wanted_answered naming (WantsDetails wanted) reply book was events is made =
+    none_answered naming book events (details_none naming wanted reply was book events is made)
+wanted_answered naming (WantsWhatIf what_if body) reply book was events is made =
+    none_answered naming book events (what_if_none what_if body reply was book events is made)
+wanted_answered naming (WantsImport layout body) reply book was events is made =
+    receives_answered naming (whole_dump layout body) made.told book was events is made.made
 
 -- the law of it
 pub requests_make_history : RequestsMakeHistory
 requests_make_history naming past bytes reply was events is answered made =
-    let goes_on = request_answered naming bytes reply past was events is made answered in
+    let goes_on = history_goes_on naming events past
+    (request_answered naming bytes reply (book_after past) was events is made) answered in
     record {
       answered = goes_on;
       is = ap (after_all events) (books_follow_history past) ∙ after_all-book_of events past;
@@ -279,7 +273,7 @@ sent_done old new bytes held holds served work = record {
   work = work;
   history =
       follows old new (SendsAsRead old.naming bytes held holds served)
-      (λ past was events is made.
-      request_answered old.naming bytes made.reply past was events was made.answer.0)
+      (λ book was events is made.
+      request_answered old.naming bytes made.reply book was events was made.answer.0)
       work;
 }

@@ -9,14 +9,13 @@ use Rattle.httparse.specs.Grammar.{RequestHead}
 use Rattle.book_http.specs.declared.body.BodyFault.{BodyFault}
 use Rattle.book_http.specs.declared.body.BodyFault.TheVariants.{Short, Read, Memory}
 use Rattle.book_http.specs.declared.requested.ReadFailed.{ReadFailed}
-use Rattle.book_http.specs.declared.requested.Requested.{Requested}
 use Rattle.book_http.specs.declared.status.Status.TheVariants.{BadRequest}
 use Rattle.book_http.specs.Asked.{asked}
 use Rattle.book_http.specs.Bodies.{BodyComes, body_status}
 use Rattle.book_http.specs.Head.{HasHead, NoHeadComes}
 use Rattle.book_http.specs.Replies.{refusal}
 use Rattle.book_http.specs.Requested.{IsAsking, IsAskingAfter, IsUnlessMemory, RequestSeen, Settles}
-use Rattle.book_http.specs.Requested.{headed, headless, request_seen, wanted_with}
+use Rattle.book_http.specs.Requested.{WholeRequest, headed, headless, request_seen, wanted_with}
 use Rattle.book_http.proofs.HeadLemmas.{head_before}
 
 -- what comes with its whole body is asked, whatever follows
@@ -54,7 +53,7 @@ module _ (ended : Bool) (Wants : List ℕ → RequestSeen) (size : ℕ) (came : 
   fault_wanted Read is_end short more none = inr refl
   fault_wanted Memory is_end short more none = inr refl
 
-  pub body_refused : (fault : BodyFault) (told : Result Requested ReadFailed)
+  pub body_refused : (fault : BodyFault) (told : Result WholeRequest ReadFailed)
       → (fault ≡ Short → ended ≡ true)
       → BodyComes {A = List ℕ} (λ body. body) size came (Err fault)
       → IfOk told (λ request. request_seen request ≡ Settles (refusal (body_status fault)))
@@ -66,7 +65,7 @@ module _ (ended : Bool) (Wants : List ℕ → RequestSeen) (size : ℕ) (came : 
       (fault_wanted fault is_end short more none)
 
 -- bytes after which no head can come ask nothing that is served
-pub refused_asking : (ended : Bool) (taken : List ℕ) (request : Requested) → 0 < length taken
+pub refused_asking : (ended : Bool) (taken : List ℕ) (request : WholeRequest) → 0 < length taken
     → NoHeadComes ended taken → request_seen request ≡ Settles (refusal BadRequest)
     → IsAsking ended taken request
 refused_asking ended taken request some never is more none =
@@ -75,7 +74,7 @@ refused_asking ended taken request some never is more none =
 
 -- what is asked after a head is asked by the bytes that begin with it
 pub head_asking : (ended : Bool) (front behind bytes : List ℕ) (head : RequestHead)
-    (request : Requested) → HasHead front head behind
+    (request : WholeRequest) → HasHead front head behind
     → IsAskingAfter ended (asked head) (behind ++ bytes) request
     → IsAsking ended (front ++ bytes) request
 head_asking ended front behind bytes head request stands asking more none =

@@ -13,7 +13,7 @@ use Rattle.book_import.specs.Repeats as imports
 use Rattle.book_import.proofs.RetryLemmas.{stops_are_mended}
 use Rattle.book_import.proofs.RepeatLemmas.{is_whole}
 use Rattle.office.specs.Requests.{whole_dump}
-use Rattle.book_http.specs.declared.answer_head.BodyKind.TheVariants as kinds
+use Rattle.report_rows.specs.declared.report_row.BodyKind.TheVariants as kinds
 use Rattle.book_http.specs.declared.asked.Asked.{Asked}
 use Rattle.book_http.specs.declared.asked.Asked.TheVariants as asks
 use Rattle.book_http.specs.Asked.{asked}
@@ -84,20 +84,18 @@ module _ (once twice alone : Reply) (before : Book) (first second all : List Eve
       ]
 
   -- what a head asks
-  asked_mended : (wanted : Asked) (naming : Naming) (behind : List ℕ)
+  asked_mended : (wanted : Asked ℕ) (naming : Naming) (behind : List ℕ)
       → (first ≡ []) ⊎ AnswersAsked naming wanted behind once false before first between
       → AnswersAsked naming wanted behind twice false (after_all first before) second is
       → IsWhole twice → AnswersAsked naming wanted behind alone false before all end
       → IsUnhindered alone → after_all (second ++ first) before ≡ after_all all before
-  asked_mended (asks.Refusal status) naming behind one two whole single unhindered =
+  asked_mended (asks.Settled due) naming behind one two whole single unhindered =
       none_at_all (none_once one (λ made. made.none.none)) two.none.none single.none.none
-  asked_mended (asks.OtherMethod method) naming behind one two whole single unhindered =
-      none_at_all (none_once one (λ made. made.none.none)) two.none.none single.none.none
-  asked_mended (asks.Report report) naming behind one two whole single unhindered =
+  asked_mended (asks.Report report kind) naming behind one two whole single unhindered =
       none_at_all
-      (none_once one (λ made. report_none naming report once false before first between made))
-      (report_none naming report twice false (after_all first before) second is two)
-      (report_none naming report alone false before all end single)
+      (none_once one (λ made. report_none naming report kind once false before first between made))
+      (report_none naming report kind twice false (after_all first before) second is two)
+      (report_none naming report kind alone false before all end single)
   asked_mended (asks.Details wanted) naming behind one two whole single unhindered =
       none_at_all
       (none_once one (λ made. details_none naming wanted once false before first between made))

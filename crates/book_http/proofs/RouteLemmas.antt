@@ -1,95 +1,81 @@
 -- What a path is found to be for is what has that path, and what has it is found.
-use Rattle.std.proofs.Common.{◌≡◌, ◌∙◌, ℕ, List, refl, ap, Option, Some, None, IfSome}
-use Rattle.matchit.proofs.OnLiterals.{matchit_on_literals}
-use Rattle.smf_frames.specs.declared.dump.Layout.TheVariants.{Rdw, Bdw}
-use Rattle.book_reports.specs.declared.report.Report.TheVariants as report_of
-use Rattle.book_http.specs.declared.route.Endpoint.{Endpoint}
-use Rattle.book_http.specs.declared.route.Endpoint.TheVariants as endpoint
+use Rattle.std.proofs.Common.{◌≡◌, ◌∙◌, List, ◌++◌, refl, ap, ℕ, Option, Some, None, IfSome, subst}
+use Rattle.std.specs.Option.{option_and_then}
+use Rattle.std.specs.Prelude.{option_map}
+use Rattle.report_rows.specs.Abouts.{report_about}
+use Rattle.report_rows.specs.ReportRows.{kind_in, row_of}
+use Rattle.report_rows.specs.declared.about.About.{About}
+use Rattle.report_rows.specs.declared.report_row.ReportName.{ReportName}
+use Rattle.report_rows.specs.declared.report_row.ReportName.TheVariants as report
+use Rattle.book_reports.specs.declared.what_if.StatementForm.{StatementForm}
+use Rattle.book_http.specs.declared.endpoint.Endpoint.{Endpoint}
 use Rattle.book_http.specs.declared.route.Route.{Route}
-use Rattle.book_http.specs.declared.route.Route.TheVariants as route_to
-use Rattle.book_http.specs.Paths.{IsPathOf, details_path, period_path, what_if_path}
-use Rattle.book_http.specs.Routes.{details_on, endpoint_of, report_on, route, route_at, route_on}
-use Rattle.book_http.specs.Routes.{route_rows, what_if_on}
-use Rattle.book_http.proofs.PagePathLemmas.{page_served, period_page_found, record_found}
-use Rattle.book_http.proofs.PagePathLemmas.{record_served, tariff_found, tariff_served}
-use Rattle.book_http.proofs.PeriodPathLemmas.{details_found, named_served, report_found}
-use Rattle.book_http.proofs.PeriodPathLemmas.{what_if_found}
-use Rattle.book_http.proofs.RestPathLemmas.{on_endpoint}
-use Rattle.book_http.proofs.RouterLemmas.{endpoint_found, plain_path}
+use Rattle.book_http.specs.Paths.{IsPathOf, Names, asked_of, front_of, report_of, shape_of}
+use Rattle.book_http.specs.Paths.{whole_report}
+use Rattle.book_http.specs.Routes.{asked_behind, asked_in, endpoint_of, path_rest, route, route_at}
+use Rattle.book_http.specs.Routes.{route_on, thing_in}
+use Rattle.book_http.proofs.FrontLemmas.{place_found}
+use Rattle.book_http.proofs.PeriodLemmas.{rest_found, rest_named}
+use Rattle.book_http.proofs.ThingLemmas.{thing_found, thing_named}
+
+-- any report but details is made whole
+pub made_whole : (name : ReportName) (form : StatementForm) (thing : About)
+    → (name ≡ report.Details → ⊥)
+    → report_of name form thing
+    ≡ whole_report (kind_in (row_of name) form) (report_about name form thing)
+made_whole report.Details form thing other = absurd (other refl)
+made_whole name form thing other = refl
 
 -- ---- what is found is served
 
-endpoint_route : (found : Endpoint) (path : List ℕ) → IfSome (plain_path found) (λ text. path ≡ text)
-    → IfSome (route_at found path) (IsPathOf path)
-unfolding route_at
-endpoint_route endpoint.Office path h = (tt, h)
-endpoint_route endpoint.Period path h = page_served path
-endpoint_route endpoint.Periods path h = (tt, h)
-endpoint_route (endpoint.OfPeriod asked) path h =
-    named_served (report_on asked) (period_path asked) path
-    (λ n centre is named one. ((named, one), is))
-endpoint_route (endpoint.Details form) path h =
-    named_served (details_on form) (details_path form) path
-    (λ n centre is named one. ((named, one), is))
-endpoint_route endpoint.Disputes path h = (tt, h)
-endpoint_route endpoint.DisputesCsv path h = (tt, h)
-endpoint_route endpoint.Record path h = record_served path
-endpoint_route endpoint.Rulings path h = (tt, h)
-endpoint_route endpoint.Tariff path h = tariff_served path
-endpoint_route (endpoint.WhatIf form) path h =
-    named_served (what_if_on form) (what_if_path form) path
-    (λ n centre is named one. ((named, one), is))
-endpoint_route (endpoint.Import Rdw) path h = (tt, h)
-endpoint_route (endpoint.Import Bdw) path h = (tt, h)
+-- what holds of each that may be found holds of what is found, and of what is found by that
+each : {A : Type 0} (found : Option A) (F : A → Type 0) → ((it : A) → found ≡ Some it → F it)
+    → IfSome found F
+each None F so = tt
+each (Some it) F so = so it refl
 
--- what is found is served there
+each_by : {A B : Type 0} (f : A → Option B) (found : Option A) (F : B → Type 0)
+    → ((it : A) → found ≡ Some it → IfSome (f it) F) → IfSome (option_and_then f found) F
+each_by f None F so = tt
+each_by f (Some it) F so = so it refl
+
+place_served : (place : Endpoint) (path : List ℕ) → IfSome (route_at place path) (IsPathOf path)
+unfolding route_at
+place_served place path =
+    each_by (λ front. asked_behind place front path) (front_of place) (IsPathOf path)
+    (λ front served. each_by (asked_in place) (path_rest front path) (IsPathOf path)
+    (λ rest left. each_by (asked_of place) (thing_in (shape_of place) rest) (IsPathOf path)
+    (λ thing read. each (asked_of place thing) (IsPathOf path) (λ asked asks. record {
+      place = place;
+      front = front;
+      rest = rest;
+      thing = thing;
+      served = served;
+      is = subst (λ found. IfSome found (λ rest. path ≡ front ++ rest)) left (rest_named front path);
+      names = subst (λ found. IfSome found (Names (shape_of place) rest)) read
+          (thing_named (shape_of place) rest);
+      asks = asks;
+    }))))
+
 pub route_found : (path : List ℕ) → IfSome (route path) (IsPathOf path)
-route_found path = by (endpoint_of path) (endpoint_found path)
+route_found path = by (endpoint_of path)
   where
-    by : (found : Option Endpoint) → IfSome found (λ p. IfSome (plain_path p) (λ text. path ≡ text))
-        → IfSome (route_on found path) (IsPathOf path)
-    by None h = tt
-    by (Some found) h = endpoint_route found path h
+    by : (found : Option Endpoint) → IfSome (route_on found path) (IsPathOf path)
+    by None = tt
+    by (Some place) = place_served place path
 
 -- ---- what is served is found
 
--- an endpoint that names nothing is found at its path
-plain_found : (found : Endpoint) → IfSome (plain_path found) (λ text. endpoint_of text ≡ Some found)
-unfolding matchit_on_literals route_rows endpoint_of
-plain_found endpoint.Office = refl
-plain_found endpoint.Periods = refl
-plain_found endpoint.Disputes = refl
-plain_found endpoint.DisputesCsv = refl
-plain_found endpoint.Rulings = refl
-plain_found (endpoint.Import Rdw) = refl
-plain_found (endpoint.Import Bdw) = refl
-plain_found found = tt
-
--- what is served is found at its path
 pub path_found : (path : List ℕ) (asked : Route) → IsPathOf path asked → route path ≡ Some asked
 unfolding route_at
-path_found path (route_to.Report report_of.OfficePage) it =
-    ap route it.1 ∙ on_endpoint endpoint.Office _ _ (plain_found endpoint.Office) refl
-path_found path (route_to.Report (report_of.PeriodPage n)) it = ap route it.1 ∙ period_page_found n it.0
-path_found path (route_to.Report report_of.PeriodList) it =
-    ap route it.1 ∙ on_endpoint endpoint.Periods _ _ (plain_found endpoint.Periods) refl
-path_found path (route_to.Report (report_of.OfPeriod asked n centre)) it =
-    ap route it.1 ∙ report_found asked n centre it.0.0 it.0.1
-path_found path (route_to.Report report_of.DisputeList) it =
-    ap route it.1 ∙ on_endpoint endpoint.Disputes _ _ (plain_found endpoint.Disputes) refl
-path_found path (route_to.Report report_of.DisputeTable) it =
-    ap route it.1 ∙ on_endpoint endpoint.DisputesCsv _ _ (plain_found endpoint.DisputesCsv) refl
-path_found path (route_to.Report (report_of.Record name)) it =
-    ap route it.1.1 ∙ record_found it.1.0 name it.1.2
-path_found path (route_to.Report report_of.RulingList) it =
-    ap route it.1 ∙ on_endpoint endpoint.Rulings _ _ (plain_found endpoint.Rulings) refl
-path_found path (route_to.Report (report_of.TariffText day)) it = ap route it.1 ∙ tariff_found day it.0
-path_found path (route_to.Report (report_of.Bill form n centre)) it = absurd it.0
-path_found path (route_to.Details details) it =
-    ap route it.1 ∙ details_found details.form details.period details.centre it.0.0 it.0.1
-path_found path (route_to.WhatIf what_if) it =
-    ap route it.1 ∙ what_if_found what_if.form what_if.period what_if.centre it.0.0 it.0.1
-path_found path (route_to.Import Rdw) it =
-    ap route it.1 ∙ on_endpoint (endpoint.Import Rdw) _ _ (plain_found (endpoint.Import Rdw)) refl
-path_found path (route_to.Import Bdw) it =
-    ap route it.1 ∙ on_endpoint (endpoint.Import Bdw) _ _ (plain_found (endpoint.Import Bdw)) refl
+path_found path asked it =
+    let place = it.place in
+    let front = it.front in
+    let rest = it.rest in
+    ap route it.is
+    ∙ ap (λ found. route_on found (front ++ rest))
+    (place_found place front rest it.thing it.served it.names)
+    ∙ ap (option_and_then (λ front. asked_behind place front (it.front ++ rest))) it.served
+    ∙ ap (option_and_then (asked_in place)) (rest_found front rest)
+    ∙ ap (option_and_then (asked_of place)) (thing_found (shape_of place) rest it.thing it.names)
+    ∙ it.asks

@@ -11,8 +11,6 @@ use Rattle.book_core.proofs.TransitionLemmas.{Implies, no_work, work_as}
 use Rattle.book_reports.specs.declared.streamed_details.DetailReport.{DetailReport}
 use Rattle.book_http.specs.declared.asked.Asked.{Asked}
 use Rattle.book_http.specs.declared.asked.Asked.TheVariants as asks
-use Rattle.book_http.specs.declared.requested.Requested.{Requested}
-use Rattle.book_http.specs.declared.requested.Requested.TheVariants as requested
 use Rattle.book_http.specs.declared.served.Served.{Served}
 use Rattle.book_http.specs.declared.served.Served.TheVariants as served
 use Rattle.book_http.specs.declared.status.Status.TheVariants.{BadRequest}
@@ -22,10 +20,11 @@ use Rattle.book_http.specs.Answer.{no_memory}
 use Rattle.book_http.specs.Asked.{asked}
 use Rattle.book_http.specs.Replies.{Reply, refusal}
 use Rattle.book_http.specs.Requested.{AnswersRequest, AreAsking, IsAsking, RequestSeen, Settles}
-use Rattle.book_http.specs.Requested.{WantsDetails, WantsImport, WantsWhatIf}
+use Rattle.book_http.specs.Requested.{WantsDetails, WantsImport, WantsWhatIf, WholeRequest}
 use Rattle.book_http.specs.Requested.{headed, headless, request_seen, wanted_by}
 use Rattle.book_http.specs.Served.{AnswersLong, AsksDetails, IsReplied, IsSent, IsServed}
-use Rattle.book_http.specs.Served.{IsStreamed, SendsAsRead, SendsReplyAsRead, ServesDetails}
+use Rattle.book_http.specs.Served.{IsStreamed, SendsAsRead, SendsReplyAsRead, ServesAsked}
+use Rattle.book_http.specs.Served.{ServesDetails}
 use Rattle.book_http.specs.Served.{is_unanswered}
 use Rattle.book_http.proofs.LawLemmas.{request_done, sent_done}
 
@@ -48,12 +47,11 @@ wanted_answered true naming Wants Whole body reply same = λ was before events i
 wanted_answered false naming Wants Whole body reply same = same
 
 -- what a head asks
-asked_answered : (wanted : Asked) (naming : Naming) (behind : List ℕ) (reply : Reply)
+asked_answered : (wanted : Asked ℕ) (naming : Naming) (behind : List ℕ) (reply : Reply)
     → Implies (AnswersRequest naming (wanted_by wanted behind) reply)
     (AnswersAsked naming wanted behind reply)
-asked_answered (asks.Refusal status) naming behind reply = λ was before events is made. made
-asked_answered (asks.OtherMethod method) naming behind reply = λ was before events is made. made
-asked_answered (asks.Report report) naming behind reply = λ was before events is made. made
+asked_answered (asks.Settled due) naming behind reply = λ was before events is made. made
+asked_answered (asks.Report report kind) naming behind reply = λ was before events is made. made
 asked_answered (asks.Details details) naming behind reply = λ was before events is made. made
 asked_answered (asks.WhatIf what_if size) naming behind reply =
     wanted_answered (nat_lt (length behind) size) naming (WantsWhatIf what_if)
@@ -89,7 +87,7 @@ reply_served books taken ended output what it = absurd it.sent
 
 -- so was a reply to what was asked
 pub request_served : (books : Books) (taken : List ℕ) (ended : Bool) (output : Output)
-    (request : Requested) (reply : Reply) (what : Served) → IsAsking ended taken request
+    (request : WholeRequest) (reply : Reply) (what : Served) → IsAsking ended taken request
     → IsTransition books.old books.new
     (AnswersRequest books.old.naming (request_seen request) reply)
     → IsSent reply output.old.holds output.new.holds what
@@ -124,14 +122,13 @@ no_details true reply other is = refl
 no_details false reply other is = is
 
 -- who asks for details asks for them by the head alone
-details_wanted : (wanted : Asked) (behind : List ℕ) (details : DetailReport)
+details_wanted : (wanted : Asked ℕ) (behind : List ℕ) (details : DetailReport)
     → WantsDetails details ≡ wanted_by wanted behind → wanted ≡ asks.Details details
 details_wanted (asks.Details other) behind details same =
     ap asks.Details (sym (ap (details_or details) same))
-details_wanted (asks.Refusal status) behind details same = absurd (true≢false (ap are_details same))
-details_wanted (asks.OtherMethod method) behind details same =
+details_wanted (asks.Settled due) behind details same = absurd (true≢false (ap are_details same))
+details_wanted (asks.Report report kind) behind details same =
     absurd (true≢false (ap are_details same))
-details_wanted (asks.Report report) behind details same = absurd (true≢false (ap are_details same))
 details_wanted (asks.WhatIf what_if size) behind details same =
     absurd (true≢false (ap are_details same
     ∙ no_details (nat_lt (length behind) size) (refusal BadRequest)
@@ -156,7 +153,7 @@ details_begin bytes details (headed head behind stands (inr same)) =
 
 -- details that were sent while they were read were asked for
 details_streamed : (books : Books) (taken : List ℕ) (ended : Bool) (output : Output)
-    (details : DetailReport) (what : Served) → IsAsking ended taken (requested.Details details)
+    (details : DetailReport) (what : Served) → IsAsking ended taken (asks.Details details)
     → IsTransition books.old books.new
     (SendsReplyAsRead (AnswersLong (AnswersDetails books.old.naming details)) output.old.holds
     output.new.holds what)
@@ -196,12 +193,23 @@ stream_served books taken ended output served.ReadFault begun it = absurd (true�
 stream_served books taken ended output what begun it = inr it
 
 pub details_served : (books : Books) (taken : List ℕ) (ended : Bool) (output : Output)
-    (details : DetailReport) (what : Served) → IsAsking ended taken (requested.Details details)
+    (details : DetailReport) (what : Served) → IsAsking ended taken (asks.Details details)
     → is_unanswered what ≡ false → ServesDetails books details output what
     → IsServed books taken ended output what
 details_served books taken ended output details what asking begun (inl refused) =
-    request_served books taken ended output (requested.Details details) refused.reply what asking
+    request_served books taken ended output (asks.Details details) refused.reply what asking
     refused.answer refused.sent
 details_served books taken ended output details what asking begun (inr sends) =
     stream_served books taken ended output what begun
     (details_streamed books taken ended output details what asking sends)
+
+-- whatever was asked
+pub asked_served : (books : Books) (taken : List ℕ) (ended : Bool) (output : Output)
+    (request : WholeRequest) (what : Served) → IsAsking ended taken request
+    → is_unanswered what ≡ false → ServesAsked books request output what
+    → IsServed books taken ended output what
+asked_served books taken ended output request what asking begun (inl (reply, made, sent)) =
+    request_served books taken ended output request reply what asking made sent
+asked_served books taken ended output request what asking begun (inr (details, same, it)) =
+    details_served books taken ended output details what
+    (subst (λ request. IsAsking ended taken request) same asking) begun it

@@ -24,7 +24,7 @@ use Rattle.book_reports.specs.Writing.{WritesUntil}
 use Rattle.book_reports.proofs.DetailReading.{refused_back, shown_back}
 use Rattle.book_reports.proofs.ReadingLemmas.{fault_alike, fault_tells, goes_on, read_as}
 use Rattle.office.specs.Requests.{Text, response_outcome}
-use Rattle.book_http.specs.declared.answer_head.BodyKind.{BodyKind}
+use Rattle.report_rows.specs.declared.report_row.BodyKind.{BodyKind}
 use Rattle.book_http.specs.declared.served.Served.{Served}
 use Rattle.book_http.specs.declared.served.Served.TheVariants as served
 use Rattle.book_http.specs.declared.status.Status.TheVariants.{Done}

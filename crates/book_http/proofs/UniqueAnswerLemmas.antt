@@ -22,12 +22,12 @@ use Rattle.book_reports.specs.BookTexts.{report_outcome}
 use Rattle.book_reports.specs.StreamedDetails.{detail_text_outcome}
 use Rattle.book_reports.specs.WhatIfTexts.{what_if_report}
 use Rattle.office.specs.Requests.{Response, Text, response_outcome, whole_dump}
-use Rattle.book_http.specs.declared.answer_head.BodyKind.{BodyKind}
-use Rattle.book_http.specs.declared.answer_head.BodyKind.TheVariants as kinds
+use Rattle.report_rows.specs.declared.report_row.BodyKind.{BodyKind}
+use Rattle.report_rows.specs.declared.report_row.BodyKind.TheVariants as kinds
 use Rattle.book_http.specs.declared.asked.Asked.{Asked}
 use Rattle.book_http.specs.declared.asked.Asked.TheVariants as asks
 use Rattle.book_http.specs.declared.status.Status.TheVariants.{Unavailable}
-use Rattle.book_http.specs.Answer.{office_reply, body_kind, form_kind, AnswersOffice}
+use Rattle.book_http.specs.Answer.{office_reply, form_kind, AnswersOffice}
 use Rattle.book_http.specs.Answer.{AnswersImport, AnswersWhatIf, AnswersAsked}
 use Rattle.book_http.specs.Answer.{Prices, RefusesRequest, UnlessBad, UnlessMemory, done}
 use Rattle.book_http.specs.Answer.{no_memory, no_head, a_head}
@@ -86,7 +86,7 @@ import_tells naming stop records told was before events is
     absurd (served (ap import_status stopped))
 
 -- what a head asks was done, where the reply is not unavailable
-was_done : (wanted : Asked) (naming : Naming) (behind : List ℕ) (reply : Reply) (was : Bool)
+was_done : (wanted : Asked ℕ) (naming : Naming) (behind : List ℕ) (reply : Reply) (was : Bool)
     (before : Book) (events : List Event) (is : Bool)
     → UnlessMemory (AnswersAsked naming wanted behind reply) reply was before events is
     → reply.status ≢ Unavailable → AnswersAsked naming wanted behind reply was before events is
@@ -166,14 +166,13 @@ module _ (one other : Reply) (was : Bool) (before : Book) (first second : List E
         events = sym left.events ∙ right.events;
       }
 
-  asked_same : (wanted : Asked) (naming : Naming) (behind : List ℕ)
+  asked_same : (wanted : Asked ℕ) (naming : Naming) (behind : List ℕ)
       → AnswersAsked naming wanted behind one was before first is_one → one.status ≢ Unavailable
       → AnswersAsked naming wanted behind other was before second is_other
       → other.status ≢ Unavailable → IsSame one other first second
-  asked_same (asks.Refusal status) naming behind a served b served_too = refusals_same _ a b
-  asked_same (asks.OtherMethod method) naming behind a served b served_too = refusals_same _ a b
-  asked_same (asks.Report report) naming behind a served b served_too =
-      texts_same (body_kind report) (report_outcome naming report) refl a served b served_too
+  asked_same (asks.Settled due) naming behind a served b served_too = refusals_same _ a b
+  asked_same (asks.Report report kind) naming behind a served b served_too =
+      texts_same kind (report_outcome naming report) refl a served b served_too
   asked_same (asks.Details wanted) naming behind a served b served_too =
       texts_same (form_kind wanted.form) (detail_text_outcome wanted naming) refl a served b served_too
   asked_same (asks.WhatIf what_if size) naming behind a served b served_too =

@@ -14,10 +14,7 @@ use Rattle.book_core.specs.Transition.{Transition, NoEvent}
 use Rattle.book_model.specs.declared.fault.LedgerFault.TheVariants as fault
 use Rattle.book_reports.specs.declared.fault.ReportFault.{ReportFault}
 use Rattle.book_reports.specs.declared.fault.ReportFault.TheVariants.{Write, Memory, Ledger}
-use Rattle.book_reports.specs.declared.report.PeriodReport.TheVariants.{AdjustmentTable}
-use Rattle.book_reports.specs.declared.report.PeriodReport.TheVariants.{StatementTable}
 use Rattle.book_reports.specs.declared.report.Report.{Report}
-use Rattle.book_reports.specs.declared.report.Report.TheVariants as report
 use Rattle.book_reports.specs.declared.streamed_details.DetailReport.{DetailReport}
 use Rattle.book_reports.specs.declared.what_if.StatementForm.{StatementForm}
 use Rattle.book_reports.specs.declared.what_if.StatementForm.TheVariants as shown_as
@@ -27,25 +24,16 @@ use Rattle.book_reports.specs.WhatIfTexts.{what_if_report}
 use Rattle.office.specs.declared.request.Asked.TheVariants as requests
 use Rattle.office.specs.Requests as tells
 use Rattle.office.specs.Requests.{Response, Asks, Receives, response_outcome, whole_dump, no_dump}
-use Rattle.book_http.specs.declared.answer_head.BodyKind.{BodyKind}
-use Rattle.book_http.specs.declared.answer_head.BodyKind.TheVariants.{Text, Csv, Page, TariffFile}
+use Rattle.report_rows.specs.declared.report_row.BodyKind.{BodyKind}
+use Rattle.report_rows.specs.declared.report_row.BodyKind.TheVariants.{Text, Csv}
 use Rattle.book_http.specs.declared.asked.Asked.{Asked}
 use Rattle.book_http.specs.declared.asked.Asked.TheVariants as asks
 use Rattle.book_http.specs.declared.status.Status.TheVariants.{BadRequest, NotFound, Unavailable}
 use Rattle.book_http.specs.Asked.{asked}
 use Rattle.book_http.specs.Head.{HasHead, HasNoHead}
-use Rattle.book_http.specs.Replies.{Reply, success, refusal, other_method, receipt_reply}
+use Rattle.book_http.specs.Replies.{Reply, success, refusal, receipt_reply, reply_of}
 
-abbrev pub body_kind : Report → BodyKind
-body_kind (report.OfPeriod StatementTable period centre) = Csv
-body_kind (report.OfPeriod AdjustmentTable period centre) = Csv
-body_kind report.DisputeTable = Csv
-body_kind report.OfficePage = Page
-body_kind (report.PeriodPage period) = Page
-body_kind (report.TariffText day) = TariffFile
-body_kind report = Text
-
--- that of details, and of what a period would have cost
+-- the kind of body of details, and of what a period would have cost
 abbrev pub form_kind : StatementForm → BodyKind
 form_kind shown_as.Text = Text
 form_kind shown_as.Table = Csv
@@ -69,10 +57,10 @@ pub record AnswersOffice (kind : BodyKind) (Making : Result Response LedgerFault
   pub made : Making told was before events is
   pub replied : reply ≡ office_reply kind told
 
--- a report of the books
-abbrev pub AnswersReport : Naming → Report → Reply → Transition
-AnswersReport naming report reply =
-    AnswersOffice (body_kind report) (Asks naming (requests.Report report) no_dump) reply
+-- a report of the books, as a body of this kind
+abbrev pub AnswersReport : Naming → Report → BodyKind → Reply → Transition
+AnswersReport naming report kind reply =
+    AnswersOffice kind (Asks naming (requests.Report report) no_dump) reply
 
 -- the text of the details that are wanted, as one call of the ledger
 abbrev pub ReadsDetails : Naming → DetailReport → Result Response LedgerFault → Transition
@@ -127,10 +115,9 @@ AnswersBody Whole size behind reply =
     UnlessBad (nat_lt (length behind) size) (Whole (take size behind) reply) reply
 
 -- what is asked is answered, by the bytes after the head
-abbrev pub AnswersAsked : Naming → Asked → List ℕ → Reply → Transition
-AnswersAsked naming (asks.Refusal status) behind reply = RefusesRequest (refusal status) reply
-AnswersAsked naming (asks.OtherMethod method) behind reply = RefusesRequest (other_method method) reply
-AnswersAsked naming (asks.Report report) behind reply = AnswersReport naming report reply
+abbrev pub AnswersAsked : Naming → Asked ℕ → List ℕ → Reply → Transition
+AnswersAsked naming (asks.Settled due) behind reply = RefusesRequest (reply_of due) reply
+AnswersAsked naming (asks.Report report kind) behind reply = AnswersReport naming report kind reply
 AnswersAsked naming (asks.Details wanted) behind reply = AnswersDetails naming wanted reply
 AnswersAsked naming (asks.Import layout size) behind reply =
     AnswersBody (AnswersImport naming layout) size behind reply

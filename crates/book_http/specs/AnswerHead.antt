@@ -1,7 +1,7 @@
 -- The lines of an answer before its body (RFC 9112, sections 4 and 5).
 use Rattle.std.specs.Prelude.{ℕ, List, [], ◌++◌, codes, decimal, Option, Some, None}
-use Rattle.book_http.specs.declared.answer_head.BodyKind.{BodyKind}
-use Rattle.book_http.specs.declared.answer_head.BodyKind.TheVariants.{Text, Csv, Page, TariffFile}
+use Rattle.report_rows.specs.declared.report_row.BodyKind.{BodyKind}
+use Rattle.report_rows.specs.declared.report_row.BodyKind.TheVariants.{Text, Csv, Page, TariffFile}
 use Rattle.book_http.specs.declared.method.Method.{Method}
 use Rattle.book_http.specs.declared.notice.Notice.{Notice}
 use Rattle.book_http.specs.declared.notice.Notice.TheVariants.{Allow, RetryAfter}

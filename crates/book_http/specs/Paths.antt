@@ -1,87 +1,108 @@
--- The paths that are served, as texts.
-use Rattle.std.specs.Prelude.{◌≡◌, ℕ, ◌≤◌, List, ◌++◌, codes, decimal, ⊤}
-use Rattle.std.specs.Prelude.{Option, Some, None, IfSome}
+-- The paths that are served: a front, and behind it what names a period, a day or a record.
+use Rattle.std.specs.Prelude.{◌≡◌, ℕ, ◌≤◌, List, [], ◌++◌, codes, decimal}
+use Rattle.std.specs.Prelude.{Option, Some, None, IfSome, option_map}
+use Rattle.smf_frames.specs.declared.dump.Layout.{Layout}
 use Rattle.smf_frames.specs.declared.dump.Layout.TheVariants.{Rdw, Bdw}
 use Rattle.book_model.specs.Words.{IsDay, IsName, day_text_of}
 use Rattle.book_reports.specs.RecordNames.{name_in}
-use Rattle.book_reports.specs.declared.report.PeriodReport.{PeriodReport}
-use Rattle.book_reports.specs.declared.report.PeriodReport.TheVariants as of_period
-use Rattle.book_reports.specs.declared.report.Report.TheVariants as report_of
+use Rattle.book_reports.specs.declared.report.Report.{Report}
+use Rattle.book_reports.specs.declared.report.Report.TheVariants as made
 use Rattle.book_reports.specs.declared.what_if.StatementForm.{StatementForm}
 use Rattle.book_reports.specs.declared.what_if.StatementForm.TheVariants as shown_as
+use Rattle.report_rows.specs.Abouts.{report_about}
+use Rattle.report_rows.specs.ReportRows.{kind_in, path_in, row_of}
+use Rattle.report_rows.specs.declared.about.About.{About}
+use Rattle.report_rows.specs.declared.about.About.TheVariants as about
+use Rattle.report_rows.specs.declared.report_row.BodyKind.{BodyKind}
+use Rattle.report_rows.specs.declared.report_row.BodyKind.TheVariants.{Page}
+use Rattle.report_rows.specs.declared.report_row.ReportName.{ReportName}
+use Rattle.report_rows.specs.declared.report_row.ReportName.TheVariants as report
+use Rattle.report_rows.specs.declared.report_row.Shape.{Shape}
+use Rattle.report_rows.specs.declared.report_row.Shape.TheVariants.{OfCentre, OfDay, OfOffice}
+use Rattle.report_rows.specs.declared.report_row.Shape.TheVariants.{OfPeriod, OfRecord}
+use Rattle.book_http.specs.declared.endpoint.Endpoint.{Endpoint}
+use Rattle.book_http.specs.declared.endpoint.Endpoint.TheVariants as endpoint
 use Rattle.book_http.specs.declared.route.Route.{Route}
 use Rattle.book_http.specs.declared.route.Route.TheVariants as route_to
-
--- a period that a path can name
-abbrev pub IsPathPeriod : ℕ → Type 0
-IsPathPeriod n = (1 ≤ n) × (n ≤ 9999)
-
--- what is served: the page of the office, and that of such a period; each report that names no period,
--- each record, the tariff of each day, and the other reports of such a period but for bills, of the whole
--- office and of each centre, and its details; what such a period would have cost; imports
-abbrev pub IsServedRoute : Route → Type 0
-IsServedRoute (route_to.Report report_of.OfficePage) = ⊤
-IsServedRoute (route_to.Report (report_of.PeriodPage n)) = IsPathPeriod n
-IsServedRoute (route_to.Report report_of.PeriodList) = ⊤
-IsServedRoute (route_to.Report (report_of.OfPeriod asked n centre)) =
-    IsPathPeriod n × IfSome centre IsName
-IsServedRoute (route_to.Report report_of.DisputeList) = ⊤
-IsServedRoute (route_to.Report report_of.DisputeTable) = ⊤
-IsServedRoute (route_to.Report (report_of.Record name)) = ⊤
-IsServedRoute (route_to.Report report_of.RulingList) = ⊤
-IsServedRoute (route_to.Report (report_of.TariffText day)) = IsDay day
-IsServedRoute (route_to.Report (report_of.Bill form n centre)) = ⊥
-IsServedRoute (route_to.Details details) = IsPathPeriod details.period × IfSome details.centre IsName
-IsServedRoute (route_to.WhatIf what_if) = IsPathPeriod what_if.period × IfSome what_if.centre IsName
-IsServedRoute (route_to.Import layout) = ⊤
-
--- where what a period has is served
-abbrev pub period_path : PeriodReport → List ℕ
-period_path of_period.Statement = codes "/statement/"
-period_path of_period.StatementTable = codes "/statement-csv/"
-period_path of_period.AdjustmentList = codes "/adjustments/"
-period_path of_period.AdjustmentTable = codes "/adjustments-csv/"
-
--- where the details of a period are served
-abbrev pub details_path : StatementForm → List ℕ
-details_path shown_as.Text = codes "/details/"
-details_path shown_as.Table = codes "/details-csv/"
 
 -- where it is served what a period would have cost by a tariff that is submitted
 abbrev pub what_if_path : StatementForm → List ℕ
 what_if_path shown_as.Text = codes "/what-if/"
 what_if_path shown_as.Table = codes "/what-if-csv/"
 
+-- where dumps are submitted
+abbrev pub import_path : Layout → List ℕ
+import_path Rdw = codes "/import"
+import_path Bdw = codes "/import-bdw"
+
+-- the front of the paths of what is served, if it is: that of a report as its row says
+abbrev pub front_of : Endpoint → Option (List ℕ)
+front_of (endpoint.Report name form) = path_in (row_of name) form
+front_of endpoint.Office = Some (codes "/")
+front_of (endpoint.WhatIf form) = Some (what_if_path form)
+front_of (endpoint.Import layout) = Some (import_path layout)
+
+-- what its paths name behind that
+abbrev pub shape_of : Endpoint → Shape
+shape_of (endpoint.Report name form) = (row_of name).shape
+shape_of endpoint.Office = OfOffice
+shape_of (endpoint.WhatIf form) = OfCentre
+shape_of (endpoint.Import layout) = OfOffice
+
+-- a period that a path can name
+abbrev pub IsPathPeriod : ℕ → Type 0
+IsPathPeriod n = (1 ≤ n) × (n ≤ 9999)
+
 -- a period in a path, and a centre after it, if there is one
 abbrev pub period_text : ℕ → Option (List ℕ) → List ℕ
 period_text n None = decimal n
 period_text n (Some centre) = decimal n ++ codes "/" ++ centre
 
--- a record is served where digits, of either case, spell its name
-abbrev pub IsPathOfRecord : List ℕ → List ℕ → Type 0
-IsPathOfRecord name path =
-    (digits : List ℕ) × (path ≡ codes "/record/" ++ digits) × (name_in digits ≡ Some name)
+-- a text names this in a path: no text the office, and digits of either case that spell its name a record
+abbrev pub Names : Shape → List ℕ → About → Type 0
+Names OfCentre text (about.OfCentre n centre) =
+    (text ≡ period_text n centre) × IsPathPeriod n × IfSome centre IsName
+Names OfPeriod text (about.OfPeriod n) = (text ≡ decimal n) × IsPathPeriod n
+Names OfOffice text about.OfOffice = text ≡ []
+Names OfDay text (about.OfDay day) = (text ≡ day_text_of day) × IsDay day
+Names OfRecord text (about.OfRecord name) = name_in text ≡ Some name
+Names shape text thing = ⊥
 
--- the path of what is served
-abbrev pub HasPath : Route → List ℕ → Type 0
-HasPath (route_to.Report report_of.OfficePage) path = path ≡ codes "/"
-HasPath (route_to.Report (report_of.PeriodPage n)) path = path ≡ codes "/period/" ++ decimal n
-HasPath (route_to.Report report_of.PeriodList) path = path ≡ codes "/periods"
-HasPath (route_to.Report (report_of.OfPeriod asked n centre)) path =
-    path ≡ period_path asked ++ period_text n centre
-HasPath (route_to.Report report_of.DisputeList) path = path ≡ codes "/disputes"
-HasPath (route_to.Report report_of.DisputeTable) path = path ≡ codes "/disputes-csv"
-HasPath (route_to.Report (report_of.Record name)) path = IsPathOfRecord name path
-HasPath (route_to.Report report_of.RulingList) path = path ≡ codes "/rulings"
-HasPath (route_to.Report (report_of.TariffText day)) path = path ≡ codes "/tariff/" ++ day_text_of day
-HasPath (route_to.Report (report_of.Bill form n centre)) path = ⊥
-HasPath (route_to.Details details) path =
-    path ≡ details_path details.form ++ period_text details.period details.centre
-HasPath (route_to.WhatIf what_if) path =
-    path ≡ what_if_path what_if.form ++ period_text what_if.period what_if.centre
-HasPath (route_to.Import Rdw) path = path ≡ codes "/import"
-HasPath (route_to.Import Bdw) path = path ≡ codes "/import-bdw"
+-- the details of a period, which are written while they are read
+abbrev pub details_of : StatementForm → About → Option Route
+details_of form (about.OfCentre n centre) =
+    Some (route_to.Details (record { form = form; period = n; centre = centre }))
+details_of form thing = None
 
--- what a path is found to be for: it is served, and that is its path
-abbrev pub IsPathOf : List ℕ → Route → Type 0
-IsPathOf path route = IsServedRoute route × HasPath route path
+-- what a period would have cost
+abbrev pub what_if_of : StatementForm → About → Option Route
+what_if_of form (about.OfCentre n centre) =
+    Some (route_to.WhatIf (record { form = form; period = n; centre = centre }))
+what_if_of form thing = None
+
+-- any other report is made whole, as a body of this kind
+abbrev pub whole_report : BodyKind → Option Report → Option Route
+whole_report kind found = option_map (λ asked. route_to.Report asked kind) found
+
+abbrev pub report_of : ReportName → StatementForm → About → Option Route
+report_of report.Details form thing = details_of form thing
+report_of name form thing =
+    whole_report (kind_in (row_of name) form) (report_about name form thing)
+
+-- what is asked at an endpoint of what a path names
+abbrev pub asked_of : Endpoint → About → Option Route
+asked_of (endpoint.Report name form) thing = report_of name form thing
+asked_of endpoint.Office thing = Some (route_to.Report made.OfficePage Page)
+asked_of (endpoint.WhatIf form) thing = what_if_of form thing
+asked_of (endpoint.Import layout) thing = Some (route_to.Import layout)
+
+-- What a path is for: it is what is asked at an endpoint of what the path names behind the front of that.
+pub record IsPathOf (path : List ℕ) (asked : Route) : Type 0 where
+  pub place : Endpoint
+  pub front : List ℕ
+  pub rest : List ℕ
+  pub thing : About
+  pub served : front_of place ≡ Some front
+  pub is : path ≡ front ++ rest
+  pub names : Names (shape_of place) rest thing
+  pub asks : asked_of place thing ≡ Some asked

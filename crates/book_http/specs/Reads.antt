@@ -110,13 +110,13 @@ IsDueBehind front size came room = IsDueForBody size (length (front ++ came)) ro
 
 -- After a head that asks this, and these bytes, a read is due only for the body of an import or of a
 -- tariff.
-abbrev pub IsDueAfterHead : Asked → List ℕ → ℕ → Type 0
+abbrev pub IsDueAfterHead : Asked ℕ → List ℕ → ℕ → Type 0
 IsDueAfterHead (asks.Import layout size) behind room = IsDueForBody size (length behind) room
 IsDueAfterHead (asks.WhatIf what_if size) behind room = IsDueForBody size (length behind) room
 IsDueAfterHead asked behind room = ⊥
 
 -- so is one where the first of them came with the head
-abbrev pub IsDueOn : Asked → List ℕ → List ℕ → ℕ → Type 0
+abbrev pub IsDueOn : Asked ℕ → List ℕ → List ℕ → ℕ → Type 0
 IsDueOn asked front came room = IsDueAfterHead asked (front ++ came) room
 
 -- a read is due for a request of which these bytes came

@@ -6,8 +6,8 @@ use Rattle.book_import.specs.declared.receipt.Stop.TheVariants.{End, Frame}
 use Rattle.book_reports.specs.ReceiptLines.{receipt_line_text}
 use Rattle.book_http.specs.declared.answer.Answer.{Answer}
 use Rattle.book_http.specs.declared.answer.Answer.TheVariants as answer
-use Rattle.book_http.specs.declared.answer_head.BodyKind.{BodyKind}
-use Rattle.book_http.specs.declared.answer_head.BodyKind.TheVariants.{Text}
+use Rattle.report_rows.specs.declared.report_row.BodyKind.{BodyKind}
+use Rattle.report_rows.specs.declared.report_row.BodyKind.TheVariants.{Text}
 use Rattle.book_http.specs.declared.method.Method.{Method}
 use Rattle.book_http.specs.declared.notice.Notice.{Notice}
 use Rattle.book_http.specs.declared.notice.Notice.TheVariants.{Allow, RetryAfter}

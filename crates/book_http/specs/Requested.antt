@@ -1,6 +1,7 @@
 -- What is asked by a request that was read whole: by what its head asks, and the bytes after that.
 use Rattle.std.specs.Prelude.{◌≡◌, ◌⊎◌, ◌<◌, ℕ, Bool, true, List, [], ◌++◌, length, take, nat_lt}
-use Rattle.std.specs.Prelude.{if◌then◌else◌, IfOk, Option, Result, Ok, Err}
+use Rattle.std.specs.Prelude.{if◌then◌else◌, IfOk, Option, Result, Ok, Err, Vec}
+use Rattle.std.specs.Global.{Global}
 use Rattle.httparse.specs.Grammar.{RequestHead}
 use Rattle.smf_frames.specs.declared.dump.Layout.{Layout}
 use Rattle.streams.specs.declared.source.Source.{Source}
@@ -10,13 +11,10 @@ use Rattle.book_core.specs.Transition.{Transition}
 use Rattle.book_reports.specs.declared.report.Report.{Report}
 use Rattle.book_reports.specs.declared.streamed_details.DetailReport.{DetailReport}
 use Rattle.book_reports.specs.declared.what_if.WhatIf.{WhatIf}
+use Rattle.report_rows.specs.declared.report_row.BodyKind.{BodyKind}
 use Rattle.book_http.specs.declared.asked.Asked.{Asked}
 use Rattle.book_http.specs.declared.asked.Asked.TheVariants as asks
-use Rattle.book_http.specs.declared.requested.OfficeRequest.{OfficeRequest}
-use Rattle.book_http.specs.declared.requested.OfficeRequest.TheVariants as office
 use Rattle.book_http.specs.declared.requested.ReadFailed.{ReadFailed}
-use Rattle.book_http.specs.declared.requested.Requested.{Requested}
-use Rattle.book_http.specs.declared.requested.Requested.TheVariants as requested
 use Rattle.book_http.specs.declared.served.Unanswered.{Unanswered}
 use Rattle.book_http.specs.declared.served.Unanswered.TheVariants.{Closed, Failed}
 use Rattle.book_http.specs.declared.status.Status.TheVariants.{BadRequest, Unavailable}
@@ -25,25 +23,26 @@ use Rattle.book_http.specs.Answer.{RefusesRequest}
 use Rattle.book_http.specs.Asked.{asked}
 use Rattle.book_http.specs.Head.{HasHead, HasNoHead}
 use Rattle.book_http.specs.Reads.{IsDueOn, ReadOutcome, ReadsOn}
-use Rattle.book_http.specs.Replies.{Reply, other_method, refusal, reply_of}
+use Rattle.book_http.specs.Replies.{Reply, refusal, reply_of}
 
 -- what a request asks of the books; or the reply to it, where it asks nothing of them
 pub data RequestSeen : Type 0 where
   Settles : Reply → RequestSeen
-  WantsReport : Report → RequestSeen
+  WantsReport : Report → BodyKind → RequestSeen
   WantsDetails : DetailReport → RequestSeen
   WantsWhatIf : WhatIf → List ℕ → RequestSeen
   WantsImport : Layout → List ℕ → RequestSeen
 
-abbrev pub office_seen : OfficeRequest → RequestSeen
-office_seen (office.Report report) = WantsReport report
-office_seen (office.WhatIf what_if body) = WantsWhatIf what_if body.items
-office_seen (office.Import layout body) = WantsImport layout body.items
+-- a request that was read whole, with its body
+abbrev pub WholeRequest : Type 0
+WholeRequest = Asked (Vec ℕ Global)
 
-abbrev pub request_seen : Requested → RequestSeen
-request_seen (requested.Settled answer) = Settles (reply_of answer)
-request_seen (requested.Office request) = office_seen request
-request_seen (requested.Details details) = WantsDetails details
+abbrev pub request_seen : WholeRequest → RequestSeen
+request_seen (asks.Settled due) = Settles (reply_of due)
+request_seen (asks.Report report kind) = WantsReport report kind
+request_seen (asks.Details details) = WantsDetails details
+request_seen (asks.WhatIf what_if body) = WantsWhatIf what_if body.items
+request_seen (asks.Import layout body) = WantsImport layout body.items
 
 -- what is asked with a body of so many bytes, the first ones after the head; where the input ended
 -- before the last of them, the request is bad
@@ -52,10 +51,9 @@ wanted_with Wants size behind =
     if nat_lt (length behind) size then Settles (refusal BadRequest) else Wants (take size behind)
 
 -- what a head asks, by the bytes after it
-abbrev pub wanted_by : Asked → List ℕ → RequestSeen
-wanted_by (asks.Refusal status) behind = Settles (refusal status)
-wanted_by (asks.OtherMethod method) behind = Settles (other_method method)
-wanted_by (asks.Report report) behind = WantsReport report
+abbrev pub wanted_by : Asked ℕ → List ℕ → RequestSeen
+wanted_by (asks.Settled due) behind = Settles (reply_of due)
+wanted_by (asks.Report report kind) behind = WantsReport report kind
 wanted_by (asks.Details details) behind = WantsDetails details
 wanted_by (asks.WhatIf what_if size) behind = wanted_with (WantsWhatIf what_if) size behind
 wanted_by (asks.Import layout size) behind = wanted_with (WantsImport layout) size behind
@@ -74,12 +72,12 @@ pub data AreAsking (bytes : List ℕ) (request : RequestSeen) : Type 0 where
 
 -- This is what is asked by the bytes that were taken, whatever follows them; where the input ended,
 -- nothing does.
-abbrev pub IsAsking : Bool → List ℕ → Requested → Type 0
+abbrev pub IsAsking : Bool → List ℕ → WholeRequest → Type 0
 IsAsking ended taken request =
     (more : List ℕ) → (ended ≡ true → more ≡ []) → AreAsking (taken ++ more) (request_seen request)
 
 -- so is what is asked after a head that asks this, by the bytes that were taken after it
-abbrev pub IsAskingAfter : Bool → Asked → List ℕ → Requested → Type 0
+abbrev pub IsAskingAfter : Bool → Asked ℕ → List ℕ → WholeRequest → Type 0
 IsAskingAfter ended wanted behind request =
     (more : List ℕ) → (ended ≡ true → more ≡ [])
     → IsUnlessMemory (wanted_by wanted (behind ++ more)) (request_seen request)
@@ -87,15 +85,15 @@ IsAskingAfter ended wanted behind request =
 -- After a head that asks this, with these bytes behind it, a source was read on for its body alone; and
 -- this is what is asked.
 abbrev pub AsksAfter : {R : Type 0} {answers : _} {bytes : _} → (R → Option (List ℕ)) → ReadOutcome R
-    → Asked → List ℕ → Source R answers bytes → Source R answers bytes → Result Requested ReadFailed
-    → Type 0
+    → Asked ℕ → List ℕ → Source R answers bytes → Source R answers bytes
+    → Result WholeRequest ReadFailed → Type 0
 AsksAfter remaining MayAnswer wanted behind old new result =
     ReadsOn remaining MayAnswer (IsDueOn wanted behind) old new
     (λ came. IfOk result (IsAskingAfter (has_ended new) wanted (behind ++ came)))
 
 -- What is asked by the bytes that were taken for a request; or nothing, where the input ended before
 -- the first of them, or a read failed.
-abbrev pub IsReadAs : Bool → Result Requested Unanswered → List ℕ → Type 0
+abbrev pub IsReadAs : Bool → Result WholeRequest Unanswered → List ℕ → Type 0
 IsReadAs ended (Ok request) taken = IsAsking ended taken request
 IsReadAs ended (Err Closed) taken = taken ≡ []
 IsReadAs ended (Err Failed) taken = Unit {0}
@@ -103,7 +101,7 @@ IsReadAs ended (Err Failed) taken = Unit {0}
 -- a request is answered, and this is the reply
 abbrev pub AnswersRequest : Naming → RequestSeen → Reply → Transition
 AnswersRequest naming (Settles due) reply = RefusesRequest due reply
-AnswersRequest naming (WantsReport report) reply = AnswersReport naming report reply
+AnswersRequest naming (WantsReport report kind) reply = AnswersReport naming report kind reply
 AnswersRequest naming (WantsDetails wanted) reply = AnswersDetails naming wanted reply
 AnswersRequest naming (WantsWhatIf what_if body) reply = AnswersWhatIf what_if body reply
 AnswersRequest naming (WantsImport layout body) reply = AnswersImport naming layout body reply

@@ -1,8 +1,9 @@
--- How the route of a path is looked up, by matchit's reading of the eighteen route texts. That this
--- finds what Paths says, and nothing else, is a clause of the function that looks it up.
-use Rattle.std.specs.Prelude.{ℕ, Bool, if◌then◌else◌, List, [], ◌∷◌, ◌==◌, codes, length, drop, nat_eq}
+-- How what a path asks for is found: its endpoint by matchit's reading of the routes, which are made of the
+-- fronts, and then what it names behind its front. That this finds what Paths says, and nothing else, is a
+-- clause of the function that looks it up.
+use Rattle.std.specs.Prelude.{ℕ, Bool, true, false, if◌then◌else◌, List, [], ◌∷◌, ◌==◌, ◌++◌, codes}
+use Rattle.std.specs.Prelude.{length, drop, nat_eq}
 use Rattle.std.specs.Prelude.{Option, Some, None, option_and_then, option_map, Result, Ok, Err}
-use Rattle.std.specs.Borrow.{Bor}
 use Rattle.std.specs.List.{before_first, fold, starts_with}
 use Rattle.matchit.specs.Order.{placed}
 use Rattle.matchit.specs.Route.{Scan, parse_route}
@@ -14,30 +15,29 @@ use Rattle.smf_frames.specs.declared.dump.Layout.TheVariants.{Rdw, Bdw}
 use Rattle.smf_text.specs.Day.{day_of_text_of}
 use Rattle.book_reports.specs.BookTexts.{centre_named}
 use Rattle.book_reports.specs.RecordNames.{name_in}
-use Rattle.book_reports.specs.declared.report.PeriodReport.{PeriodReport}
-use Rattle.book_reports.specs.declared.report.PeriodReport.TheVariants as of_period
-use Rattle.book_reports.specs.declared.report.Report.TheVariants as report_of
-use Rattle.book_reports.specs.declared.what_if.StatementForm.{StatementForm}
 use Rattle.book_reports.specs.declared.what_if.StatementForm.TheVariants as shown_as
-use Rattle.book_http.specs.declared.route.Endpoint.{Endpoint}
-use Rattle.book_http.specs.declared.route.Endpoint.TheVariants as endpoint
+use Rattle.report_rows.specs.ReportRows.{reports}
+use Rattle.report_rows.specs.declared.about.About.{About}
+use Rattle.report_rows.specs.declared.about.About.TheVariants as about
+use Rattle.report_rows.specs.declared.report_row.ReportName.{ReportName}
+use Rattle.report_rows.specs.declared.report_row.Shape.{Shape}
+use Rattle.report_rows.specs.declared.report_row.Shape.TheVariants.{OfCentre, OfDay, OfOffice}
+use Rattle.report_rows.specs.declared.report_row.Shape.TheVariants.{OfPeriod, OfRecord}
+use Rattle.book_http.specs.declared.endpoint.Endpoint.{Endpoint}
+use Rattle.book_http.specs.declared.endpoint.Endpoint.TheVariants as endpoint
 use Rattle.book_http.specs.declared.route.Route.{Route}
-use Rattle.book_http.specs.declared.route.Route.TheVariants as route_to
 use Rattle.book_http.specs.Numbers.{decimal_value}
-use Rattle.book_http.specs.Paths.{details_path, period_path, what_if_path}
+use Rattle.book_http.specs.Paths.{asked_of, front_of, shape_of}
 
 -- a target up to a question mark; nothing is decoded
 abbrev pub path_of : List ℕ → List ℕ
 path_of target = before_first (λ b. b == 63) target
 
+-- ---- what a text names
+
 -- a period is 1 to 4 digits, the first of them no 0
 unfoldable pub period : List ℕ → Option ℕ
 period text = if starts_with nat_eq text (codes "0") then None else decimal_value 4 text
-
--- what a path has after its prefix
-unfoldable pub path_rest : List ℕ → List ℕ → Option (List ℕ)
-path_rest prefix path =
-    if starts_with nat_eq path prefix then Some (drop (length prefix) path) else None
 
 -- the slash, in ASCII
 abbrev pub is_slash : ℕ → Bool
@@ -72,97 +72,104 @@ period_by number (Some name) = period_of_centre number (centre_named name)
 unfoldable pub period_in : List ℕ → Option (ℕ × Option (List ℕ))
 period_in text = period_by (period (before_slash text)) (after_slash text)
 
--- the same of a path, after its prefix
-abbrev pub period_after : List ℕ → List ℕ → Option (ℕ × Option (List ℕ))
-period_after prefix path = option_and_then period_in (path_rest prefix path)
+-- the same as what a report is about, and what else a text may name
+abbrev pub centre_in : List ℕ → Option About
+centre_in text = option_map (λ named. about.OfCentre named.0 named.1) (period_in text)
 
--- what a period has, of the whole office or of a centre
-abbrev pub report_on : PeriodReport → ℕ → Option (List ℕ) → Route
-report_on asked number centre = route_to.Report (report_of.OfPeriod asked number centre)
+abbrev pub number_in : List ℕ → Option About
+number_in text = option_map about.OfPeriod (period text)
 
--- its details
-abbrev pub details_on : StatementForm → ℕ → Option (List ℕ) → Route
-details_on form number centre =
-    route_to.Details (record { form = form; period = number; centre = centre })
+abbrev pub office_in : List ℕ → Option About
+office_in text = if length text == 0 then Some about.OfOffice else None
 
--- and what it would have cost by a tariff
-abbrev pub what_if_on : StatementForm → ℕ → Option (List ℕ) → Route
-what_if_on form number centre =
-    route_to.WhatIf (record { form = form; period = number; centre = centre })
+abbrev pub day_in : List ℕ → Option About
+day_in text = option_map about.OfDay (day_of_text_of text)
 
--- what a path asks for by the period, and the centre if there is one, after its prefix
-abbrev pub named_after : (ℕ → Option (List ℕ) → Route) → List ℕ → List ℕ → Option Route
-named_after on prefix path = option_map (λ named. on named.0 named.1) (period_after prefix path)
+abbrev pub record_in : List ℕ → Option About
+record_in text = option_map about.OfRecord (name_in text)
 
--- the period whose page a path asks for after its prefix
-abbrev pub page_after : List ℕ → List ℕ → Option Route
-page_after prefix path =
-    option_map (λ number. route_to.Report (report_of.PeriodPage number))
-    (option_and_then period (path_rest prefix path))
+-- by the shape of the path
+unfoldable pub thing_in : Shape → List ℕ → Option About
+thing_in OfCentre text = centre_in text
+thing_in OfPeriod text = number_in text
+thing_in OfOffice text = office_in text
+thing_in OfDay text = day_in text
+thing_in OfRecord text = record_in text
 
--- the record whose name a path spells after its prefix
-abbrev pub record_after : List ℕ → List ℕ → Option Route
-record_after prefix path =
-    option_map (λ name. route_to.Report (report_of.Record name))
-    (option_and_then name_in (path_rest prefix path))
+-- ---- what an endpoint is for
 
--- the tariff of the day that a path names after its prefix
-abbrev pub tariff_after : List ℕ → List ℕ → Option Route
-tariff_after prefix path =
-    option_map (λ day. route_to.Report (report_of.TariffText day))
-    (option_and_then day_of_text_of (path_rest prefix path))
+-- what a path has after its prefix
+unfoldable pub path_rest : List ℕ → List ℕ → Option (List ℕ)
+path_rest prefix path =
+    if starts_with nat_eq path prefix then Some (drop (length prefix) path) else None
 
--- what an endpoint is for at a path
+-- what is asked by what a path has behind its front
+abbrev pub asked_in : Endpoint → List ℕ → Option Route
+asked_in place rest = option_and_then (asked_of place) (thing_in (shape_of place) rest)
+
+-- by a path with this front
+abbrev pub asked_behind : Endpoint → List ℕ → List ℕ → Option Route
+asked_behind place front path = option_and_then (asked_in place) (path_rest front path)
+
+-- by a path of this endpoint
 unfoldable pub route_at : Endpoint → List ℕ → Option Route
-route_at endpoint.Office path = Some (route_to.Report report_of.OfficePage)
-route_at endpoint.Period path = page_after (codes "/period/") path
-route_at endpoint.Periods path = Some (route_to.Report report_of.PeriodList)
-route_at (endpoint.OfPeriod asked) path = named_after (report_on asked) (period_path asked) path
-route_at (endpoint.Details form) path = named_after (details_on form) (details_path form) path
-route_at endpoint.Disputes path = Some (route_to.Report report_of.DisputeList)
-route_at endpoint.DisputesCsv path = Some (route_to.Report report_of.DisputeTable)
-route_at endpoint.Record path = record_after (codes "/record/") path
-route_at endpoint.Rulings path = Some (route_to.Report report_of.RulingList)
-route_at endpoint.Tariff path = tariff_after (codes "/tariff/") path
-route_at (endpoint.WhatIf form) path = named_after (what_if_on form) (what_if_path form) path
-route_at (endpoint.Import layout) path = Some (route_to.Import layout)
+route_at place path = option_and_then (λ front. asked_behind place front path) (front_of place)
+
+-- ---- the router
+
+-- what the router keeps of a route
+abbrev pub Key : Type 0
+Key = RouteOf Endpoint
 
 -- the rows of the router with one more route, as matchit reads its text
-abbrev pub with_scan :
-    Result Scan InsertError → Endpoint → RowsOf (RouteOf Endpoint) → RowsOf (RouteOf Endpoint)
+abbrev pub with_scan : Result Scan InsertError → Endpoint → RowsOf Key → RowsOf Key
 with_scan (Ok scan) value rows = placed (scan.pattern, route_from scan value) rows
 with_scan (Err error) value rows = rows
 
-abbrev pub with_route : List ℕ → Endpoint → RowsOf (RouteOf Endpoint) → RowsOf (RouteOf Endpoint)
+abbrev pub with_route : List ℕ → Endpoint → RowsOf Key → RowsOf Key
 with_route text value rows = with_scan (parse_route text) value rows
 
--- the rows of the router with routes that are put in one after the other
-abbrev pub rows_by : List (Bor (List ℕ) × Endpoint) → RowsOf (RouteOf Endpoint)
-rows_by routes =
-    fold (λ (rows : RowsOf (RouteOf Endpoint)) (it : Bor (List ℕ) × Endpoint).
-    with_route it.0.now it.1 rows) [] routes
+-- the paths of this shape name nothing behind their front
+abbrev pub is_plain : Shape → Bool
+is_plain OfOffice = true
+is_plain shape = false
 
--- the eighteen routes
-unfoldable pub route_rows : RowsOf (RouteOf Endpoint)
-route_rows =
-    with_route (codes "/period/{*rest}") endpoint.Period
-    (with_route (codes "/") endpoint.Office
-    (with_route (codes "/import-bdw") (endpoint.Import Bdw)
-    (with_route (codes "/import") (endpoint.Import Rdw)
-    (with_route (codes "/what-if-csv/{*rest}") (endpoint.WhatIf shown_as.Table)
-    (with_route (codes "/what-if/{*rest}") (endpoint.WhatIf shown_as.Text)
-    (with_route (codes "/tariff/{*rest}") endpoint.Tariff
-    (with_route (codes "/rulings") endpoint.Rulings
-    (with_route (codes "/record/{*rest}") endpoint.Record
-    (with_route (codes "/disputes-csv") endpoint.DisputesCsv
-    (with_route (codes "/disputes") endpoint.Disputes
-    (with_route (codes "/details-csv/{*rest}") (endpoint.Details shown_as.Table)
-    (with_route (codes "/details/{*rest}") (endpoint.Details shown_as.Text)
-    (with_route (codes "/adjustments-csv/{*rest}") (endpoint.OfPeriod of_period.AdjustmentTable)
-    (with_route (codes "/adjustments/{*rest}") (endpoint.OfPeriod of_period.AdjustmentList)
-    (with_route (codes "/statement-csv/{*rest}") (endpoint.OfPeriod of_period.StatementTable)
-    (with_route (codes "/statement/{*rest}") (endpoint.OfPeriod of_period.Statement)
-    (with_route (codes "/periods") endpoint.Periods [])))))))))))))))))
+-- the route of a front with whatever follows it
+abbrev pub open_route : List ℕ → List ℕ
+open_route front = front ++ codes "{*rest}"
+
+-- the rows with an endpoint, if it is served
+abbrev pub with_front : Endpoint → Option (List ℕ) → RowsOf Key → RowsOf Key
+with_front place None rows = rows
+with_front place (Some front) rows =
+    with_route (if is_plain (shape_of place) then front else open_route front) place rows
+
+abbrev pub with_place : Endpoint → RowsOf Key → RowsOf Key
+with_place place rows = with_front place (front_of place) rows
+
+-- of endpoints that are put in one after the other
+abbrev pub rows_of : List Endpoint → RowsOf Key
+rows_of places =
+    fold (λ (rows : RowsOf Key) (place : Endpoint). with_place place rows) [] places
+
+-- what is served beside the reports
+abbrev pub other_places : List Endpoint
+other_places = endpoint.Office ∷ endpoint.WhatIf shown_as.Text ∷ endpoint.WhatIf shown_as.Table
+    ∷ endpoint.Import Rdw ∷ endpoint.Import Bdw ∷ []
+
+-- the rows with a report, in both forms
+abbrev pub with_report : RowsOf Key → ReportName → RowsOf Key
+with_report rows name =
+    with_place (endpoint.Report name shown_as.Table)
+    (with_place (endpoint.Report name shown_as.Text) rows)
+
+-- of reports, and of what is served beside them
+abbrev pub rows_with : List ReportName → RowsOf Key
+rows_with names = fold with_report (rows_of other_places) names
+
+-- of all that is served
+unfoldable pub route_rows : RowsOf Key
+route_rows = rows_with reports
 
 -- the endpoint of a path
 unfoldable pub endpoint_of : List ℕ → Option Endpoint

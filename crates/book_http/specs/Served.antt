@@ -27,6 +27,7 @@ use Rattle.book_http.specs.AnswerHead.{answer_head}
 use Rattle.book_http.specs.Asked.{asked}
 use Rattle.book_http.specs.Head.{HasHead}
 use Rattle.book_http.specs.Replies.{Reply, reply_bytes, reply_of, success}
+use Rattle.book_http.specs.Requested.{AnswersRequest, WholeRequest, request_seen}
 use Rattle.book_http.specs.Statuses.{status_code}
 
 -- Such work was done, and where the books were those of a history, they are those of that history
@@ -167,6 +168,23 @@ ServesDetails books wanted output served =
     output.old.holds output.new.holds served)
 
 -- ---- a request as a whole
+
+-- what is asked was answered at once; or it is details, which are asked for otherwise, and nothing was done
+abbrev pub AsksOffice : {L : Type 0} → (L → Seen) → L → L → WholeRequest → Result Answer DetailReport
+    → Type 0
+AsksOffice seen old new asked (Ok answer) =
+    IsTransition (seen old) (seen new)
+    (AnswersRequest (seen old).naming (request_seen asked) (reply_of answer))
+AsksOffice seen old new asked (Err details) = (asked ≡ asks.Details details) × (new ≡ old)
+
+-- what is asked was answered, and the answer was sent; or it is details, and they were served
+abbrev pub ServesAsked : Books → WholeRequest → Output → Served → Type 0
+ServesAsked books asked output served =
+    ((reply : Reply)
+    × IsTransition books.old books.new (AnswersRequest books.old.naming (request_seen asked) reply)
+    × IsSent reply output.old.holds output.new.holds served)
+    ⊎ ((details : DetailReport) × (asked ≡ asks.Details details)
+    × ServesDetails books details output served)
 
 -- the bytes begin with a head that asks for these details
 pub record AsksDetails (bytes : List ℕ) (details : DetailReport) : Type 0 where

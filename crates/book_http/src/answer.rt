@@ -1,7 +1,7 @@
-use crate::answer_head::BodyKind;
 use crate::method::Method;
 use crate::status::Status;
 use book_import::Receipt;
+use report_rows::BodyKind;
 
 /// What a request is answered.
 #[derive(Drop)]

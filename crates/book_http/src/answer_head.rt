@@ -3,7 +3,7 @@
 ghost use Rattle.std.specs.Prelude.{◌≡◌, ◌+◌, ◌≤◌, ◌++◌};
 ghost use Rattle.arrayvec.specs.ArrayString.{array_string_len};
 ghost use Rattle.book_http.specs.AnswerHead as spec;
-ghost use Rattle.book_http.specs.AnswerHead.{allow_line, limit_lines, media_type, notice_line};
+ghost use Rattle.book_http.specs.AnswerHead.{allow_line, limit_lines, notice_line};
 ghost use Rattle.book_http.specs.Statuses as statuses;
 ghost use Rattle.book_http.specs.Statuses.{status_text};
 
@@ -12,34 +12,20 @@ use crate::notice::Notice;
 use crate::status::Status;
 use arrayvec::ArrayString;
 use itoa::Buffer;
+use report_rows::BodyKind;
 
 /// A text that takes no memory beside its own.
 pub type AnswerText = ArrayString<512>;
 
-/// What the body of an answer is.
-#[derive(Clone, Copy)]
-pub enum BodyKind {
-    /// A text for people.
-    Text,
-    /// Rows with commas between their columns.
-    Csv,
-    /// A page for a browser.
-    Page,
-    /// A tariff file as it came: a text in UTF-8.
-    TariffFile,
-}
-
-impl BodyKind {
-    /// The media type.
-    fn text(self) -> &'static str
-        ensures { result.now ≡ media_type self }
-    {
-        match self {
-            BodyKind::Text => "text/plain; charset=us-ascii",
-            BodyKind::Csv => "text/csv; charset=us-ascii",
-            BodyKind::Page => "text/html; charset=us-ascii",
-            BodyKind::TariffFile => "text/plain; charset=utf-8",
-        }
+/// The media type of a body.
+fn media_type(kind: BodyKind) -> &'static str
+    ensures { result.now ≡ spec.media_type kind }
+{
+    match kind {
+        BodyKind::Text => "text/plain; charset=us-ascii",
+        BodyKind::Csv => "text/csv; charset=us-ascii",
+        BodyKind::Page => "text/html; charset=us-ascii",
+        BodyKind::TariffFile => "text/plain; charset=utf-8",
     }
 }
 
@@ -123,7 +109,7 @@ pub fn answer_head(
     text.push_str("HTTP/1.1 ");
     push_status(&mut text, status);
     text.push_str("\r\nContent-Type: ");
-    text.push_str(kind.text());
+    text.push_str(media_type(kind));
     text.push_str("\r\n");
     push_limits(&mut text, kind);
     push_notice(&mut text, notice);

@@ -5,6 +5,7 @@ ghost use Rattle.book_http.specs.Asked as spec;
 ghost use Rattle.book_http.specs.Asked.{IsServable};
 ghost use Rattle.book_http.specs.Bodies.{most_body_bytes};
 
+use crate::answer::Answer;
 use crate::body::MAX_BODY;
 use crate::framing::Framing;
 use crate::method::{Method, is_method};
@@ -12,23 +13,22 @@ use crate::route::Route;
 use crate::status::Status;
 use book_reports::DetailReport;
 use office::{Report, WhatIf};
+use report_rows::BodyKind;
 use smf_frames::Layout;
 
-/// What the head of a request asks.
-#[derive(Clone, Copy)]
-pub enum Asked {
-    /// A report.
-    Report(Report),
-    /// The details of a period.
+/// What a request asks, with the body that it brings: how many bytes that has, or they themselves.
+#[derive(Drop)]
+pub enum Asked<Body> {
+    /// Nothing of the books: this answers it.
+    Settled(Answer),
+    /// A report, and what kind of body it is.
+    Report(Report, BodyKind),
+    /// The details of a period, whose text is sent while it is read.
     Details(DetailReport),
-    /// What a period would have cost by the tariff that is a body with this many bytes.
-    WhatIf(WhatIf, u64),
-    /// The import of a body with this many bytes.
-    Import(Layout, u64),
-    /// Nothing that is served.
-    Refusal(Status),
-    /// A path that has another method, which is this one.
-    OtherMethod(Method),
+    /// What a period would have cost by the tariff that the body is.
+    WhatIf(WhatIf, Body),
+    /// The import of the body, which is a whole dump.
+    Import(Layout, Body),
 }
 
 /// The size of a body, or the status of one that is not taken.
@@ -58,20 +58,20 @@ fn posted_size(has_origin: bool, framing: Framing) -> Result<u64, Status>
 }
 
 /// What is asked at a route by its method.
-fn asked_on(route: &Route, has_origin: bool, framing: Framing) -> Asked
+fn asked_on(route: &Route, has_origin: bool, framing: Framing) -> Asked<u64>
     ensures asked { result ≡ spec.asked_on route.now has_origin framing }
     ensures limit { IsServable result }
 {
     match route {
-        Route::Report(report) => Asked::Report(*report),
+        Route::Report(report, kind) => Asked::Report(*report, *kind),
         Route::Details(details) => Asked::Details(*details),
         Route::WhatIf(what_if) => match posted_size(has_origin, framing) {
             Ok(size) => Asked::WhatIf(*what_if, size),
-            Err(status) => Asked::Refusal(status),
+            Err(status) => Asked::Settled(Answer::Refusal(status)),
         },
         Route::Import(layout) => match posted_size(has_origin, framing) {
             Ok(size) => Asked::Import(*layout, size),
-            Err(status) => Asked::Refusal(status),
+            Err(status) => Asked::Settled(Answer::Refusal(status)),
         },
     }
 }
@@ -81,7 +81,7 @@ fn method_of(route: &Route) -> Method
     ensures { result ≡ spec.method_of route.now }
 {
     match route {
-        Route::Report(_) => Method::Get,
+        Route::Report(_, _) => Method::Get,
         Route::Details(_) => Method::Get,
         Route::WhatIf(_) => Method::Post,
         Route::Import(_) => Method::Post,
@@ -89,7 +89,7 @@ fn method_of(route: &Route) -> Method
 }
 
 /// What is asked at a route by a method.
-fn asked_by(route: &Route, method: &[u8], has_origin: bool, framing: Framing) -> Asked
+fn asked_by(route: &Route, method: &[u8], has_origin: bool, framing: Framing) -> Asked<u64>
     ensures asked { result ≡ spec.asked_by route.now method.now has_origin framing }
     ensures limit { IsServable result }
 {
@@ -97,18 +97,18 @@ fn asked_by(route: &Route, method: &[u8], has_origin: bool, framing: Framing) ->
     if is_method(method, due) {
         asked_on(route, has_origin, framing)
     } else {
-        Asked::OtherMethod(due)
+        Asked::Settled(Answer::OtherMethod(due))
     }
 }
 
 /// What is asked at a route, if there is one.
-fn asked_at(found: Option<Route>, method: &[u8], has_origin: bool, framing: Framing) -> Asked
+fn asked_at(found: Option<Route>, method: &[u8], has_origin: bool, framing: Framing) -> Asked<u64>
     ensures asked { result ≡ spec.asked_at found method.now has_origin framing }
     ensures limit { IsServable result }
 {
     match &found {
         Some(route) => asked_by(route, method, has_origin, framing),
-        None => Asked::Refusal(Status::NotFound),
+        None => Asked::Settled(Answer::Refusal(Status::NotFound)),
     }
 }
 
@@ -119,12 +119,12 @@ fn asked_here(
     method: &[u8],
     has_origin: bool,
     framing: Framing,
-) -> Asked
+) -> Asked<u64>
     ensures asked { result ≡ spec.asked_here is_foreign found method.now has_origin framing }
     ensures limit { IsServable result }
 {
     if is_foreign {
-        Asked::Refusal(Status::Forbidden)
+        Asked::Settled(Answer::Refusal(Status::Forbidden))
     } else {
         asked_at(found, method, has_origin, framing)
     }
@@ -137,12 +137,12 @@ pub fn asked_framed(
     found: Option<Route>,
     method: &[u8],
     has_origin: bool,
-) -> Asked
+) -> Asked<u64>
     ensures asked { result ≡ spec.asked_framed framing is_foreign found method.now has_origin }
     ensures limit { IsServable result }
 {
     match framing {
-        Framing::Faulty => Asked::Refusal(Status::BadRequest),
+        Framing::Faulty => Asked::Settled(Answer::Refusal(Status::BadRequest)),
         _ => asked_here(is_foreign, found, method, has_origin, framing),
     }
 }

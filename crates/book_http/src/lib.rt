@@ -6,6 +6,7 @@ mod answer_head;
 mod asked;
 mod body;
 mod decimal_value;
+mod endpoint;
 mod framing;
 mod head;
 mod host;
@@ -16,17 +17,20 @@ mod office_answers;
 mod request;
 mod requested;
 mod route;
+mod routes;
 mod sending;
 mod serve;
 mod served;
 mod status;
 
 pub use answer::Answer;
+pub use asked::Asked;
 pub use laws::{
     answers_are_one, request_twice_is_once, requests_are_mended, requests_make_history,
 };
 pub use office_answers::{ask_details, ask_office};
-pub use requested::{OfficeRequest, Requested, read_request};
+pub use requested::read_request;
+pub use routes::Routes;
 pub use sending::{send, send_details};
 pub use serve::{serve_details, serve_one};
 pub use served::{Served, Unanswered};

@@ -8,37 +8,20 @@ ghost use Rattle.book_http.specs.Answer as spec;
 ghost use Rattle.book_http.specs.Answer.{AnswersDetails, AnswersImport, AnswersReport};
 ghost use Rattle.book_http.specs.Answer.{AnswersWhatIf, most_gathered, office_reply};
 ghost use Rattle.book_http.specs.Replies.{reply_of};
-ghost use Rattle.book_http.specs.Requested.{AnswersRequest, office_seen};
-ghost use Rattle.book_http.specs.Served.{IsGathered, IsRefused, Measures};
+ghost use Rattle.book_http.specs.Served.{AsksOffice, IsGathered, IsRefused, Measures};
 
 use crate::answer::Answer;
-use crate::answer_head::BodyKind;
-use crate::requested::OfficeRequest;
+use crate::asked::Asked;
 use crate::status::Status;
 use book_core::{Ledger, LedgerFault, Sink};
 use book_reports::{DetailReport, ReportFault, details_length, write_details};
-use office::{Asked, PeriodReport, Report, StatementForm, WhatIf, ask_without_reader};
+use office::{Report, StatementForm, WhatIf, ask_without_reader};
+use report_rows::BodyKind;
 use smf_frames::Layout;
 use std::alloc::Global;
 
 /// The most bytes of details that are gathered before they are sent.
 const MOST_GATHERED: usize = 16_777_216;
-
-/// The form of a report.
-fn body_kind(report: &Report) -> BodyKind
-    ensures { result ≡ spec.body_kind report.now }
-{
-    match report {
-        Report::DisputeTable
-        | Report::OfPeriod {
-            report: PeriodReport::StatementTable | PeriodReport::AdjustmentTable,
-            ..
-        } => BodyKind::Csv,
-        Report::OfficePage | Report::PeriodPage(_) => BodyKind::Page,
-        Report::TariffText(_) => BodyKind::TariffFile,
-        _ => BodyKind::Text,
-    }
-}
 
 /// The form of details, and of what a period would have cost.
 pub fn form_kind(form: StatementForm) -> BodyKind
@@ -66,13 +49,17 @@ fn answer_of(kind: BodyKind, told: Result<office::Answer, LedgerFault>) -> Answe
     }
 }
 
-/// Answers a report.
-fn answer_report<L: Ledger>(alloc: Global, ledger: &mut L, report: Report) -> Answer
+/// Answers a report, as a body of this kind.
+fn answer_report<L: Ledger>(
+    alloc: Global,
+    ledger: &mut L,
+    report: Report,
+    kind: BodyKind,
+) -> Answer
     ensures { IsTransition (L.seen ledger.old) (L.seen ledger.new)
-        (AnswersReport (L.seen ledger.old).naming report (reply_of result)) }
+        (AnswersReport (L.seen ledger.old).naming report kind (reply_of result)) }
 {
-    let kind = body_kind(&report);
-    let asked = Asked::Report(report);
+    let asked = office::Asked::Report(report);
     answer_of(kind, ask_without_reader(alloc, ledger, &asked))
 }
 
@@ -149,7 +136,7 @@ fn answer_what_if<L: Ledger>(alloc: Global, ledger: &mut L, report: WhatIf, body
         return Answer::Refusal(Status::BadRequest);
     };
     let kind = form_kind(report.form);
-    let asked = Asked::WhatIf { report, tariff };
+    let asked = office::Asked::WhatIf { report, tariff };
     answer_of(kind, ask_without_reader(alloc, ledger, &asked))
 }
 
@@ -158,21 +145,26 @@ fn answer_import<L: Ledger>(alloc: Global, ledger: &mut L, layout: Layout, body:
     ensures { IsTransition (L.seen ledger.old) (L.seen ledger.new)
         (AnswersImport (L.seen ledger.old).naming layout body.items (reply_of result)) }
 {
-    let asked = Asked::ImportBytes {
+    let asked = office::Asked::ImportBytes {
         layout,
         bytes: body,
     };
     answer_of(BodyKind::Text, ask_without_reader(alloc, ledger, &asked))
 }
 
-/// Asks the office once.
-pub fn ask_office<L: Ledger>(alloc: Global, ledger: &mut L, request: OfficeRequest) -> Answer
-    ensures { IsTransition (L.seen ledger.old) (L.seen ledger.new) (AnswersRequest
-        (L.seen ledger.old).naming (office_seen request) (reply_of result)) }
+/// Asks the office once, but for details, which `ask_details` asks for: of those nothing is done.
+pub fn ask_office<L: Ledger>(
+    alloc: Global,
+    ledger: &mut L,
+    asked: Asked<Vec<u8>>,
+) -> Result<Answer, DetailReport>
+    ensures { AsksOffice L.seen ledger.old ledger.new asked result }
 {
-    match request {
-        OfficeRequest::Report(report) => answer_report(alloc, ledger, report),
-        OfficeRequest::WhatIf { what_if, body } => answer_what_if(alloc, ledger, what_if, body),
-        OfficeRequest::Import { layout, body } => answer_import(alloc, ledger, layout, body),
+    match asked {
+        Asked::Settled(answer) => Ok(answer),
+        Asked::Report(report, kind) => Ok(answer_report(alloc, ledger, report, kind)),
+        Asked::Details(details) => Err(details),
+        Asked::WhatIf(what_if, body) => Ok(answer_what_if(alloc, ledger, what_if, body)),
+        Asked::Import(layout, body) => Ok(answer_import(alloc, ledger, layout, body)),
     }
 }

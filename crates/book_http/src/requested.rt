@@ -21,51 +21,27 @@ use crate::body::{BodyFault, read_body};
 use crate::head::{HeadRead, MAX_FIELDS, MAX_HEAD, read_head};
 use crate::request::{Request, request_in};
 use crate::route::find_route;
+use crate::routes::Routes;
 use crate::served::Unanswered;
 use crate::status::Status;
 use book_core::Source;
-use book_reports::DetailReport;
 use httparse::spans::EMPTY_HEADER_SPAN;
-use office::{Report, WhatIf};
-use smf_frames::Layout;
 use std::alloc::Global;
 use streams::Reader;
-
-/// What a request asks that was read whole.
-#[derive(Drop)]
-pub enum Requested {
-    /// Nothing of the books: this answers it.
-    Settled(Answer),
-    /// One answer of the office.
-    Office(OfficeRequest),
-    /// The details of a period, whose text is sent while it is read.
-    Details(DetailReport),
-}
-
-/// What is asked of the office, with the body that it takes.
-#[derive(Drop)]
-pub enum OfficeRequest {
-    /// A report.
-    Report(Report),
-    /// What a period would have cost by the tariff that the body is.
-    WhatIf { what_if: WhatIf, body: Vec<u8> },
-    /// The import of the body, which is a whole dump.
-    Import { layout: Layout, body: Vec<u8> },
-}
 
 /// A read failed before the request was whole.
 #[derive(Clone, Copy)]
 pub struct ReadFailed;
 
 /// What is asked without a whole body: nothing.
-fn refuse_body(fault: BodyFault) -> Result<Requested, ReadFailed>
+fn refuse_body(fault: BodyFault) -> Result<Asked<Vec<u8>>, ReadFailed>
     ensures refused { IfOk result (λ request.
         request_seen request ≡ Settles (refusal (body_status fault))) }
     ensures failed { is_err result ≡ is_failed_read fault }
 {
     match fault {
-        BodyFault::Short => Ok(Requested::Settled(Answer::Refusal(Status::BadRequest))),
-        BodyFault::Memory => Ok(Requested::Settled(Answer::Refusal(Status::Unavailable))),
+        BodyFault::Short => Ok(Asked::Settled(Answer::Refusal(Status::BadRequest))),
+        BodyFault::Memory => Ok(Asked::Settled(Answer::Refusal(Status::Unavailable))),
         BodyFault::Read => Err(ReadFailed),
     }
 }
@@ -75,8 +51,8 @@ fn read_asked<R: Reader + Drop>(
     alloc: Global,
     source: &mut Source<R>,
     front: &[u8],
-    asked: Asked,
-) -> Result<Requested, ReadFailed>
+    asked: Asked<u64>,
+) -> Result<Asked<Vec<u8>>, ReadFailed>
     requires limit { IsServable asked }
     requires asked { reads_of source.old ≤ 2 ^ 62 + most_head_bytes }
     requires failed { has_failed source.old ≡ false }
@@ -88,27 +64,26 @@ fn read_asked<R: Reader + Drop>(
         (has_ended source.new) (R.remaining (reader_of source.new)) }
 {
     match asked {
-        Asked::Report(report) => Ok(Requested::Office(OfficeRequest::Report(report))),
-        Asked::Details(details) => Ok(Requested::Details(details)),
+        Asked::Report(report, kind) => Ok(Asked::Report(report, kind)),
+        Asked::Details(details) => Ok(Asked::Details(details)),
         Asked::WhatIf(what_if, size) => match read_body(alloc, source, front, size as usize) {
-            Ok(body) => Ok(Requested::Office(OfficeRequest::WhatIf { what_if, body })),
+            Ok(body) => Ok(Asked::WhatIf(what_if, body)),
             Err(fault) => refuse_body(fault),
         },
         Asked::Import(layout, size) => match read_body(alloc, source, front, size as usize) {
-            Ok(body) => Ok(Requested::Office(OfficeRequest::Import { layout, body })),
+            Ok(body) => Ok(Asked::Import(layout, body)),
             Err(fault) => refuse_body(fault),
         },
-        Asked::Refusal(status) => Ok(Requested::Settled(Answer::Refusal(status))),
-        Asked::OtherMethod(method) => Ok(Requested::Settled(Answer::OtherMethod(method))),
+        Asked::Settled(answer) => Ok(Asked::Settled(answer)),
     }
 }
 
 /// Reads on after the head of a request.
 fn read_rest<R: Reader + Drop>(
-    alloc: Global,
+    routes: &mut Routes,
     source: &mut Source<R>,
     request: &Request<'_>,
-) -> Result<Requested, ReadFailed>
+) -> Result<Asked<Vec<u8>>, ReadFailed>
     requires text { IsUtf8 request.now.target.now }
     requires asked { reads_of source.old ≤ 2 ^ 62 + most_head_bytes }
     requires failed { has_failed source.old ≡ false }
@@ -121,8 +96,8 @@ fn read_rest<R: Reader + Drop>(
     ensures left { NothingUnread
         (has_ended source.new) (R.remaining (reader_of source.new)) }
 {
-    let Ok(found) = find_route(alloc, request.target) else {
-        return Ok(Requested::Settled(Answer::Refusal(Status::Unavailable)));
+    let Ok(found) = find_route(routes, request.target) else {
+        return Ok(Asked::Settled(Answer::Refusal(Status::Unavailable)));
     };
     let asked = asked_framed(
         request.framing,
@@ -131,15 +106,15 @@ fn read_rest<R: Reader + Drop>(
         request.method,
         request.has_origin,
     );
-    read_asked(alloc, source, request.behind, asked)
+    read_asked(routes.alloc(), source, request.behind, asked)
 }
 
 /// Reads one request, whole: its head, and the body of a request that is served with one. Bytes
 /// after it are not looked at.
 pub fn read_request<R: Reader + Drop>(
-    alloc: Global,
+    routes: &mut Routes,
     source: &mut Source<R>,
-) -> Result<Requested, Unanswered>
+) -> Result<Asked<Vec<u8>>, Unanswered>
     requires asked { reads_of source.old ≤ 2 ^ 62 }
     requires failed { has_failed source.old ≡ false }
     requires ended { has_ended source.old ≡ false }
@@ -161,10 +136,10 @@ pub fn read_request<R: Reader + Drop>(
     match read_head(source, &mut buffer, &mut fields) {
         HeadRead::Closed => Err(Unanswered::Closed),
         HeadRead::Failed => Err(Unanswered::Failed),
-        HeadRead::Refused => Ok(Requested::Settled(Answer::Refusal(Status::BadRequest))),
+        HeadRead::Refused => Ok(Asked::Settled(Answer::Refusal(Status::BadRequest))),
         HeadRead::Whole(whole) => {
             let request = request_in(&buffer[..whole.filled], &fields, whole.spans);
-            let Ok(requested) = read_rest(alloc, source, &request) else {
+            let Ok(requested) = read_rest(routes, source, &request) else {
                 return Err(Unanswered::Failed);
             };
             Ok(requested)

@@ -1,26 +1,27 @@
-//! The paths that are served.
+//! What a path asks for.
 
 ghost use Rattle.std.specs.Prelude.{◌≡◌, IfOk, IfSome, IsUtf8, Some, option_map};
 ghost use Rattle.book_http.specs.Paths as paths;
 ghost use Rattle.book_http.specs.Paths.{IsPathOf};
 ghost use Rattle.book_http.specs.declared.route.Route.{Route};
 ghost use Rattle.book_http.specs.Routes as spec;
-ghost use Rattle.book_http.specs.Routes.{route_rows};
 
 use crate::decimal_value::decimal_value;
+use crate::endpoint::{Endpoint, front_of, shape_of};
+use crate::routes::Routes;
 use book_reports::{DetailReport, name_of_text};
-use matchit::{InsertError, Router};
-use office::{PeriodReport, Report, StatementForm, WhatIf, centre_named};
+use office::{Report, StatementForm, WhatIf, centre_named};
+use report_rows::{About, BodyKind, ReportName, Shape, report_about, row_of};
 use smf_frames::Layout;
 use smf_text::{Name, day_of_text};
-use std::alloc::{AllocError, Global};
+use std::alloc::AllocError;
 use std::str;
 
 /// What a path is for.
 #[derive(Clone, Copy)]
 pub enum Route {
-    /// A report is read there.
-    Report(Report),
+    /// A report is read there, and what kind of body it is.
+    Report(Report, BodyKind),
     /// The details of a period are read there.
     Details(DetailReport),
     /// A tariff is submitted there: what a period would have cost by it is read.
@@ -29,126 +30,8 @@ pub enum Route {
     Import(Layout),
 }
 
-/// A path of the server, whatever period, centre, record and day it names.
-#[derive(Clone, Copy)]
-pub enum Endpoint {
-    /// The page of the office.
-    Office,
-    /// The page of a period.
-    Period,
-    /// The list of the periods.
-    Periods,
-    /// What a period has, of the whole office or of one centre.
-    OfPeriod(PeriodReport),
-    /// The details of a period.
-    Details(StatementForm),
-    /// The list of the disputes.
-    Disputes,
-    /// The records in dispute as rows with commas.
-    DisputesCsv,
-    /// A record, and what became of it.
-    Record,
-    /// The list of the rulings.
-    Rulings,
-    /// The file of a tariff.
-    Tariff,
-    /// What a period would have cost by a tariff that is submitted.
-    WhatIf(StatementForm),
-    /// Dumps in this layout are submitted.
-    Import(Layout),
-}
-
 /// The most digits of a period.
 const PERIOD_DIGITS: usize = 4;
-
-/// A router with one more endpoint.
-fn with_endpoint(
-    mut router: Router<Endpoint>,
-    route: &str,
-    endpoint: Endpoint,
-) -> Result<Router<Endpoint>, InsertError>
-    ensures { IfOk result (λ more. more ≡ spec.with_route route.now endpoint router) }
-{
-    router.insert(route, endpoint)?;
-    Ok(router)
-}
-
-/// The routes of all endpoints.
-static ROUTES: [(&str, Endpoint); 18] = [
-    ("/periods", Endpoint::Periods),
-    (
-        "/statement/{*rest}",
-        Endpoint::OfPeriod(PeriodReport::Statement),
-    ),
-    (
-        "/statement-csv/{*rest}",
-        Endpoint::OfPeriod(PeriodReport::StatementTable),
-    ),
-    (
-        "/adjustments/{*rest}",
-        Endpoint::OfPeriod(PeriodReport::AdjustmentList),
-    ),
-    (
-        "/adjustments-csv/{*rest}",
-        Endpoint::OfPeriod(PeriodReport::AdjustmentTable),
-    ),
-    ("/details/{*rest}", Endpoint::Details(StatementForm::Text)),
-    (
-        "/details-csv/{*rest}",
-        Endpoint::Details(StatementForm::Table),
-    ),
-    ("/disputes", Endpoint::Disputes),
-    ("/disputes-csv", Endpoint::DisputesCsv),
-    ("/record/{*rest}", Endpoint::Record),
-    ("/rulings", Endpoint::Rulings),
-    ("/tariff/{*rest}", Endpoint::Tariff),
-    ("/what-if/{*rest}", Endpoint::WhatIf(StatementForm::Text)),
-    (
-        "/what-if-csv/{*rest}",
-        Endpoint::WhatIf(StatementForm::Table),
-    ),
-    ("/import", Endpoint::Import(Layout::Rdw)),
-    ("/import-bdw", Endpoint::Import(Layout::Bdw)),
-    ("/", Endpoint::Office),
-    ("/period/{*rest}", Endpoint::Period),
-];
-
-/// They are read whole here, so that callers need not.
-fn all_routes() -> &'static [(&'static str, Endpoint)]
-    ensures { spec.rows_by result.now ≡ route_rows }
-{
-    ROUTES.as_slice()
-}
-
-/// A router of routes, which are put in one after the other. An error means that memory ran out.
-fn router_of(alloc: Global, routes: &[(&str, Endpoint)]) -> Result<Router<Endpoint>, InsertError>
-    ensures { IfOk result (λ router. router ≡ spec.rows_by routes.now) }
-{
-    let mut router = Router::new(alloc);
-    for route in routes {
-        router = with_endpoint(router, route.0, route.1)?;
-    }
-    Ok(router)
-}
-
-/// The endpoints by their paths.
-fn endpoints(alloc: Global) -> Result<Router<Endpoint>, InsertError>
-    ensures { IfOk result (λ router. router ≡ route_rows) }
-{
-    router_of(alloc, all_routes())
-}
-
-/// The endpoint of a path, if it has one.
-#[tactic(auto, unfolding(crate::specs::Routes::endpoint_of))]
-fn endpoint_at(router: &Router<Endpoint>, path: &str) -> Option<Endpoint>
-    requires { router.now ≡ route_rows }
-    ensures { result ≡ spec.endpoint_of path.now }
-{
-    match router.at(path) {
-        Ok(found) => Some(*found.value),
-        Err(_) => None,
-    }
-}
 
 /// The period that a text names: 1 to 4 digits, the first of them no 0.
 #[tactic(auto, unfolding(crate::specs::Routes::period))]
@@ -201,128 +84,144 @@ fn period_in(text: &str) -> Option<(u16, Option<Name>)>
     }
 }
 
-/// The period, and the centre if there is one, that a path names after its prefix.
-fn period_after(prefix: &str, path: &str) -> Option<(u16, Option<Name>)>
-    ensures { result ≡ spec.period_after prefix.now path.now }
+/// A period, of a centre if one is named after it.
+fn centre_in(text: &str) -> Option<About>
+    ensures { result ≡ spec.centre_in text.now }
 {
-    let rest = path_rest(prefix, path)?;
-    period_in(rest)
+    let (period, centre) = period_in(text)?;
+    Some(About::OfCentre { period, centre })
 }
 
-/// Where what a period has is served.
-fn period_path(report: PeriodReport) -> &'static str
-    ensures { result.now ≡ paths.period_path report }
+/// A period of the whole office.
+fn number_in(text: &str) -> Option<About>
+    ensures { result ≡ spec.number_in text.now }
 {
-    match report {
-        PeriodReport::Statement => "/statement/",
-        PeriodReport::StatementTable => "/statement-csv/",
-        PeriodReport::AdjustmentList => "/adjustments/",
-        PeriodReport::AdjustmentTable => "/adjustments-csv/",
+    let number = period(text.as_bytes())?;
+    Some(About::OfPeriod(number))
+}
+
+/// The books, where nothing is named.
+fn office_in(text: &str) -> Option<About>
+    ensures { result ≡ spec.office_in text.now }
+{
+    if text.is_empty() {
+        Some(About::OfOffice)
+    } else {
+        None
     }
 }
 
-/// Where its details are.
-fn details_path(form: StatementForm) -> &'static str
-    ensures { result.now ≡ paths.details_path form }
+/// The tariff of a day.
+fn day_in(text: &str) -> Option<About>
+    ensures { result ≡ spec.day_in text.now }
 {
-    match form {
-        StatementForm::Text => "/details/",
-        StatementForm::Table => "/details-csv/",
+    let day = day_of_text(text)?;
+    Some(About::OfDay(day))
+}
+
+/// A record, by digits that spell its name.
+fn record_in(text: &str) -> Option<About>
+    ensures { result ≡ spec.record_in text.now }
+{
+    let name = name_of_text(text)?;
+    Some(About::OfRecord(name))
+}
+
+/// What a text names in a path.
+#[tactic(auto, unfolding(crate::specs::Routes::thing_in))]
+fn thing_in(shape: Shape, text: &str) -> Option<About>
+    ensures { result ≡ spec.thing_in shape text.now }
+{
+    match shape {
+        Shape::OfCentre => centre_in(text),
+        Shape::OfPeriod => number_in(text),
+        Shape::OfOffice => office_in(text),
+        Shape::OfDay => day_in(text),
+        Shape::OfRecord => record_in(text),
     }
 }
 
-/// Where it is served what a period would have cost.
-fn what_if_path(form: StatementForm) -> &'static str
-    ensures { result.now ≡ paths.what_if_path form }
+/// The details of a period.
+fn details_of(form: StatementForm, thing: About) -> Option<Route>
+    ensures { result ≡ paths.details_of form thing }
 {
-    match form {
-        StatementForm::Text => "/what-if/",
-        StatementForm::Table => "/what-if-csv/",
+    match thing {
+        About::OfCentre { period, centre } => Some(Route::Details(DetailReport {
+            form,
+            period,
+            centre,
+        })),
+        _ => None,
     }
 }
 
-/// What a path asks of a period after its prefix.
-fn report_after(report: PeriodReport, prefix: &str, path: &str) -> Option<Route>
-    ensures { result ≡ spec.named_after (spec.report_on report) prefix.now path.now }
+/// What a period would have cost.
+fn what_if_of(form: StatementForm, thing: About) -> Option<Route>
+    ensures { result ≡ paths.what_if_of form thing }
 {
-    let (period, centre) = period_after(prefix, path)?;
-    Some(Route::Report(Report::OfPeriod {
-        report,
-        period,
-        centre,
-    }))
+    match thing {
+        About::OfCentre { period, centre } => Some(Route::WhatIf(WhatIf {
+            form,
+            period,
+            centre,
+        })),
+        _ => None,
+    }
 }
 
-/// The details that a path asks for after its prefix.
-fn details_after(form: StatementForm, prefix: &str, path: &str) -> Option<Route>
-    ensures { result ≡ spec.named_after (spec.details_on form) prefix.now path.now }
+/// A report that is made whole, if there is one.
+fn whole_report(kind: BodyKind, report: Option<Report>) -> Option<Route>
+    ensures { result ≡ paths.whole_report kind report }
 {
-    let (period, centre) = period_after(prefix, path)?;
-    Some(Route::Details(DetailReport {
-        form,
-        period,
-        centre,
-    }))
+    let report = report?;
+    Some(Route::Report(report, kind))
 }
 
-/// What a path asks of a period and a tariff after its prefix.
-fn what_if_after(form: StatementForm, prefix: &str, path: &str) -> Option<Route>
-    ensures { result ≡ spec.named_after (spec.what_if_on form) prefix.now path.now }
+/// A report of what a path names. Details are written while they are read.
+fn report_of(name: ReportName, form: StatementForm, thing: About) -> Option<Route>
+    ensures { result ≡ paths.report_of name form thing }
 {
-    let (period, centre) = period_after(prefix, path)?;
-    Some(Route::WhatIf(WhatIf {
-        form,
-        period,
-        centre,
-    }))
+    match name {
+        ReportName::Details => details_of(form, thing),
+        _ => whole_report(row_of(name).kind_in(form), report_about(name, form, thing)),
+    }
 }
 
-/// The period whose page a path asks for after its prefix.
-fn page_after(prefix: &str, path: &str) -> Option<Route>
-    ensures { result ≡ spec.page_after prefix.now path.now }
+/// What is asked at an endpoint of what a path names.
+fn asked_of(place: Endpoint, thing: About) -> Option<Route>
+    ensures { result ≡ paths.asked_of place thing }
 {
-    let rest = path_rest(prefix, path)?;
-    let number = period(rest.as_bytes())?;
-    Some(Route::Report(Report::PeriodPage(number)))
-}
-
-/// The record whose name a path spells after its prefix.
-fn record_after(prefix: &str, path: &str) -> Option<Route>
-    ensures { result ≡ spec.record_after prefix.now path.now }
-{
-    let rest = path_rest(prefix, path)?;
-    let name = name_of_text(rest)?;
-    Some(Route::Report(Report::Record(name)))
-}
-
-/// The tariff of the day that a path names after its prefix.
-fn tariff_after(prefix: &str, path: &str) -> Option<Route>
-    ensures { result ≡ spec.tariff_after prefix.now path.now }
-{
-    let rest = path_rest(prefix, path)?;
-    let day = day_of_text(rest)?;
-    Some(Route::Report(Report::TariffText(day)))
-}
-
-/// What an endpoint is for at a path.
-#[tactic(auto, unfolding(crate::specs::Routes::route_at))]
-fn route_at(endpoint: Endpoint, path: &str) -> Option<Route>
-    ensures { result ≡ spec.route_at endpoint path.now }
-{
-    match endpoint {
-        Endpoint::Office => Some(Route::Report(Report::OfficePage)),
-        Endpoint::Period => page_after("/period/", path),
-        Endpoint::Periods => Some(Route::Report(Report::PeriodList)),
-        Endpoint::OfPeriod(report) => report_after(report, period_path(report), path),
-        Endpoint::Details(form) => details_after(form, details_path(form), path),
-        Endpoint::Disputes => Some(Route::Report(Report::DisputeList)),
-        Endpoint::DisputesCsv => Some(Route::Report(Report::DisputeTable)),
-        Endpoint::Record => record_after("/record/", path),
-        Endpoint::Rulings => Some(Route::Report(Report::RulingList)),
-        Endpoint::Tariff => tariff_after("/tariff/", path),
-        Endpoint::WhatIf(form) => what_if_after(form, what_if_path(form), path),
+    match place {
+        Endpoint::Report(name, form) => report_of(name, form, thing),
+        Endpoint::Office => Some(Route::Report(Report::OfficePage, BodyKind::Page)),
+        Endpoint::WhatIf(form) => what_if_of(form, thing),
         Endpoint::Import(layout) => Some(Route::Import(layout)),
     }
+}
+
+/// What is asked at an endpoint by what a path has behind its front.
+fn asked_in(place: Endpoint, rest: &str) -> Option<Route>
+    ensures { result ≡ spec.asked_in place rest.now }
+{
+    let thing = thing_in(shape_of(place), rest)?;
+    asked_of(place, thing)
+}
+
+/// What is asked at an endpoint with this front by a path.
+fn asked_behind(place: Endpoint, front: &str, path: &str) -> Option<Route>
+    ensures { result ≡ spec.asked_behind place front.now path.now }
+{
+    let rest = path_rest(front, path)?;
+    asked_in(place, rest)
+}
+
+/// What is asked at an endpoint by a path.
+#[tactic(auto, unfolding(crate::specs::Routes::route_at))]
+fn route_at(place: Endpoint, path: &str) -> Option<Route>
+    ensures { result ≡ spec.route_at place path.now }
+{
+    let front = front_of(place)?;
+    asked_behind(place, front, path)
 }
 
 /// What a target asks for up to a question mark.
@@ -336,7 +235,7 @@ fn path_of(target: &str) -> &str
 }
 
 /// What the path of a target is for, if anything. An error means that memory ran out.
-pub fn find_route(alloc: Global, target: &[u8]) -> Result<Option<Route>, AllocError>
+pub fn find_route(routes: &mut Routes, target: &[u8]) -> Result<Option<Route>, AllocError>
     requires { IsUtf8 target.now }
     ensures value { IfOk result (λ found. found ≡ spec.route (spec.path_of target.now)) }
     // What is found is served at that path, and what is served there is found.
@@ -344,15 +243,15 @@ pub fn find_route(alloc: Global, target: &[u8]) -> Result<Option<Route>, AllocEr
     ensures finds { IfOk result (λ found. (asked : Route)
         → IsPathOf (spec.path_of target.now) asked → found ≡ Some asked) }
 {
-    let Ok(router) = endpoints(alloc) else {
-        return Err(AllocError);
-    };
     let Ok(target) = str::from_utf8(target) else {
         return Ok(None);
     };
     let path = path_of(target);
-    match endpoint_at(&router, path) {
-        Some(endpoint) => Ok(route_at(endpoint, path)),
+    let Ok(found) = routes.endpoint_at(path) else {
+        return Err(AllocError);
+    };
+    match found {
+        Some(place) => Ok(route_at(place, path)),
         None => Ok(None),
     }
 }

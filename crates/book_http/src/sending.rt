@@ -11,7 +11,7 @@ ghost use Rattle.book_http.specs.Served.{IsSent, SendsDetails, SendsSome, is_una
 ghost use Rattle.book_http.specs.Served.{is_write_fault};
 
 use crate::answer::Answer;
-use crate::answer_head::{BodyKind, answer_head, status_body};
+use crate::answer_head::{answer_head, status_body};
 use crate::notice::Notice;
 use crate::office_answers::form_kind;
 use crate::served::Served;
@@ -21,6 +21,7 @@ use book_import::Stop;
 use book_reports::{
     DetailReport, ReportFault, receipt_line_text, write_bytes, write_details, write_text,
 };
+use report_rows::BodyKind;
 use std::alloc::Global;
 use streams::Writer;
 

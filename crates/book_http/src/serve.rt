@@ -9,11 +9,13 @@ ghost use Rattle.book_core.specs.Ledgers.{books};
 ghost use Rattle.book_http.specs.Bodies.{most_body_bytes};
 ghost use Rattle.book_http.specs.Head.{most_head_bytes};
 ghost use Rattle.book_http.specs.Reads.{ReadsRequest};
-ghost use Rattle.book_http.specs.Served.{IsServed, ServesDetails};
+ghost use Rattle.book_http.specs.Served.{IsServed, ServesAsked, ServesDetails};
 ghost use Rattle.book_http.specs.Served.{is_read_fault, is_unanswered, is_write_fault};
 
+use crate::asked::Asked;
 use crate::office_answers::{ask_details, ask_office};
-use crate::requested::{Requested, read_request};
+use crate::requested::read_request;
+use crate::routes::Routes;
 use crate::sending::{send, send_details};
 use crate::served::{Served, Unanswered};
 use book_core::{Ledger, Sink, Source};
@@ -38,6 +40,25 @@ pub fn serve_details<L: Ledger, W: Writer + Drop>(
     match ask_details(alloc, ledger, &details) {
         Ok(size) => send_details(alloc, ledger, details, size, sink),
         Err(answer) => send(sink, &answer),
+    }
+}
+
+/// Serves what a request asks that was read whole.
+fn serve_asked<L: Ledger, W: Writer + Drop>(
+    alloc: Global,
+    ledger: &mut L,
+    asked: Asked<Vec<u8>>,
+    sink: &mut Sink<W>,
+) -> Served
+    requires { sinks.has_failed sink.old ≡ false }
+    ensures served { ServesAsked (books L.seen ledger.old ledger.new) asked
+        (output W.contents sink.old sink.new) result }
+    ensures failed { sinks.has_failed sink.new ≡ is_write_fault result }
+    ensures answered { is_unanswered result ≡ false }
+{
+    match ask_office(alloc, ledger, asked) {
+        Ok(answer) => send(sink, &answer),
+        Err(details) => serve_details(alloc, ledger, details, sink),
     }
 }
 
@@ -74,13 +95,9 @@ pub fn serve_one<R: Reader + Drop, W: Writer + Drop, L: Ledger>(
     ensures read { has_failed source.new ≡ is_read_fault result }
     ensures written { sinks.has_failed sink.new ≡ is_write_fault result }
 {
-    match read_request(alloc, source) {
-        Ok(Requested::Settled(answer)) => send(sink, &answer),
-        Ok(Requested::Office(request)) => {
-            let answer = ask_office(alloc, ledger, request);
-            send(sink, &answer)
-        }
-        Ok(Requested::Details(details)) => serve_details(alloc, ledger, details, sink),
+    let mut routes = Routes::new(alloc);
+    match read_request(&mut routes, source) {
+        Ok(request) => serve_asked(alloc, ledger, request, sink),
         Err(Unanswered::Closed) => Served::Closed,
         Err(Unanswered::Failed) => Served::ReadFault,
     }

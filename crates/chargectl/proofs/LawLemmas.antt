@@ -8,6 +8,7 @@ use Rattle.book_model.specs.Words.{same_bytes, Book, Event, IsMadeByCalls, Namin
 use Rattle.book_model.specs.Words.{book_after, book_of}
 use Rattle.book_model.specs.declared.fault.LedgerFault.TheVariants.{Memory, Store, Reopen}
 use Rattle.book_core.specs.Words.{Calls, listed, MakesAnswered, Transition, NoEvent}
+use Rattle.book_core.proofs.FollowLemmas.{history_goes_on}
 use Rattle.book_model.proofs.Lemmas.{books_follow_history}
 use Rattle.book_audit.specs.Copies.{IsAudited}
 use Rattle.book_audit.specs.declared.audited.Audited.{Audited}
@@ -168,7 +169,8 @@ module _ (naming : Naming) (history : List Event) (name : List ℕ) (old new : S
         record {
           made = more.events;
           so = (λ _. record { is = more.is; made_so = more.made }, λ apart. absurd (apart same));
-          answered = makes history false more.events more.is more.made answered;
+          answered = history_goes_on naming more.events history
+              (makes (book_after history) false more.events more.is more.made) answered;
           held = more.now;
           named = done.naming;
         }

@@ -216,8 +216,8 @@ pub record ListOfHistory (had : Option (List ℕ)) (naming : Naming) (history : 
 pub record AnswersOrNot (naming : Naming) (what : Served) (was : Bool) (before : Book)
     (events : List Event) (is : Bool) : Type 0 where
   pub came : Result Served RepositoryFault
-  pub made : OpenedSo (λ why. Unit {0}) (λ so made. AnswersSome naming so was before made is) came
-      events
+  pub made : OpenedSo (λ why. Unit {0}) (λ so made. AnswersSome naming None so was before made is)
+      came events
   pub told : IsToldOf came what
 
 -- what one connection does to a book, by what became of it

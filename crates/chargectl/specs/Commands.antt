@@ -1,6 +1,6 @@
 -- What each command on books asks of the office, what is written, and how it ends.
 use Rattle.std.specs.Prelude.{◌≡◌, ◌⊎◌, ⊤, Bool, true, false, ℕ, List, [], Option, Some, None}
-use Rattle.std.specs.Prelude.{Result, Ok, Err, IfSome, string_bytes, option_map}
+use Rattle.std.specs.Prelude.{Result, Ok, Err, IfSome, string_bytes, option_and_then, option_map}
 use Rattle.std.specs.Borrow.{Bor}
 use Rattle.std.specs.Io.KnownBytes.{Keeps}
 use Rattle.streams.specs.InputOutput.{Input}
@@ -8,8 +8,6 @@ use Rattle.book_model.specs.declared.fault.LedgerFault.{LedgerFault}
 use Rattle.book_model.specs.Words.{day_of_text_of, Book, Event, Naming}
 use Rattle.book_core.specs.Words.{MakesAnswered, Transition}
 use Rattle.book_reports.specs.declared.report.Report.{Report}
-use Rattle.book_reports.specs.declared.report.Report.TheVariants.{OfPeriod, PeriodList, TariffText}
-use Rattle.book_reports.specs.declared.report.Report.TheVariants.{Bill, PeriodPage, Record}
 use Rattle.book_reports.specs.declared.what_if.StatementForm.{StatementForm}
 use Rattle.book_reports.specs.declared.what_if.WhatIf.{WhatIf}
 use Rattle.book_reports.specs.BookTexts.{centre_named}
@@ -22,8 +20,11 @@ use Rattle.named_books.specs.Shelves.{Shelf, IsOpened, IsThere, IsUntouched}
 use Rattle.office.proofs.LawLemmas.{asks_answered}
 use Rattle.command_line.specs.declared.request.BookRequest.{BookRequest}
 use Rattle.command_line.specs.declared.request.PeriodWords.{PeriodWords}
-use Rattle.command_line.specs.declared.request.ReportWords.{ReportWords}
+use Rattle.command_line.specs.declared.request.ReportAsked.{ReportAsked}
 use Rattle.command_line.specs.declared.request.Ruling.{Ruling}
+use Rattle.command_line.specs.declared.request.Words.{Words}
+use Rattle.report_rows.specs.Abouts.{report_about}
+use Rattle.report_rows.specs.declared.about.About.{About}
 use Rattle.program_output.specs.Names.{name_in}
 use Rattle.without_books.specs.declared.command_fault.CommandFault.{CommandFault}
 use Rattle.without_books.specs.declared.ended.Ended.{Ended}
@@ -35,10 +36,12 @@ use Rattle.chargectl.specs.declared.dated_rulings.DatedAnswer.{DatedAnswer}
 use Rattle.chargectl.specs.declared.answered.Answered.{Answered}
 use Rattle.chargectl.specs.Far.{far_notice}
 use Rattle.office.specs.declared.request.Asked.TheVariants as asks
+use Rattle.office.specs.declared.request.OwnedRuling.TheVariants as owned
 use Rattle.office.specs.declared.request.Answer.TheVariants as answers
 use Rattle.command_line.specs.declared.request.BookRequest.TheVariants as book
-use Rattle.command_line.specs.declared.request.ReportWords.TheVariants as worded
 use Rattle.command_line.specs.declared.request.Ruling.TheVariants as ruling
+use Rattle.command_line.specs.declared.request.Words.TheVariants as worded
+use Rattle.report_rows.specs.declared.about.About.TheVariants as about
 use Rattle.without_books.specs.declared.command_fault.CommandFault.TheVariants as fault
 pub use Rattle.without_books.specs.Faults.{IsFileFault, IsPrinted, IsTextFault}
 
@@ -47,16 +50,18 @@ abbrev pub asked_centre : Option (Bor (List ℕ)) → Option (Option (List ℕ))
 asked_centre None = Some None
 asked_centre (Some text) = option_map Some (centre_named text.now)
 
--- the report that words ask for, if each of them is what it has to be
-abbrev pub report_of : ReportWords → Option Report
-report_of (worded.OfPeriod report period) =
-    option_map (OfPeriod report period.number) (asked_centre period.centre)
-report_of (worded.Bill form period) =
-    option_map (Bill form period.number) (asked_centre period.centre)
-report_of (worded.Page period) = Some (PeriodPage period)
-report_of (worded.Record name) = option_map Record (name_in name.now)
-report_of worded.Periods = Some PeriodList
-report_of (worded.TariffText date) = option_map TariffText (day_of_text_of date.now)
+-- what words say that a report is about, if each of them is what it has to be
+abbrev pub about_of : Words → Option About
+about_of (worded.OfCentre period) =
+    option_map (about.OfCentre period.number) (asked_centre period.centre)
+about_of (worded.OfPeriod period) = Some (about.OfPeriod period)
+about_of worded.OfOffice = Some about.OfOffice
+about_of (worded.OfDay date) = option_map about.OfDay (day_of_text_of date.now)
+about_of (worded.OfRecord name) = option_map about.OfRecord (name_in name.now)
+
+-- the report that they ask for
+abbrev pub report_of : ReportAsked → Option Report
+report_of asked = option_and_then (report_about asked.name asked.form) (about_of asked.words)
 
 -- a statement in this form by other prices, of one centre or of the whole office
 abbrev pub what_if_for : StatementForm → ℕ → Option (List ℕ) → WhatIf
@@ -69,12 +74,13 @@ what_if_of form period = option_map (what_if_for form period.number) (asked_cent
 -- The table: what a command asks of the office. The text of a tariff is what the file of that name holds.
 abbrev pub IsAskedBy : Files → BookRequest → Asked → Type 0
 IsAskedBy files (book.Import dump) (asks.Import layout) = layout ≡ dump.layout
-IsAskedBy files (book.Rule (ruling.Tariff file)) (asks.Tariff text) =
+IsAskedBy files (book.Rule (ruling.Tariff file)) (asks.Rule (owned.Tariff text)) =
     IfSome (files file.now) (λ held. string_bytes text ≡ held)
-IsAskedBy files (book.Rule (ruling.Close period date)) (asks.Close number through) =
+IsAskedBy files (book.Rule (ruling.Close period date)) (asks.Rule (owned.Close number through)) =
     (number ≡ period) × (day_of_text_of date.now ≡ Some through)
-IsAskedBy files (book.Rule (ruling.Choose name)) (asks.Choose chosen) = name_in name.now ≡ Some chosen
-IsAskedBy files (book.Rule ruling.Adopt) (asks.Adopt rule) = rule ≡ 2
+IsAskedBy files (book.Rule (ruling.Choose name)) (asks.Rule (owned.Choose chosen)) =
+    name_in name.now ≡ Some chosen
+IsAskedBy files (book.Rule ruling.Adopt) (asks.Rule (owned.Adopt rule)) = rule ≡ 2
 IsAskedBy files (book.Report said) (asks.Report printed) = report_of said ≡ Some printed
 IsAskedBy files (book.WhatIf form period file) (asks.WhatIf report text) =
     (what_if_of form period ≡ Some report) × IfSome (files file.now) (λ held. string_bytes text ≡ held)
@@ -99,8 +105,8 @@ pub record AsksOnce (naming : Naming) (asked : Asked) (had : Option (List ℕ))
 -- one request makes events that the books answered
 pub once_answered : (naming : Naming) (asked : Asked) (had : Option (List ℕ))
     (told : Result Response LedgerFault) → MakesAnswered naming (AsksOnce naming asked had told)
-once_answered naming asked had told history was events is once =
-    asks_answered naming asked once.dump told history was events is once.made
+once_answered naming asked had told book was events is once =
+    asks_answered naming asked once.dump told book was events is once.made
 
 -- what a visit to the books did that asked this once, by its answer
 abbrev pub AsksOnceBy : Naming → Asked → Option (List ℕ) → Result Answer LedgerFault → Transition
@@ -122,8 +128,8 @@ AsksDatedBy naming asked dated =
 -- it makes events that the books answered
 pub dated_answered : (naming : Naming) (asked : Asked) (dated : DatedAnswer)
     → MakesAnswered naming (AsksDatedBy naming asked dated)
-dated_answered naming asked dated history was events is made =
-    once_answered naming asked (Some []) (response_by dated.answer) history was events is made.once
+dated_answered naming asked dated book was events is made =
+    once_answered naming asked (Some []) (response_by dated.answer) book was events is made.once
 
 -- the answer to a ruling of a day
 abbrev pub answer_told : Result DatedAnswer RepositoryFault

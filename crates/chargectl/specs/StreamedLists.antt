@@ -1,30 +1,35 @@
 -- Lists that are written while the books are open: the details of a period, the rulings and the
 -- disputes. They are never held whole.
 use Rattle.std.specs.Prelude.{◌≡◌, Bool, false, ℕ, List, ◌++◌, Option, Some, None, Result, Ok, Err}
-use Rattle.std.specs.Prelude.{IfErr, OnErr, OnOk, option_map}
+use Rattle.std.specs.Prelude.{IfErr, OnErr, OnOk, option_and_then}
 use Rattle.std.proofs.Common.{sym, subst}
 use Rattle.book_model.specs.declared.fault.LedgerFault.{LedgerFault}
-use Rattle.book_model.specs.Words.{Book, IsMadeByCalls, Naming}
+use Rattle.book_model.specs.Words.{AreMadeOf, Book, Naming}
 use Rattle.book_core.specs.Words.{MakesAnswered}
 use Rattle.book_reports.specs.declared.fault.ReportFault.{ReportFault}
 use Rattle.book_reports.specs.declared.fault.ReportFault.TheVariants.{Write}
+use Rattle.book_reports.specs.declared.streamed_disputes.DisputeForm.{DisputeForm}
+use Rattle.book_reports.specs.declared.streamed_disputes.DisputeForm.TheVariants as disputes
 use Rattle.book_reports.specs.declared.what_if.StatementForm.{StatementForm}
+use Rattle.book_reports.specs.declared.what_if.StatementForm.TheVariants as form
 use Rattle.book_reports.specs.BookTexts.{ruling_text}
 use Rattle.book_reports.specs.StreamedAnswers.{WritesAnswerUntil, answered_by}
 use Rattle.book_reports.specs.StreamedDetails.{WritesSomeDetails, detail_answer}
 use Rattle.book_reports.specs.StreamedDisputes.{WritesSomeDisputes, dispute_report}
 use Rattle.book_reports.specs.StreamedRulings.{WritesSomeRulings}
 use Rattle.book_reports.specs.Writing.{is_write_fault}
-use Rattle.command_line.specs.declared.request.ListWords.{ListWords}
-use Rattle.command_line.specs.declared.request.PeriodWords.{PeriodWords}
+use Rattle.command_line.specs.declared.request.ReportAsked.{ReportAsked}
 use Rattle.named_books.specs.declared.repository.RepositoryFault.{RepositoryFault}
 use Rattle.named_books.specs.Shelves.{Shelf, ComesBy, IsOpened, IsThere, IsUntouched}
 use Rattle.without_books.specs.declared.command_fault.CommandFault.{CommandFault}
 use Rattle.without_books.specs.declared.ended.Ended.{Ended}
 use Rattle.without_books.specs.Faults.{shelf_fault}
 use Rattle.chargectl.specs.declared.streamed_lists.StreamedList.{StreamedList}
-use Rattle.chargectl.specs.Commands.{IsFileFault, IsRefusedBy, asked_centre, first_fault}
-use Rattle.command_line.specs.declared.request.ListWords.TheVariants as worded
+use Rattle.chargectl.specs.Commands.{IsFileFault, IsRefusedBy, about_of, first_fault}
+use Rattle.report_rows.specs.declared.about.About.{About}
+use Rattle.report_rows.specs.declared.about.About.TheVariants as about
+use Rattle.report_rows.specs.declared.report_row.ReportName.{ReportName}
+use Rattle.report_rows.specs.declared.report_row.ReportName.TheVariants as report
 use Rattle.without_books.specs.declared.command_fault.CommandFault.TheVariants as fault
 use Rattle.chargectl.specs.declared.streamed_lists.StreamedList.TheVariants as list
 
@@ -47,27 +52,37 @@ pub record ListsOpen (list : StreamedList) (held holds : Option (List ℕ)) (had
   pub some : WritesSomeOf list held holds told
   pub failed : had ≡ false → has ≡ is_write_fault told
 
--- details in this form, of one centre or of the whole office
-abbrev pub details_for : StatementForm → ℕ → Option (List ℕ) → StreamedList
-details_for form period centre =
-    list.Details (record { form = form; period = period; centre = centre })
+-- a list of disputes in this form
+abbrev pub dispute_form : StatementForm → DisputeForm
+dispute_form form.Text = disputes.List
+dispute_form form.Table = disputes.Table
 
--- those that words ask for, if the centre is what it has to be
-abbrev pub details_by : StatementForm → PeriodWords → Option StreamedList
-details_by form period = option_map (details_for form period.number) (asked_centre period.centre)
+-- the list of a name: of a period, of one centre or of the whole office; or of the books
+abbrev pub list_of_centre : ReportName → StatementForm → ℕ → Option (List ℕ) → Option StreamedList
+list_of_centre report.Details form period centre =
+    Some (list.Details (record { form = form; period = period; centre = centre }))
+list_of_centre name form period centre = None
+
+abbrev pub list_of_office : ReportName → StatementForm → Option StreamedList
+list_of_office report.Disputes form = Some (list.Disputes (dispute_form form))
+list_of_office report.Rulings form = Some list.Rulings
+list_of_office name form = None
+
+abbrev pub list_about : ReportName → StatementForm → About → Option StreamedList
+list_about name form (about.OfCentre period centre) = list_of_centre name form period centre
+list_about name form about.OfOffice = list_of_office name form
+list_about name form other = None
 
 -- the list that words ask for, if each of them is what it has to be
-abbrev pub list_of : ListWords → Option StreamedList
-list_of (worded.Details form period) = details_by form period
-list_of (worded.Disputes form) = Some (list.Disputes form)
-list_of worded.Rulings = Some list.Rulings
+abbrev pub list_of : ReportAsked → Option StreamedList
+list_of asked = option_and_then (list_about asked.name asked.form) (about_of asked.words)
 
 -- a list makes events that the books answered, since it makes none
 pub listing_answered : (answer : Naming → Book → Result (List ℕ) LedgerFault) (naming : Naming)
     (held holds : Option (List ℕ)) (told : Result (Unit {0}) ReportFault)
     → MakesAnswered naming (WritesAnswerUntil answer naming held holds told)
-listing_answered answer naming held holds told history was events is it answered =
-    subst (λ events. IsMadeByCalls naming (events ++ history)) (sym it.none) answered
+listing_answered answer naming held holds told book was events is it =
+    subst (AreMadeOf naming book) (sym it.none) tt
 
 -- what came of the list: it was written whole, or not, or the books were not opened
 abbrev pub list_end : Result (Result (Unit {0}) ReportFault) RepositoryFault

@@ -12,13 +12,15 @@ ghost use Rattle.book_http.specs.Served.{IsSent, is_read_fault, is_unanswered, i
 ghost use Rattle.chargectl.specs.ClientRequests as spec;
 ghost use Rattle.chargectl.specs.ClientRequests.{AsksOpen, ComesOpen, EndsBy, FailsBefore};
 ghost use Rattle.chargectl.specs.ClientRequests.{IsAnsweredFrom, IsServedFrom, LeavesLog};
+ghost use Rattle.chargectl.specs.ClientRequests.{asks_books};
 
 use crate::port::Peer;
 use book_core::{Ledger, Sink, Source};
 use book_http::{
-    Answer, OfficeRequest, Requested, Served, Status, Unanswered, ask_details, ask_office,
-    read_request, send, send_details,
+    Answer, Asked, Routes, Served, Status, Unanswered, ask_details, ask_office, read_request, send,
+    send_details,
 };
+use book_reports::DetailReport;
 use named_books::{Opened, Repository, RepositoryFault, Visit};
 use std::alloc::Global;
 use std::mem;
@@ -32,21 +34,12 @@ pub struct Attended {
     pub log: Option<bool>,
 }
 
-/// What came of a request while the books were open.
-#[derive(Drop)]
-enum Told {
-    /// This answer is due, once they are closed.
-    Due(Answer),
-    /// Details were sent.
-    Sent(Served),
-}
-
 /// A request that is asked of the books, and the writer that details go to.
 #[derive(Drop)]
 struct OpenRequest<W: Peer + Drop> {
     alloc: Global,
     /// Settled, once it was asked.
-    request: Requested,
+    request: Asked<Vec<u8>>,
     writer: W,
 }
 
@@ -54,7 +47,8 @@ impl<W: Peer + Writer + Drop> Visit for OpenRequest<W> {
     ghost use Rattle.streams.specs.Failures.{HasFailed};
     ghost use Rattle.chargectl.specs.ClientRequests.{AsksOpen, ComesOpen, open_answered};
 
-    type Answer = Told;
+    /// Details were sent; or this answer is due, once the books are closed.
+    type Answer = Result<Served, Answer>;
 
     ghost work = { λ naming it after told. AsksOpen naming it.request
         (W.contents it.writer) (W.contents after.writer) told };
@@ -68,11 +62,11 @@ impl<W: Peer + Writer + Drop> Visit for OpenRequest<W> {
 
     /// A report is. Imports, other prices and details go over many pages.
     fn is_brief(&self) -> bool {
-        matches!(self.request, Requested::Office(OfficeRequest::Report(_)))
+        matches!(self.request, Asked::Report(_, _))
     }
 
-    fn visit<L: Ledger>(&mut self, books: &mut L) -> Told {
-        let request = mem::replace(&mut self.request, Requested::Settled(Answer::Busy));
+    fn visit<L: Ledger>(&mut self, books: &mut L) -> Result<Served, Answer> {
+        let request = mem::replace(&mut self.request, Asked::Settled(Answer::Busy));
         let (told, writer) = ask_open(self.alloc, books, request, self.writer);
         self.writer = writer;
         told
@@ -83,40 +77,52 @@ impl<W: Peer + Writer + Drop> Visit for OpenRequest<W> {
 fn ask_open<L: Ledger, W: Peer + Drop>(
     alloc: Global,
     books: &mut L,
-    request: Requested,
+    request: Asked<Vec<u8>>,
     writer: W,
-) -> (Told, W)
+) -> (Result<Served, Answer>, W)
     ensures done { IsTransition (L.seen books.old) (L.seen books.new)
         (AsksOpen (L.seen books.old).naming request
         (W.contents writer) (W.contents result.1) result.0) }
     ensures came { ComesOpen request (W.contents writer) (W.contents result.1)
         (∥ HasFailed W.Writer.may_answer result.1 ∥₁) result.0 }
 {
-    match request {
-        Requested::Settled(settled) => (Told::Due(settled), writer),
-        Requested::Office(asked) => {
-            let answer = ask_office(alloc, books, asked);
-            (Told::Due(answer), writer)
+    match ask_office(alloc, books, request) {
+        Ok(answer) => (Err(answer), writer),
+        Err(details) => send_open(alloc, books, details, writer),
+    }
+}
+
+/// Asks open books for details, and sends long ones.
+fn send_open<L: Ledger, W: Peer + Drop>(
+    alloc: Global,
+    books: &mut L,
+    details: DetailReport,
+    writer: W,
+) -> (Result<Served, Answer>, W)
+    ensures done { IsTransition (L.seen books.old) (L.seen books.new)
+        (AsksOpen (L.seen books.old).naming (spec.asks_for details)
+        (W.contents writer) (W.contents result.1) result.0) }
+    ensures came { ComesOpen (spec.asks_for details) (W.contents writer) (W.contents result.1)
+        (∥ HasFailed W.Writer.may_answer result.1 ∥₁) result.0 }
+{
+    match ask_details(alloc, books, &details) {
+        Err(reply) => (Err(reply), writer),
+        Ok(size) => {
+            writer.hurry();
+            let mut sink = Sink::new(writer);
+            let what = send_details(alloc, books, details, size, &mut sink);
+            (Ok(what), sink.into_inner())
         }
-        Requested::Details(details) => match ask_details(alloc, books, &details) {
-            Err(reply) => (Told::Due(reply), writer),
-            Ok(size) => {
-                writer.hurry();
-                let mut sink = Sink::new(writer);
-                let what = send_details(alloc, books, details, size, &mut sink);
-                (Told::Sent(what), sink.into_inner())
-            }
-        },
     }
 }
 
 /// Details are asked for, which are sent while they are read.
-fn is_streamed(request: &Requested) -> bool
+fn is_streamed(request: &Asked<Vec<u8>>) -> bool
     ensures { result ≡ spec.is_streamed request.now }
 {
     match request {
-        Requested::Details(_) => true,
-        Requested::Settled(_) | Requested::Office(_) => false,
+        Asked::Details(_) => true,
+        _ => false,
     }
 }
 
@@ -134,7 +140,7 @@ fn send_to<W: Peer + Drop>(writer: W, answer: &Answer) -> (Served, W)
 /// Answers a client after the books were closed.
 fn end_request<W: Peer + Drop>(
     streamed: bool,
-    told: Result<Told, RepositoryFault>,
+    told: Result<Result<Served, Answer>, RepositoryFault>,
     writer: W,
 ) -> (Served, W)
     requires { FailsBefore (∥ HasFailed W.Writer.may_answer writer ∥₁) told }
@@ -142,8 +148,8 @@ fn end_request<W: Peer + Drop>(
     ensures write { is_write_fault result.0 ≡ true → ∥ HasFailed W.Writer.may_answer result.1 ∥₁ }
 {
     match told {
-        Ok(Told::Due(answer)) => send_to(writer, &answer),
-        Ok(Told::Sent(what)) => (what, writer),
+        Ok(Ok(what)) => (what, writer),
+        Ok(Err(answer)) => send_to(writer, &answer),
         Err(fault) => send_away(streamed, fault, writer),
     }
 }
@@ -171,7 +177,7 @@ fn send_away<W: Peer + Drop>(streamed: bool, fault: RepositoryFault, writer: W) 
 /// Opens the books for a request, asks them once, and answers the client once they are closed.
 fn answer_from_books<W: Peer + Drop, S: Repository>(
     alloc: Global,
-    request: Requested,
+    request: Asked<Vec<u8>>,
     writer: W,
     repository: &mut S,
     book: &str,
@@ -199,10 +205,35 @@ fn answer_from_books<W: Peer + Drop, S: Repository>(
     (attended, writer)
 }
 
+/// Answers a request that was read whole: one that asks nothing of the books without them.
+fn answer_request<W: Peer + Drop, S: Repository>(
+    alloc: Global,
+    request: Asked<Vec<u8>>,
+    writer: W,
+    repository: &mut S,
+    book: &str,
+) -> (Attended, W)
+    ensures from { IsAnsweredFrom book.now (S.shelf repository.old) (S.shelf repository.new) request
+        (W.contents writer) (W.contents result.1) result.0.served }
+    ensures alone { asks_books request ≡ false → repository.new ≡ repository.old }
+    ensures answered { is_unanswered result.0.served ≡ false }
+    ensures write { is_write_fault result.0.served ≡ true
+        → ∥ HasFailed W.Writer.may_answer result.1 ∥₁ }
+    ensures log { LeavesLog S.shelf book.now repository.old repository.new result.0.log }
+{
+    match request {
+        Asked::Settled(answer) => {
+            let (served, writer) = send_to(writer, &answer);
+            (Attended { served, log: None }, writer)
+        }
+        request => answer_from_books(alloc, request, writer, repository, book),
+    }
+}
+
 /// Serves one request as `book_http::serve_one` does, from the books of a name, which are opened for
 /// it once it came whole.
 pub fn serve_request<R: Reader + Drop, W: Peer + Drop, S: Repository>(
-    alloc: Global,
+    routes: &mut Routes,
     source: &mut Source<R>,
     writer: W,
     repository: &mut S,
@@ -228,19 +259,9 @@ pub fn serve_request<R: Reader + Drop, W: Peer + Drop, S: Repository>(
     ensures write { is_write_fault result.0.served ≡ true
         → ∥ HasFailed W.Writer.may_answer result.1 ∥₁ }
 {
-    match read_request(alloc, source) {
-        Ok(Requested::Settled(answer)) => {
-            let (served, writer) = send_to(writer, &answer);
-            (Attended { served, log: None }, writer)
-        }
-        Ok(Requested::Office(request)) => {
-            let request = Requested::Office(request);
-            answer_from_books(alloc, request, writer, repository, book)
-        }
-        Ok(Requested::Details(details)) => {
-            let request = Requested::Details(details);
-            answer_from_books(alloc, request, writer, repository, book)
-        }
+    let alloc = routes.alloc();
+    match read_request(routes, source) {
+        Ok(request) => answer_request(alloc, request, writer, repository, book),
         Err(Unanswered::Closed) => {
             let served = Served::Closed;
             (Attended { served, log: None }, writer)

@@ -9,21 +9,24 @@ ghost use Rattle.chargectl.specs.Serving.{Attends, is_answered};
 use crate::client_requests::{Attended, serve_request};
 use crate::connection::Client;
 use book_core::Source;
-use book_http::Served;
+use book_http::{Routes, Served};
 use named_books::Repository;
-use std::alloc::Global;
 use std::io;
 use std::net::{TcpListener, TcpStream};
 use streams::{Reader, Writer};
 
 /// A given number of connections, one after the other: those to a port, or any others.
 pub trait Connections {
-    ghost use Rattle.std.specs.Prelude.{ℕ, ◌≡◌, ◌<◌, ◌+◌, ◌==◌, IfErr, IfOk, OnErr};
+    ghost use Rattle.std.specs.Prelude.{ℕ, ◌≡◌, ◌<◌, ◌+◌, ◌==◌, IfErr, IfOk, List, None, OnErr};
+    ghost use Rattle.std.specs.Prelude.{Option};
     ghost use Rattle.std.specs.declared.io.Error.{Error};
     ghost use Rattle.chargectl.specs.Serving.{Attends, Coming};
 
     /// How many are left to be answered.
     ghost left: { Self → ℕ };
+
+    /// The bytes that the next one sends, where they are known.
+    ghost sent: { Self → Option (List ℕ) } = { λ _. None };
 
     /// The next one may come, this may become of it, and such connections may be left. Only a wait
     /// shows it, so a clause can say that what is told of a connection became of one.
@@ -42,7 +45,8 @@ pub trait Connections {
     fn next<S: Repository>(&mut self, repository: &mut S, book: &str) -> io::Result<Attended>
         requires { 0 < left self.old }
         ensures left { left self.new + 1 ≡ left self.old }
-        ensures served { IfOk result (Attends S.shelf book.now repository.old repository.new) }
+        ensures served { IfOk result (Attends S.shelf book.now (sent self.old) repository.old
+            repository.new) }
         ensures came { IfOk result (λ attended. may_come self.old attended.served self.new) }
         ensures none { OnErr result (repository.new ≡ repository.old) }
         ensures failed { IfErr result (λ error. may_fail self.old error self.new) };
@@ -73,6 +77,8 @@ pub(crate) struct Port<'a> {
     rt: &'a HostRuntime,
     listener: &'a TcpListener,
     pub(crate) left: u32,
+    /// One router for all that they ask.
+    routes: Routes,
 }
 
 impl<'a> Port<'a> {
@@ -84,6 +90,7 @@ impl<'a> Port<'a> {
             rt,
             listener,
             left: requests,
+            routes: Routes::new(rt.alloc()),
         }
     }
 }
@@ -105,37 +112,39 @@ impl Connections for Port<'_> {
     fn next<S: Repository>(&mut self, repository: &mut S, book: &str) -> io::Result<Attended> {
         self.left -= 1;
         let (stream, _) = self.listener.accept()?;
-        Ok(answer_stream(self.rt, &stream, repository, book))
+        Ok(answer_stream(self.rt, &mut self.routes, &stream, repository, book))
     }
 }
 
 /// Answers one connection. Where the clock fails the time is not bounded, so nothing is read.
 fn answer_stream<S: Repository>(
     rt: &HostRuntime,
+    routes: &mut Routes,
     stream: &TcpStream,
     repository: &mut S,
     book: &str,
 ) -> Attended
-    ensures { Attends S.shelf book.now repository.old repository.new result }
+    ensures { Attends S.shelf book.now None repository.old repository.new result }
 {
     let patience = Client::patience();
     let Ok(client) = Client::accepted(rt, stream, &patience) else {
         let served = Served::ReadFault;
         return Attended { served, log: None };
     };
-    let (attended, _) = answer_peer(rt.alloc(), client, repository, book);
+    let (attended, _) = answer_peer(routes, client, repository, book);
     attended
 }
 
 /// Reads one request of a client, asks it of the books of a name, and answers. A client that was
 /// answered is drained before it is let go, so that it can read its answer.
 pub fn answer_peer<P: Peer + Drop, S: Repository>(
-    alloc: Global,
+    routes: &mut Routes,
     peer: P,
     repository: &mut S,
     book: &str,
 ) -> (Attended, P)
-    ensures served { Attends S.shelf book.now repository.old repository.new result.0 }
+    ensures served { Attends S.shelf book.now (P.remaining peer) repository.old repository.new
+        result.0 }
 
     // It is answered by what reads of it gave, each of which was due; and the books are not opened
     // for a request that asks nothing of them.
@@ -153,7 +162,7 @@ pub fn answer_peer<P: Peer + Drop, S: Repository>(
     ensures drained { is_answered result.0.served ≡ true → P.is_drained result.1 ≡ true }
 {
     let mut source = Source::new(peer);
-    let (attended, peer) = serve_request(alloc, &mut source, peer, repository, book);
+    let (attended, peer) = serve_request(routes, &mut source, peer, repository, book);
     match attended.served {
         Served::Answered(_) => (attended, peer.drain()),
         _ => (attended, peer),

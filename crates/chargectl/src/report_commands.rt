@@ -3,7 +3,7 @@
 
 ghost use Rattle.std.specs.Prelude.{◌≡◌, option_map};
 ghost use Rattle.smf_text.specs.Day.{day_of_text_of};
-ghost use Rattle.book_reports.specs.declared.report.Report.TheVariants.{Record, TariffText};
+ghost use Rattle.report_rows.specs.declared.about.About.TheVariants.{OfDay, OfRecord};
 ghost use Rattle.program_output.specs.Names.{name_in};
 ghost use Rattle.without_books.specs.Inputs.{Files};
 ghost use Rattle.chargectl.specs.Commands as spec;
@@ -11,10 +11,11 @@ ghost use Rattle.chargectl.specs.Commands.{ComesOf};
 
 use crate::answered::Answered;
 use crate::book_commands::ask_books;
-use command_line::{BookRequest, PeriodWords, ReportWords};
+use command_line::{BookRequest, PeriodWords, ReportAsked, Words};
 use named_books::Repository;
 use office::{Asked, Report, StatementForm, WhatIf, centre_named};
 use program_output::name_of_text;
+use report_rows::{About, report_about};
 use smf_text::{Name, day_of_text};
 use std::io;
 use without_books::{CommandFault, Inputs, tariff_text};
@@ -24,64 +25,63 @@ pub(crate) fn report<S: Repository>(
     rt: &HostRuntime,
     repository: &mut S,
     book: &str,
-    words: ReportWords<'_>,
+    asked: ReportAsked<'_>,
 ) -> Result<Answered, CommandFault>
-    ensures { (files : Files) → ComesOf files (BookRequest.Report words.entry) book.now
+    ensures { (files : Files) → ComesOf files (BookRequest.Report asked.entry) book.now
         (S.shelf repository.old) (S.shelf repository.new) result }
 {
-    let made = match report_of(words) {
+    let made = match report_of(asked) {
         Some(made) => made,
         None => return Err(CommandFault::Argument),
     };
     repository.expect(book)?;
-    let asked = Asked::Report(made);
-    Ok(ask_books(rt, repository, book, asked, io::empty()))
+    let printed = Asked::Report(made);
+    Ok(ask_books(rt, repository, book, printed, io::empty()))
 }
 
 /// The report that words ask for. `None`: one of them is not what it has to be.
-fn report_of(words: ReportWords<'_>) -> Option<Report>
-    ensures { result ≡ spec.report_of words.entry }
+fn report_of(asked: ReportAsked<'_>) -> Option<Report>
+    ensures { result ≡ spec.report_of asked.entry }
+{
+    let about = about_of(asked.words)?;
+    report_about(asked.name, asked.form, about)
+}
+
+/// What the words say that a report is about. `None`: one of them is not what it has to be.
+pub(crate) fn about_of(words: Words<'_>) -> Option<About>
+    ensures { result ≡ spec.about_of words.entry }
 {
     match words {
-        ReportWords::OfPeriod { report, period } => {
+        Words::OfCentre(period) => {
             let centre = asked_centre(period.centre)?;
-            Some(Report::OfPeriod {
-                report,
+            Some(About::OfCentre {
                 period: period.number,
                 centre,
             })
         }
-        ReportWords::Bill { form, period } => {
-            let centre = asked_centre(period.centre)?;
-            Some(Report::Bill {
-                form,
-                period: period.number,
-                centre,
-            })
-        }
-        ReportWords::Page { period } => Some(Report::PeriodPage(period)),
-        ReportWords::Record { name } => record_report(name),
-        ReportWords::Periods => Some(Report::PeriodList),
-        ReportWords::TariffText { date } => tariff_report(date),
+        Words::OfPeriod(period) => Some(About::OfPeriod(period)),
+        Words::OfOffice => Some(About::OfOffice),
+        Words::OfDay(date) => about_day(date),
+        Words::OfRecord(name) => about_record(name),
     }
 }
 
-/// The report of a record. `None`: the text is no name.
-fn record_report(name: &str) -> Option<Report>
-    ensures { result ≡ option_map Record (name_in name.now) }
+/// The record of a name. `None`: the text is no name.
+fn about_record(name: &str) -> Option<About>
+    ensures { result ≡ option_map OfRecord (name_in name.now) }
 {
     match name_of_text(name) {
-        Some(named) => Some(Report::Record(named)),
+        Some(named) => Some(About::OfRecord(named)),
         None => None,
     }
 }
 
-/// The report of a tariff. `None`: the text is no day.
-fn tariff_report(date: &str) -> Option<Report>
-    ensures { result ≡ option_map TariffText (day_of_text_of date.now) }
+/// The tariff of a day. `None`: the text is no day.
+fn about_day(date: &str) -> Option<About>
+    ensures { result ≡ option_map OfDay (day_of_text_of date.now) }
 {
     match day_of_text(date) {
-        Some(day) => Some(Report::TariffText(day)),
+        Some(day) => Some(About::OfDay(day)),
         None => None,
     }
 }

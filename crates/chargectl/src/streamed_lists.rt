@@ -14,14 +14,16 @@ ghost use Rattle.chargectl.specs.Commands.{IsFileFault, first_fault};
 ghost use Rattle.chargectl.specs.StreamedLists as spec;
 ghost use Rattle.chargectl.specs.StreamedLists.{ListsAsked, ListsBy, WritesSomeOf, list_answer};
 
-use crate::report_commands::asked_centre;
+use crate::report_commands::about_of;
 use book_core::{Ledger, Sink};
 use book_reports::{
     DetailReport, DisputeForm, ReportFault, write_details, write_disputes, write_rulings,
 };
-use command_line::{ListWords, PeriodWords};
+use command_line::ReportAsked;
 use named_books::{Opened, Repository, RepositoryFault, Visit};
 use office::StatementForm;
+use report_rows::{About, ReportName};
+use smf_text::Name;
 use std::alloc::Global;
 use streams::Writer;
 use without_books::{CommandFault, Ended, let_out};
@@ -34,27 +36,62 @@ pub(crate) enum StreamedList {
     Disputes(DisputeForm),
 }
 
-/// The details of a period. `None`: the text of the centre is no name.
-fn details_by(form: StatementForm, period: PeriodWords<'_>) -> Option<StreamedList>
-    ensures { result ≡ spec.details_by form period.entry }
+fn dispute_form(form: StatementForm) -> DisputeForm
+    ensures { result ≡ spec.dispute_form form }
 {
-    let centre = asked_centre(period.centre)?;
-    Some(StreamedList::Details(DetailReport {
-        form,
-        period: period.number,
-        centre,
-    }))
+    match form {
+        StatementForm::Text => DisputeForm::List,
+        StatementForm::Table => DisputeForm::Table,
+    }
+}
+
+/// The list of a period, of one centre or of the whole office.
+fn list_of_centre(
+    name: ReportName,
+    form: StatementForm,
+    period: u16,
+    centre: Option<Name>,
+) -> Option<StreamedList>
+    ensures { result ≡ spec.list_of_centre name form period centre }
+{
+    match name {
+        ReportName::Details => Some(StreamedList::Details(DetailReport {
+            form,
+            period,
+            centre,
+        })),
+        _ => None,
+    }
+}
+
+/// The list of the books.
+fn list_of_office(name: ReportName, form: StatementForm) -> Option<StreamedList>
+    ensures { result ≡ spec.list_of_office name form }
+{
+    match name {
+        ReportName::Disputes => Some(StreamedList::Disputes(dispute_form(form))),
+        ReportName::Rulings => Some(StreamedList::Rulings),
+        _ => None,
+    }
+}
+
+/// The list of this name about that. `None`: there is none.
+fn list_about(name: ReportName, form: StatementForm, about: About) -> Option<StreamedList>
+    ensures { result ≡ spec.list_about name form about }
+{
+    match about {
+        About::OfCentre { period, centre } => list_of_centre(name, form, period, centre),
+        About::OfOffice => list_of_office(name, form),
+        _ => None,
+    }
 }
 
 /// The list that words ask for. `None`: one of them is not what it has to be.
-fn list_of(words: ListWords<'_>) -> Option<StreamedList>
-    ensures { result ≡ spec.list_of words.entry }
+fn list_of(asked: ReportAsked<'_>) -> Option<StreamedList>
+    ensures { result ≡ spec.list_of asked.entry }
 {
-    match words {
-        ListWords::Details { form, period } => details_by(form, period),
-        ListWords::Disputes { form } => Some(StreamedList::Disputes(form)),
-        ListWords::Rulings => Some(StreamedList::Rulings),
-    }
+    let about = about_of(asked.words)?;
+    list_about(asked.name, asked.form, about)
 }
 
 /// The list on its way to the output.
@@ -146,14 +183,14 @@ pub(crate) fn list<S: Repository, O: Writer + Drop>(
     rt: &HostRuntime,
     repository: &mut S,
     book: &str,
-    words: ListWords<'_>,
+    asked: ReportAsked<'_>,
     output: O,
 ) -> (Result<Ended, CommandFault>, O)
-    ensures { ListsAsked (spec.list_of words.entry) book.now
+    ensures { ListsAsked (spec.list_of asked.entry) book.now
         (S.shelf repository.old) (S.shelf repository.new)
         (O.contents output) (O.contents result.1) (∥ HasFailed O.may_answer result.1 ∥₁) result.0 }
 {
-    match list_of(words) {
+    match list_of(asked) {
         Some(list) => write_list(rt, repository, book, list, output),
         None => (Err(CommandFault::Argument), output),
     }

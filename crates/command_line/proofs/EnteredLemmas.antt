@@ -1,6 +1,6 @@
 -- Words in which clap finds no fault name a command of the table, and each of its words has its value.
 use Rattle.std.proofs.Common.{◌≡◌, ◌&&◌, ℕ, Bool, true, false, cond, List, [], ◌∷◌}
-use Rattle.std.proofs.Common.{map, Option, Some, None, refl, sym, subst}
+use Rattle.std.proofs.Common.{map, Option, Some, None, ap, refl, sym, subst}
 use Rattle.std.specs.List.{find, fold, list_all}
 use Rattle.std.specs.Option.{option_map, option_map_or}
 use Rattle.std.specs.Str.{bytes_eq}
@@ -21,7 +21,7 @@ use Rattle.clap.specs.declared.error.kind.ErrorKind.{ErrorKind}
 use Rattle.clap.specs.declared.error.kind.ErrorKind.TheVariants as kind
 use Rattle.command_line.specs.declared.known_commands.KnownCommand.{KnownCommand}
 use Rattle.command_line.specs.Given.{HasWords, HasWordsOf}
-use Rattle.command_line.specs.Known.{command_seen, known_table}
+use Rattle.command_line.specs.Known.{WordSeen, command_seen, known_table}
 use Rattle.command_line.specs.Shapes.{app_for, distinct, leaf}
 use Rattle.command_line.proofs.RowLemmas.{neither, no_kinds, true_false}
 use Rattle.command_line.proofs.LevelLemmas.{checks_passed, no_fault}
@@ -181,9 +181,13 @@ met_command a P words wants off holds none =
     (walk_stop b.top (names_of b) args (walk_from nothing_held) off fault.walks tt)
     fault.beneath is
 
+abbrev is_none : List (Text × List WordSeen) → Bool
+is_none [] = true
+is_none (command ∷ more) = false
+
 no_commands : [] ≡ known_table → ⊥
 unfolding known_table
-no_commands e = cc
+no_commands e = true_false (ap is_none e)
 
 -- words without a fault have the words of a command of the table
 pub words_of_command : (program : Text) (highest : ℕ) (table : List KnownCommand) (words : List Text)

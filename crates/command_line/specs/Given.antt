@@ -52,7 +52,7 @@ HasWordsOf name rows = IsSomeAnd (find (λ command. bytes_eq command.0 name) kno
     (λ command. HasWords rows command.1)
 
 -- the commands, in the order in which they are looked for: those that ask no books, those that change
--- books, and reports of periods with what is done to a whole file
+-- books, the statement with what is done to a whole file, and then the other reports
 abbrev pub bookless : List Text
 bookless = codes "trial" ∷ codes "check" ∷ codes "explain" ∷ []
 
@@ -61,8 +61,7 @@ changes = codes "init" ∷ codes "tariff" ∷ codes "import" ∷ codes "close" �
     ∷ codes "adopt" ∷ []
 
 abbrev pub services : List Text
-services = codes "statement" ∷ codes "adjustments" ∷ codes "disputes" ∷ codes "upgrade"
-    ∷ codes "audit" ∷ codes "backup" ∷ codes "serve" ∷ []
+services = codes "statement" ∷ codes "upgrade" ∷ codes "audit" ∷ codes "backup" ∷ codes "serve" ∷ []
 
 -- the text is none of these
 abbrev pub NoneIs : List Text → Text → Type 0

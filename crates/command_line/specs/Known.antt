@@ -1,5 +1,5 @@
 -- The table of the commands, and what words are by it.
-use Rattle.std.specs.Prelude.{◌≡◌, ℕ, ℤ, pos, Bool, true, false, List, [], ◌∷◌, Option, map, codes}
+use Rattle.std.specs.Prelude.{◌≡◌, ℕ, ℤ, pos, Bool, true, false, List, [], ◌∷◌, ◌++◌, Option, map, codes}
 use Rattle.std.specs.List.{list_all}
 use Rattle.std.specs.Prelude.{Result, Ok, Err, IsSomeAnd, String, string_bytes}
 use Rattle.std.specs.Global.{Global}
@@ -9,6 +9,10 @@ use Rattle.clap.specs.Simple.{Shape, is_simple, subcommand_of}
 use Rattle.clap.specs.Walk.{Row, Text}
 use Rattle.clap.specs.declared.error.kind.ErrorKind.{ErrorKind}
 use Rattle.clap.specs.declared.error.kind.ErrorKind.TheVariants as error
+use Rattle.report_rows.specs.ReportRows as reports
+use Rattle.report_rows.specs.declared.report_row.ReportName.{ReportName}
+use Rattle.report_rows.specs.declared.report_row.Shape as subject
+use Rattle.report_rows.specs.declared.report_row.Shape.TheVariants as about
 use Rattle.command_line.specs.declared.fault.ArgumentFault.{ArgumentFault}
 use Rattle.command_line.specs.declared.fault.ArgumentFault.TheVariants as fault
 use Rattle.command_line.specs.declared.known_commands.Argument.{Argument}
@@ -134,9 +138,39 @@ usual_wait = codes "10"
 abbrev pub wait : WordSeen
 wait = named_or (codes "wait") (at_most most_wait) usual_wait
 
--- The table of the commands.
-unfoldable pub known_table : List (Text × List WordSeen)
-known_table = (
+-- what says which period, tariff or record a report is about, by its shape,
+abbrev pub named_by : subject.Shape → List WordSeen
+named_by about.OfCentre = period ∷ []
+named_by about.OfPeriod = period ∷ []
+named_by about.OfOffice = []
+named_by about.OfDay = date ∷ []
+named_by about.OfRecord = record_name ∷ []
+
+-- and of which centre
+abbrev pub chosen_by : subject.Shape → List WordSeen
+chosen_by about.OfCentre = centre ∷ []
+chosen_by other = []
+
+-- what may be a table, or be made by other prices
+abbrev pub if_csv : Bool → List WordSeen
+if_csv true = csv ∷ []
+if_csv false = []
+
+abbrev pub if_prices : Bool → List WordSeen
+if_prices true = prices ∷ []
+if_prices false = []
+
+-- the words of a report follow from its row
+abbrev pub report_words : reports.Row → List WordSeen
+report_words row = book ∷ (named_by row.shape
+    ++ (if_csv row.csv ++ (chosen_by row.shape ++ (if_prices row.by_prices ++ wait ∷ []))))
+
+abbrev pub report_command : ReportName → Text × List WordSeen
+report_command name = ((reports.row_of name).word, report_words (reports.row_of name))
+
+-- the commands above the reports in the program's help, and those below them
+abbrev pub commands_above : List (Text × List WordSeen)
+commands_above = (
   codes "trial",
   layouts ∷ rate_of (codes "cpu") ∷ rate_of (codes "excp") ∷ rate_of (codes "record") ∷ prices ∷ [],
 ) ∷
@@ -147,22 +181,19 @@ known_table = (
     (codes "close", book ∷ period ∷ date ∷ dry_run ∷ wait ∷ []) ∷
     (codes "choose", book ∷ digest ∷ names ∷ dry_run ∷ wait ∷ []) ∷
     (codes "adopt", book ∷ dry_run ∷ wait ∷ []) ∷
-    (codes "statement", book ∷ period ∷ csv ∷ centre ∷ prices ∷ wait ∷ []) ∷
-    (codes "adjustments", book ∷ period ∷ csv ∷ centre ∷ wait ∷ []) ∷
-    (codes "details", book ∷ period ∷ csv ∷ centre ∷ wait ∷ []) ∷
-    (codes "bill", book ∷ period ∷ csv ∷ centre ∷ wait ∷ []) ∷
-    (codes "page", book ∷ period ∷ wait ∷ []) ∷
-    (codes "disputes", book ∷ csv ∷ wait ∷ []) ∷
-    (codes "record", book ∷ record_name ∷ wait ∷ []) ∷
-    (codes "periods", book ∷ wait ∷ []) ∷
-    (codes "rulings", book ∷ wait ∷ []) ∷
-    (codes "tariff-text", book ∷ date ∷ wait ∷ []) ∷
-    (codes "upgrade", book ∷ wait ∷ []) ∷
+    []
+
+abbrev pub commands_below : List (Text × List WordSeen)
+commands_below = (codes "upgrade", book ∷ wait ∷ []) ∷
     (codes "audit", book ∷ quiet ∷ wait ∷ []) ∷
     (codes "backup", book ∷ file ∷ quiet ∷ wait ∷ []) ∷
     (codes "serve", book ∷ port ∷ requests ∷ []) ∷
     (codes "explain", number_kind ∷ kind_number ∷ []) ∷
     []
+
+-- The table of the commands.
+unfoldable pub known_table : List (Text × List WordSeen)
+known_table = commands_above ++ (map report_command reports.reports ++ commands_below)
 
 -- The commands of the program are these; clap finds no fault with their words whatever the program is
 -- called, and no command has two words of one name.

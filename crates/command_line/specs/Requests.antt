@@ -1,6 +1,6 @@
 -- Which request clap's matches are: the name of a command, and what was found for its arguments.
 use Rattle.std.specs.Prelude.{◌≡◌, ◌⊎◌, ◌&&◌, ◌||◌, ◌==◌, ℕ, Bool, true, false, List, Option, codes}
-use Rattle.std.specs.Prelude.{Some, None, IsSome, IsSomeAnd, bytes_eq, nat_lt, not, slice_get}
+use Rattle.std.specs.Prelude.{Some, None, IsSome, IsSomeAnd, bytes_eq, nat_lt, not, slice_get, ⊤}
 use Rattle.std.specs.Borrow.{Bor}
 use Rattle.std.specs.Option.{option_map_or}
 use Rattle.std.specs.Str.Parse.{IsNumeral, digits_value, without_leading_plus}
@@ -10,28 +10,26 @@ use Rattle.clap.specs.Walk.{Row, Text, first_of, one_of, rows_of}
 use Rattle.clap.specs.declared.parser.matches.ArgMatches.{ArgMatches}
 use Rattle.smf_frames.specs.declared.dump.Layout.{Layout}
 use Rattle.smf_frames.specs.declared.dump.Layout.TheVariants.{Rdw, Bdw}
-use Rattle.book_reports.specs.declared.report.PeriodReport.{PeriodReport}
-use Rattle.book_reports.specs.declared.report.PeriodReport.TheVariants as of_period
-use Rattle.book_reports.specs.declared.streamed_disputes.DisputeForm.{DisputeForm}
-use Rattle.book_reports.specs.declared.streamed_disputes.DisputeForm.TheVariants as disputes
 use Rattle.book_reports.specs.declared.what_if.StatementForm.{StatementForm}
 use Rattle.book_reports.specs.declared.what_if.StatementForm.TheVariants as form
+use Rattle.report_rows.specs.ReportRows as reports
+use Rattle.report_rows.specs.declared.report_row.Shape.{Shape}
+use Rattle.report_rows.specs.declared.report_row.Shape.TheVariants as shape
 use Rattle.command_line.specs.declared.request.BookRequest.{BookRequest}
 use Rattle.command_line.specs.declared.request.BookRequest.TheVariants as book
 use Rattle.command_line.specs.declared.request.DumpFile.{DumpFile}
-use Rattle.command_line.specs.declared.request.ListWords.{ListWords}
-use Rattle.command_line.specs.declared.request.ListWords.TheVariants as list
 use Rattle.command_line.specs.declared.request.NumberKind.{NumberKind}
 use Rattle.command_line.specs.declared.request.NumberKind.TheVariants as number
 use Rattle.command_line.specs.declared.request.PeriodWords.{PeriodWords}
-use Rattle.command_line.specs.declared.request.ReportWords.{ReportWords}
-use Rattle.command_line.specs.declared.request.ReportWords.TheVariants as worded
+use Rattle.command_line.specs.declared.request.ReportAsked.{ReportAsked}
 use Rattle.command_line.specs.declared.request.Request.{Request}
 use Rattle.command_line.specs.declared.request.Request.TheVariants as request
 use Rattle.command_line.specs.declared.request.Ruling.{Ruling}
 use Rattle.command_line.specs.declared.request.Ruling.TheVariants as ruling
 use Rattle.command_line.specs.declared.request.Unclear.{Unclear}
 use Rattle.command_line.specs.declared.request.Unclear.TheVariants as unclear
+use Rattle.command_line.specs.declared.request.Words.{Words}
+use Rattle.command_line.specs.declared.request.Words.TheVariants as worded
 
 -- what was found for a command's arguments
 abbrev pub rows_in : ArgMatches → List Row
@@ -109,16 +107,7 @@ pub record NamesPeriod (rows : List Row) (period : PeriodWords) : Type 0 where
   pub number : IsPeriod rows period.number
   pub centre : IsCentre rows period.centre
 
--- what is printed of it: a statement, where no tariff is named, is of what was charged
-abbrev pub IsOfPeriod : Text → List Row → PeriodReport → Type 0
-IsOfPeriod name rows of_period.Statement =
-    (name ≡ codes "statement") × IsCsv rows false × IsLeftOut rows (codes "tariff")
-IsOfPeriod name rows of_period.StatementTable =
-    (name ≡ codes "statement") × IsCsv rows true × IsLeftOut rows (codes "tariff")
-IsOfPeriod name rows of_period.AdjustmentList = (name ≡ codes "adjustments") × IsCsv rows false
-IsOfPeriod name rows of_period.AdjustmentTable = (name ≡ codes "adjustments") × IsCsv rows true
-
--- a statement, a bill or details are a table where `--csv` asks for one, or else a text
+-- a report is a table where `--csv` asks for one, or else a text
 abbrev pub is_table : StatementForm → Bool
 is_table form.Text = false
 is_table form.Table = true
@@ -127,31 +116,23 @@ is_table form.Table = true
 abbrev pub IsForm : List Row → StatementForm → Type 0
 IsForm rows value = IsCsv rows (is_table value)
 
--- a report
-abbrev pub AsksReport : Text → List Row → ReportWords → Type 0
-AsksReport name rows (worded.OfPeriod asked period) =
-    IsOfPeriod name rows asked × NamesPeriod rows period
-AsksReport name rows (worded.Bill form period) =
-    (name ≡ codes "bill") × NamesPeriod rows period × IsForm rows form
-AsksReport name rows (worded.Page period) = (name ≡ codes "page") × IsPeriod rows period
-AsksReport name rows (worded.Record digest) =
-    (name ≡ codes "record") × IsText rows (codes "sha256") digest
-AsksReport name rows worded.Periods = name ≡ codes "periods"
-AsksReport name rows (worded.TariffText date) =
-    (name ≡ codes "tariff-text") × IsText rows (codes "date") date
+-- the words that say what a report is about, by its shape
+abbrev pub HasShape : Shape → List Row → Words → Type 0
+HasShape shape.OfCentre rows (worded.OfCentre period) = NamesPeriod rows period
+HasShape shape.OfPeriod rows (worded.OfPeriod period) = IsPeriod rows period
+HasShape shape.OfOffice rows worded.OfOffice = ⊤
+HasShape shape.OfDay rows (worded.OfDay date) = IsText rows (codes "date") date
+HasShape shape.OfRecord rows (worded.OfRecord digest) = IsText rows (codes "sha256") digest
+HasShape other rows words = ⊥
 
--- disputes are so too, or else a list for people
-abbrev pub is_dispute_table : DisputeForm → Bool
-is_dispute_table disputes.List = false
-is_dispute_table disputes.Table = true
-
--- a list
-abbrev pub AsksList : Text → List Row → ListWords → Type 0
-AsksList name rows (list.Details form period) =
-    (name ≡ codes "details") × NamesPeriod rows period × IsForm rows form
-AsksList name rows (list.Disputes form) =
-    (name ≡ codes "disputes") × IsCsv rows (is_dispute_table form)
-AsksList name rows list.Rulings = name ≡ codes "rulings"
+-- A report, as its row has it. What is never a table is a text, and a statement, where no tariff is named,
+-- is of what was charged.
+pub record AsksReport (name : Text) (rows : List Row) (asked : ReportAsked) : Type 0 where
+  pub word : name ≡ (reports.row_of asked.name).word
+  pub table : (reports.row_of asked.name).csv ≡ true → IsForm rows asked.form
+  pub text : (reports.row_of asked.name).csv ≡ false → asked.form ≡ form.Text
+  pub words : HasShape (reports.row_of asked.name).shape rows asked.words
+  pub charged : name ≡ codes "statement" → IsLeftOut rows (codes "tariff")
 
 -- a ruling
 abbrev pub IsRuling : Text → List Row → Ruling → Type 0
@@ -178,8 +159,10 @@ IsOfBooks name rows (book.ChooseListed file) =
     (name ≡ codes "choose") × IsLeftOut rows (codes "sha256")
     × IsText rows (codes "from") file × IsDryRun rows false
 IsOfBooks name rows (book.DryRun ruled) = IsRuling name rows ruled × IsDryRun rows true
-IsOfBooks name rows (book.Report asked) = AsksReport name rows asked
-IsOfBooks name rows (book.List asked) = AsksList name rows asked
+IsOfBooks name rows (book.Report asked) =
+    AsksReport name rows asked × ((reports.row_of asked.name).streamed ≡ false)
+IsOfBooks name rows (book.List asked) =
+    AsksReport name rows asked × ((reports.row_of asked.name).streamed ≡ true)
 IsOfBooks name rows (book.WhatIf form period file) =
     (name ≡ codes "statement") × NamesPeriod rows period × IsForm rows form
     × IsText rows (codes "tariff") file

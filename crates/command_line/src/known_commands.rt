@@ -1,6 +1,7 @@
 //! The commands that the program knows, with their words and options.
 
 use crate::help_texts::Help;
+use report_rows::report_row;
 
 /// A command of the program.
 #[derive(Clone, Copy)]
@@ -233,7 +234,7 @@ const NUMBER: Argument = Argument::InPlaceOr(
     "0",
 );
 
-/// The commands in the order of the program's help.
+/// The commands in the order of the program's help. Of reports the row has the word and the help.
 pub(crate) static KNOWN_COMMANDS: [KnownCommand; 23] = [
     KnownCommand {
         name: "trial",
@@ -276,53 +277,53 @@ pub(crate) static KNOWN_COMMANDS: [KnownCommand; 23] = [
         words: &[BOOK, DRY_RUN, WAIT],
     },
     KnownCommand {
-        name: "statement",
-        about: "Prints what a period charges",
+        name: report_row::STATEMENT.word,
+        about: report_row::STATEMENT.about,
         words: &[BOOK, PERIOD, CSV, CENTRE, OTHER_PRICES, WAIT],
     },
     KnownCommand {
-        name: "adjustments",
-        about: "Prints what a period adds to closed periods and reverses in them",
+        name: report_row::ADJUSTMENTS.word,
+        about: report_row::ADJUSTMENTS.about,
         words: &[BOOK, PERIOD, CSV, CENTRE, WAIT],
     },
     KnownCommand {
-        name: "details",
-        about: "Prints each record that a period counts, and what it costs",
+        name: report_row::DETAILS.word,
+        about: report_row::DETAILS.about,
         words: &[BOOK, PERIOD, CSV, CENTRE, WAIT],
     },
     KnownCommand {
-        name: "bill",
-        about: "Prints the bill of a centre for a period, or what each centre owes",
+        name: report_row::BILL.word,
+        about: report_row::BILL.about,
         words: &[BOOK, PERIOD, CSV, CENTRE, WAIT],
     },
     KnownCommand {
-        name: "page",
-        about: "Prints a period as a page for a browser",
+        name: report_row::PAGE.word,
+        about: report_row::PAGE.about,
         words: &[BOOK, PERIOD, WAIT],
     },
     KnownCommand {
-        name: "disputes",
-        about: "Prints the records in dispute",
+        name: report_row::DISPUTES.word,
+        about: report_row::DISPUTES.about,
         words: &[BOOK, DISPUTE_CSV, WAIT],
     },
     KnownCommand {
-        name: "record",
-        about: "Prints a record, how it was priced, and what became of it",
+        name: report_row::RECORD.word,
+        about: report_row::RECORD.about,
         words: &[BOOK, RECORD_NAME, WAIT],
     },
     KnownCommand {
-        name: "periods",
-        about: "Prints the periods",
+        name: report_row::PERIODS.word,
+        about: report_row::PERIODS.about,
         words: &[BOOK, WAIT],
     },
     KnownCommand {
-        name: "rulings",
-        about: "Prints the tariffs, the closes, the choices and the adoption",
+        name: report_row::RULINGS.word,
+        about: report_row::RULINGS.about,
         words: &[BOOK, WAIT],
     },
     KnownCommand {
-        name: "tariff-text",
-        about: "Prints the tariff file that begins on a day, byte for byte",
+        name: report_row::TARIFF_TEXT.word,
+        about: report_row::TARIFF_TEXT.about,
         words: &[BOOK, FIRST_DAY, WAIT],
     },
     KnownCommand {

@@ -14,6 +14,5 @@ mod request;
 pub use command_line::requested_by;
 pub use fault::ArgumentFault;
 pub use request::{
-    BookRequest, DumpFile, ListWords, NumberKind, PeriodWords, ReportWords, Request, Ruling,
-    Unclear,
+    BookRequest, DumpFile, NumberKind, PeriodWords, ReportAsked, Request, Ruling, Unclear, Words,
 };

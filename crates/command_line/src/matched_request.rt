@@ -1,6 +1,6 @@
 //! The command that `clap` found in the words.
 
-ghost use Rattle.std.specs.Prelude.{◌≡◌, [], ◌∷◌, ◌++◌, IfSome, IsSome, IsSomeAnd, codes};
+ghost use Rattle.std.specs.Prelude.{◌≡◌, ◌≢◌, [], ◌∷◌, ◌++◌, IfSome, IsSome, IsSomeAnd, codes};
 ghost use Rattle.clap.specs.Simple.{subcommand_rows_of};
 ghost use Rattle.command_line.specs.Given.{HasWord, HasWords, HasWordsOf, NoneIs, bookless, changes};
 ghost use Rattle.command_line.specs.Given.{services};
@@ -12,12 +12,10 @@ ghost use Rattle.command_line.specs.Requests as spec;
 use crate::given_words::{
     dump_in, flag_in, kind_in, layout_in, number_in, rate_in, requests_in, text_in, wait_in,
 };
-use crate::report_words::{
-    adjustments_in, bill_in, details_in, disputes_in, page_in, record_in, statement_in,
-    tariff_text_in,
-};
-use crate::request::{BookRequest, ListWords, ReportWords, Request, Ruling, Unclear};
+use crate::report_words::{report_in, statement_in};
+use crate::request::{BookRequest, Request, Ruling, Unclear};
 use clap::ArgMatches;
+use report_rows::named_report;
 
 /// The command with its words. None would be a word without its value, which the command line does
 /// not let pass.
@@ -81,7 +79,7 @@ fn change_in<'a>(name: &str, found: &ArgMatches<'a>) -> Option<Request<'a>>
     }
 }
 
-/// A report, an upgrade, an audit, a backup or a service.
+/// A statement, an upgrade, an audit, a backup or a service.
 fn service_in<'a>(name: &str, found: &ArgMatches<'a>) -> Option<Request<'a>>
     ensures request { IfSome result (IsOfCommand name.now (rows_in found.now)) }
     ensures some { HasWordsOf name.now (rows_in found.now)
@@ -89,33 +87,23 @@ fn service_in<'a>(name: &str, found: &ArgMatches<'a>) -> Option<Request<'a>>
 {
     match name {
         "statement" => of_books_in(found, statement_in(found)),
-        "adjustments" => of_books_in(found, adjustments_in(found)),
-        "disputes" => of_books_in(found, disputes_in(found)),
         "upgrade" => of_books_in(found, Some(BookRequest::Upgrade)),
         "audit" => of_books_in(found, audit_in(found)),
         "backup" => of_books_in(found, back_up_in(found)),
         "serve" => at_once_in(found, serve_in(found)),
-        _ => list_in(name, found),
+        _ => named_in(name, found),
     }
 }
 
-/// The records, the bill or the page of a period, what became of a record, the periods, or what was
-/// ruled.
-fn list_in<'a>(name: &str, found: &ArgMatches<'a>) -> Option<Request<'a>>
-    ensures request { IfSome result (IsOfCommand name.now (rows_in found.now)) }
+/// Another report, by its word.
+fn named_in<'a>(name: &str, found: &ArgMatches<'a>) -> Option<Request<'a>>
+    ensures request { name.now ≢ codes "statement"
+        → IfSome result (IsOfCommand name.now (rows_in found.now)) }
     ensures some { HasWordsOf name.now (rows_in found.now)
         → NoneIs (bookless ++ changes ++ services) name.now → IsSome result }
 {
-    match name {
-        "details" => of_books_in(found, details_in(found)),
-        "bill" => of_books_in(found, bill_in(found)),
-        "page" => of_books_in(found, page_in(found)),
-        "record" => of_books_in(found, record_in(found)),
-        "periods" => of_books_in(found, Some(BookRequest::Report(ReportWords::Periods))),
-        "rulings" => of_books_in(found, Some(BookRequest::List(ListWords::Rulings))),
-        "tariff-text" => of_books_in(found, tariff_text_in(found)),
-        _ => None,
-    }
+    let report = named_report(name)?;
+    of_books_in(found, report_in(report, found))
 }
 
 /// The request to books, where there is something asked of them, and how long it waits for them.

@@ -1,53 +1,17 @@
-//! What the words of reports and lists ask of books.
+//! What the words of reports ask of books.
 
-ghost use Rattle.std.specs.Prelude.{◌≡◌, IfSome, IsSome, codes};
-ghost use Rattle.command_line.specs.Given.{HasWord};
+ghost use Rattle.std.specs.Prelude.{◌≡◌, ◌≢◌, IfSome, IsSome, codes, false, true};
+ghost use Rattle.report_rows.specs.ReportRows as reports;
+ghost use Rattle.command_line.specs.Given.{HasWord, HasWords};
 ghost use Rattle.command_line.specs.Known as known;
-ghost use Rattle.command_line.specs.Requests.{IsCsv, IsLeftOut, IsOfBooks, IsOfPeriod, NamesPeriod};
-ghost use Rattle.command_line.specs.Requests.{is_dispute_table, is_table, rows_in};
+ghost use Rattle.command_line.specs.Requests.{AsksReport, HasShape, IsForm, IsLeftOut, IsOfBooks};
+ghost use Rattle.command_line.specs.Requests.{NamesPeriod, is_table, rows_in};
 
 use crate::given_words::{flag_in, number_in, period_in, text_in};
-use crate::request::{BookRequest, ListWords, PeriodWords, ReportWords};
-use book_reports::{DisputeForm, PeriodReport, StatementForm};
+use crate::request::{BookRequest, PeriodWords, ReportAsked, Words};
+use book_reports::StatementForm;
 use clap::ArgMatches;
-
-/// What a period has.
-fn of_period<'a>(report: PeriodReport, period: PeriodWords<'a>) -> BookRequest<'a>
-    ensures { (name : _) (rows : _) → IsOfPeriod name rows report → NamesPeriod rows period.entry
-        → IsOfBooks name rows result }
-{
-    BookRequest::Report(ReportWords::OfPeriod { report, period })
-}
-
-pub(crate) fn adjustments_in<'a>(found: &ArgMatches<'a>) -> Option<BookRequest<'a>>
-    ensures asked { IfSome result (IsOfBooks (codes "adjustments") (rows_in found.now)) }
-    ensures some { HasWord (rows_in found.now) known.period
-        → HasWord (rows_in found.now) known.csv → IsSome result }
-{
-    let period = period_in(found)?;
-    if flag_in(found, "csv")? {
-        Some(of_period(PeriodReport::AdjustmentTable, period))
-    } else {
-        Some(of_period(PeriodReport::AdjustmentList, period))
-    }
-}
-
-/// What a period charged, or what it would charge by the tariff that is named.
-pub(crate) fn statement_in<'a>(found: &ArgMatches<'a>) -> Option<BookRequest<'a>>
-    ensures asked { IfSome result (IsOfBooks (codes "statement") (rows_in found.now)) }
-    ensures some { HasWord (rows_in found.now) known.period
-        → HasWord (rows_in found.now) known.csv → IsSome result }
-{
-    let period = period_in(found)?;
-    let csv = flag_in(found, "csv")?;
-    match text_in(found, "tariff") {
-        Some(file) => {
-            let form = statement_form(csv);
-            Some(BookRequest::WhatIf { form, period, file })
-        }
-        None => Some(charged(csv, period)),
-    }
-}
+use report_rows::{ReportName, Shape, row_of};
 
 fn statement_form(csv: bool) -> StatementForm
     ensures { is_table result ≡ csv }
@@ -59,80 +23,95 @@ fn statement_form(csv: bool) -> StatementForm
     }
 }
 
-fn charged<'a>(csv: bool, period: PeriodWords<'a>) -> BookRequest<'a>
-    ensures { (rows : _) → NamesPeriod rows period.entry → IsCsv rows csv
+/// What a period charged, or what it would charge by the tariff that is named.
+pub(crate) fn statement_in<'a>(found: &ArgMatches<'a>) -> Option<BookRequest<'a>>
+    ensures asked { IfSome result (IsOfBooks (codes "statement") (rows_in found.now)) }
+    ensures some { HasWord (rows_in found.now) known.period
+        → HasWord (rows_in found.now) known.csv → IsSome result }
+{
+    let period = period_in(found)?;
+    let csv = flag_in(found, "csv")?;
+    let form = statement_form(csv);
+    match text_in(found, "tariff") {
+        Some(file) => Some(BookRequest::WhatIf { form, period, file }),
+        None => Some(charged(form, period)),
+    }
+}
+
+fn charged<'a>(form: StatementForm, period: PeriodWords<'a>) -> BookRequest<'a>
+    ensures { (rows : _) → NamesPeriod rows period.entry → IsForm rows form
         → IsLeftOut rows (codes "tariff") → IsOfBooks (codes "statement") rows result }
 {
+    BookRequest::Report(ReportAsked {
+        name: ReportName::Statement,
+        form,
+        words: Words::OfCentre(period),
+    })
+}
+
+/// The form that is asked for. What is never a table is a text.
+fn form_in(csv: bool, found: &ArgMatches<'_>) -> Option<StatementForm>
+    ensures table { csv ≡ true → IfSome result (IsForm (rows_in found.now)) }
+    ensures text { csv ≡ false → IfSome result (λ form. form ≡ StatementForm.Text) }
+    ensures some { (csv ≡ true → HasWord (rows_in found.now) known.csv) → IsSome result }
+{
     if csv {
-        of_period(PeriodReport::StatementTable, period)
+        let asked = flag_in(found, "csv")?;
+        Some(statement_form(asked))
     } else {
-        of_period(PeriodReport::Statement, period)
+        Some(StatementForm::Text)
     }
 }
 
-/// The records that a period counts.
-pub(crate) fn details_in<'a>(found: &ArgMatches<'a>) -> Option<BookRequest<'a>>
-    ensures asked { IfSome result (IsOfBooks (codes "details") (rows_in found.now)) }
-    ensures some { HasWord (rows_in found.now) known.period
-        → HasWord (rows_in found.now) known.csv → IsSome result }
+/// What the words say that a report is about.
+fn words_in<'a>(shape: Shape, found: &ArgMatches<'a>) -> Option<Words<'a>>
+    ensures words { IfSome result (HasShape shape (rows_in found.now)) }
+    ensures some { HasWords (rows_in found.now) (known.named_by shape) → IsSome result }
 {
-    let period = period_in(found)?;
-    let csv = flag_in(found, "csv")?;
-    let form = statement_form(csv);
-    Some(BookRequest::List(ListWords::Details { form, period }))
-}
-
-/// The bill of the centre that is named, or what each centre owes.
-pub(crate) fn bill_in<'a>(found: &ArgMatches<'a>) -> Option<BookRequest<'a>>
-    ensures asked { IfSome result (IsOfBooks (codes "bill") (rows_in found.now)) }
-    ensures some { HasWord (rows_in found.now) known.period
-        → HasWord (rows_in found.now) known.csv → IsSome result }
-{
-    let period = period_in(found)?;
-    let csv = flag_in(found, "csv")?;
-    let form = statement_form(csv);
-    Some(BookRequest::Report(ReportWords::Bill { form, period }))
-}
-
-pub(crate) fn page_in<'a>(found: &ArgMatches<'_>) -> Option<BookRequest<'a>>
-    ensures asked { IfSome result (IsOfBooks (codes "page") (rows_in found.now)) }
-    ensures some { HasWord (rows_in found.now) known.period → IsSome result }
-{
-    let period = number_in(found, "period")?;
-    Some(BookRequest::Report(ReportWords::Page { period }))
-}
-
-pub(crate) fn disputes_in<'a>(found: &ArgMatches<'_>) -> Option<BookRequest<'a>>
-    ensures asked { IfSome result (IsOfBooks (codes "disputes") (rows_in found.now)) }
-    ensures some { HasWord (rows_in found.now) known.csv → IsSome result }
-{
-    let csv = flag_in(found, "csv")?;
-    let form = dispute_form(csv);
-    Some(BookRequest::List(ListWords::Disputes { form }))
-}
-
-fn dispute_form(csv: bool) -> DisputeForm
-    ensures { is_dispute_table result ≡ csv }
-{
-    if csv {
-        DisputeForm::Table
-    } else {
-        DisputeForm::List
+    match shape {
+        Shape::OfCentre => {
+            let period = period_in(found)?;
+            Some(Words::OfCentre(period))
+        }
+        Shape::OfPeriod => {
+            let period = number_in(found, "period")?;
+            Some(Words::OfPeriod(period))
+        }
+        Shape::OfOffice => Some(Words::OfOffice),
+        Shape::OfDay => {
+            let date = text_in(found, "date")?;
+            Some(Words::OfDay(date))
+        }
+        Shape::OfRecord => {
+            let name = text_in(found, "sha256")?;
+            Some(Words::OfRecord(name))
+        }
     }
 }
 
-pub(crate) fn record_in<'a>(found: &ArgMatches<'a>) -> Option<BookRequest<'a>>
-    ensures asked { IfSome result (IsOfBooks (codes "record") (rows_in found.now)) }
-    ensures some { HasWord (rows_in found.now) known.record_name → IsSome result }
+/// What is asked of books: a report, or one that is printed while it is read.
+fn request_for<'a>(streamed: bool, asked: ReportAsked<'a>) -> BookRequest<'a>
+    ensures { (text : _) (rows : _) → AsksReport text rows asked.entry
+        → (reports.row_of asked.entry.name).streamed ≡ streamed → IsOfBooks text rows result }
 {
-    let name = text_in(found, "sha256")?;
-    Some(BookRequest::Report(ReportWords::Record { name }))
+    if streamed {
+        BookRequest::List(asked)
+    } else {
+        BookRequest::Report(asked)
+    }
 }
 
-pub(crate) fn tariff_text_in<'a>(found: &ArgMatches<'a>) -> Option<BookRequest<'a>>
-    ensures asked { IfSome result (IsOfBooks (codes "tariff-text") (rows_in found.now)) }
-    ensures some { HasWord (rows_in found.now) known.date → IsSome result }
+/// What is asked by the word of a report, other than a statement.
+pub(crate) fn report_in<'a>(name: ReportName, found: &ArgMatches<'a>) -> Option<BookRequest<'a>>
+    ensures asked { (text : _) → text ≡ (reports.row_of name).word → text ≢ codes "statement"
+        → IfSome result (IsOfBooks text (rows_in found.now)) }
+    ensures some { HasWords (rows_in found.now) (known.named_by (reports.row_of name).shape)
+        → ((reports.row_of name).csv ≡ true → HasWord (rows_in found.now) known.csv)
+        → IsSome result }
 {
-    let date = text_in(found, "date")?;
-    Some(BookRequest::Report(ReportWords::TariffText { date }))
+    let row = row_of(name);
+    let form = form_in(row.csv, found)?;
+    let words = words_in(row.shape, found)?;
+    let asked = ReportAsked { name, form, words };
+    Some(request_for(row.streamed, asked))
 }

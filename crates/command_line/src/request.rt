@@ -1,4 +1,5 @@
-use book_reports::{DisputeForm, PeriodReport, StatementForm};
+use book_reports::StatementForm;
+use report_rows::ReportName;
 use smf_frames::Layout;
 
 /// What kind of thing a number stands for, or a word on standard error that has none: 0 stands for
@@ -88,52 +89,28 @@ pub struct PeriodWords<'a> {
     pub centre: Option<&'a str>,
 }
 
-/// The words that ask for a report. A text may turn out to be no name and no day.
+/// The words that say what a report is about. A text may turn out to be no name and no day.
 #[derive(Clone, Copy)]
-pub enum ReportWords<'a> {
-    /// What a period has.
-    OfPeriod {
-        report: PeriodReport,
-        period: PeriodWords<'a>,
-    },
-    /// A bill: that of a centre, or what each centre owes.
-    Bill {
-        form: StatementForm,
-        period: PeriodWords<'a>,
-    },
-    /// A period as a page for a browser.
-    Page {
-        /// The number of the period.
-        period: u16,
-    },
-    /// A record, with its price and what became of it.
-    Record {
-        /// Its name, as 64 hexadecimal digits.
-        name: &'a str,
-    },
-    /// The list of periods.
-    Periods,
-    /// The file of a tariff.
-    TariffText {
-        /// Its first day, as `YYYY-MM-DD`.
-        date: &'a str,
-    },
+pub enum Words<'a> {
+    /// A period, of the whole office or of one centre.
+    OfCentre(PeriodWords<'a>),
+    /// The number of a period.
+    OfPeriod(u16),
+    /// The books.
+    OfOffice,
+    /// The first day of a tariff, as `YYYY-MM-DD`.
+    OfDay(&'a str),
+    /// The name of a record, as 64 hexadecimal digits.
+    OfRecord(&'a str),
 }
 
-/// The words that ask for a list. The text of a centre may turn out to be no name.
+/// What is asked by the words of a report.
 #[derive(Clone, Copy)]
-pub enum ListWords<'a> {
-    /// The records that a period counts, each with what it costs.
-    Details {
-        form: StatementForm,
-        period: PeriodWords<'a>,
-    },
-    /// The disputes.
-    Disputes {
-        form: DisputeForm,
-    },
-    /// The rulings.
-    Rulings,
+pub struct ReportAsked<'a> {
+    pub name: ReportName,
+    /// As a text or as a table.
+    pub form: StatementForm,
+    pub words: Words<'a>,
 }
 
 /// What is asked of books in a file.
@@ -153,9 +130,9 @@ pub enum BookRequest<'a> {
     /// What a ruling would change printed, and nothing changed.
     DryRun(Ruling<'a>),
     /// A report printed.
-    Report(ReportWords<'a>),
-    /// A list printed.
-    List(ListWords<'a>),
+    Report(ReportAsked<'a>),
+    /// A report printed while it is read.
+    List(ReportAsked<'a>),
     /// A period's statement printed as it would be by other prices.
     WhatIf {
         form: StatementForm,

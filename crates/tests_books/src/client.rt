@@ -2,6 +2,7 @@
 
 ghost use Rattle.std.specs.Prelude.{length};
 
+use book_http::Routes;
 use chargectl::{Attended, Connections, Peer, answer_peer};
 use named_books::Repository;
 use std::alloc::Global;
@@ -113,8 +114,8 @@ impl Peer for ScriptedPeer<'_, '_> {
 /// Clients that are left, the next one first.
 #[derive(Drop)]
 pub(crate) struct Queue<'c, 'a> {
-    pub(crate) alloc: Global,
     pub(crate) left: &'c [Client<'a>],
+    pub(crate) routes: Routes,
 }
 
 impl Connections for Queue<'_, '_> {
@@ -142,7 +143,7 @@ impl Connections for Queue<'_, '_> {
             client,
             is_drained: false,
         };
-        let (attended, _) = answer_peer(self.alloc, peer, repository, book);
+        let (attended, _) = answer_peer(&mut self.routes, peer, repository, book);
         Ok(attended)
     }
 }

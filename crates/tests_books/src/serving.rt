@@ -4,6 +4,7 @@
 use crate::client::{Client, Queue};
 use crate::open_shelf::OpenShelf;
 use book_core::Ledger;
+use book_http::Routes;
 use chargectl::{ServedLines, serve_each};
 use std::io;
 use std::io::{ErrorKind, Write};
@@ -85,8 +86,8 @@ fn serve_clients<L: Ledger>(
     out: &mut AnswerText,
 ) -> LineResult<usize> {
     let mut queue = Queue {
-        alloc: named.alloc(),
         left: clients,
+        routes: Routes::new(named.alloc()),
     };
     let mut lines = ServedLines::new(Output {
         room,

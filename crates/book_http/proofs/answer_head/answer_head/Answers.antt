@@ -15,6 +15,6 @@ returns c =
       c.push_str-2.ensures.bytes,
       c.push_status.ensures.bytes,
       c.push_str.ensures.bytes,
-      c.text.ensures,
+      c.media_type.ensures,
       c.new-text.ensures,
     ) (simp append_assoc)

@@ -1,7 +1,7 @@
 use Rattle.std.proofs.Common.{refl, take, drop}
 use Rattle.streams.specs.Sources.{has_ended}
 use Rattle.book_http.specs.declared.answer.Answer.TheVariants as answer
-use Rattle.book_http.specs.declared.requested.Requested.TheVariants as requested
+use Rattle.book_http.specs.declared.asked.Asked.TheVariants as asks
 use Rattle.book_http.specs.declared.status.Status.TheVariants.{BadRequest}
 use Rattle.book_http.specs.Reads.{for_head}
 use Rattle.book_http.proofs.ReadLemmas.{head_then, read_as}
@@ -22,7 +22,7 @@ pub returns-in-Refused-clause-asks : goal.returns-in-Refused-clause-asks
 returns-in-Refused-clause-asks g c =
     let ended = has_ended c.read_head.new.source in
     read_as c.in-Refused.ensures.reads (λ came room due. for_head due)
-    (λ came refused. refused_asking ended came (requested.Settled (answer.Refusal BadRequest))
+    (λ came refused. refused_asking ended came (asks.Settled (answer.Refusal BadRequest))
     refused.0 refused.1 refl)
 
 pub returns-in-Ok-clause-asks : goal.returns-in-Ok-clause-asks

@@ -1,4 +1,5 @@
 use Rattle.std.proofs.Common.{subst}
+use Rattle.report_rows.specs.ReportRows.{row_of}
 use Rattle.command_line.specs.Given.{HasWordsOf}
 use Rattle.command_line.specs.Known.{known_table}
 use Rattle.command_line.specs.Requests.{rows_in}
@@ -19,7 +20,7 @@ returns-in-check-clause-some c =
     c.check_in.ensures.some words.1.1.0 words.0 words.1.0
 
 pub returns-in-explain-clause-some : goal.returns-in-explain-clause-some
-unfolding known_table
+unfolding known_table row_of
 returns-in-explain-clause-some c =
     λ has.
     let words = subst (λ n. HasWordsOf n (rows_in c.args.found.now)) c.in-explain.is has in

@@ -1,5 +1,6 @@
 use Rattle.std.proofs.Common.{inr, refl, subst, sym}
 use Rattle.std.specs.Prelude.{IfSome}
+use Rattle.report_rows.specs.ReportRows.{row_of}
 use Rattle.command_line.specs.Given.{HasWordsOf}
 use Rattle.command_line.specs.Known.{known_table}
 use Rattle.command_line.specs.Requests.{IsOfBooks, rows_in}
@@ -12,43 +13,15 @@ returns-in-statement-clause-request c =
     (sym c.in-statement.is) c.statement_in.ensures.asked)
 
 pub returns-in-statement-clause-some : goal.returns-in-statement-clause-some
-unfolding known_table
+unfolding known_table row_of
 returns-in-statement-clause-some c =
     λ has others.
     let words = subst (λ n. HasWordsOf n (rows_in c.args.found.now)) c.in-statement.is has in
     c.of_books_in.ensures.some words.0 words.1.1.1.1.1.0
     (c.statement_in.ensures.some words.1.0 words.1.1.0)
 
-pub returns-in-adjustments-clause-request : goal.returns-in-adjustments-clause-request
-returns-in-adjustments-clause-request c =
-    c.of_books_in-in-adjustments.ensures.request c.args.name.now
-    (subst (λ n. IfSome c.adjustments_in.result (IsOfBooks n (rows_in c.args.found.now)))
-    (sym c.in-adjustments.is) c.adjustments_in.ensures.asked)
-
-pub returns-in-adjustments-clause-some : goal.returns-in-adjustments-clause-some
-unfolding known_table
-returns-in-adjustments-clause-some c =
-    λ has others.
-    let words = subst (λ n. HasWordsOf n (rows_in c.args.found.now)) c.in-adjustments.is has in
-    c.of_books_in-in-adjustments.ensures.some words.0 words.1.1.1.1.0
-    (c.adjustments_in.ensures.some words.1.0 words.1.1.0)
-
-pub returns-in-disputes-clause-request : goal.returns-in-disputes-clause-request
-returns-in-disputes-clause-request c =
-    c.of_books_in-in-disputes.ensures.request c.args.name.now
-    (subst (λ n. IfSome c.disputes_in.result (IsOfBooks n (rows_in c.args.found.now)))
-    (sym c.in-disputes.is) c.disputes_in.ensures.asked)
-
-pub returns-in-disputes-clause-some : goal.returns-in-disputes-clause-some
-unfolding known_table
-returns-in-disputes-clause-some c =
-    λ has others.
-    let words = subst (λ n. HasWordsOf n (rows_in c.args.found.now)) c.in-disputes.is has in
-    c.of_books_in-in-disputes.ensures.some words.0 words.1.1.0
-    (c.disputes_in.ensures.some words.1.0)
-
 pub returns-in-upgrade-clause-some : goal.returns-in-upgrade-clause-some
-unfolding known_table
+unfolding known_table row_of
 returns-in-upgrade-clause-some c =
     λ has others.
     let words = subst (λ n. HasWordsOf n (rows_in c.args.found.now)) c.in-upgrade.is has in
@@ -61,7 +34,7 @@ returns-in-audit-clause-request c =
     (sym c.in-audit.is) c.audit_in.ensures.asked)
 
 pub returns-in-audit-clause-some : goal.returns-in-audit-clause-some
-unfolding known_table
+unfolding known_table row_of
 returns-in-audit-clause-some c =
     λ has others.
     let words = subst (λ n. HasWordsOf n (rows_in c.args.found.now)) c.in-audit.is has in
@@ -74,7 +47,7 @@ returns-in-backup-clause-request c =
     (sym c.in-backup.is) c.back_up_in.ensures.asked)
 
 pub returns-in-backup-clause-some : goal.returns-in-backup-clause-some
-unfolding known_table
+unfolding known_table row_of
 returns-in-backup-clause-some c =
     λ has others.
     let words = subst (λ n. HasWordsOf n (rows_in c.args.found.now)) c.in-backup.is has in
@@ -88,7 +61,7 @@ returns-in-serve-clause-request c =
     (sym c.in-serve.is) c.serve_in.ensures.asked)
 
 pub returns-in-serve-clause-some : goal.returns-in-serve-clause-some
-unfolding known_table
+unfolding known_table row_of
 returns-in-serve-clause-some c =
     λ has others.
     let words = subst (λ n. HasWordsOf n (rows_in c.args.found.now)) c.in-serve.is has in

@@ -1,0 +1,7 @@
+use Rattle.book_http.specs.Replies.{reply_of}
+use Rattle.book_http.proofs.ServeLemmas.{refuses}
+use Rattle.book_http.proofs.office_answers.ask_office.Goals as goal
+
+pub returns-in-Settled : goal.returns-in-Settled
+returns-in-Settled g c =
+    rw c.in-Settled.is (refuses (g.L.Ledger.seen c.args.ledger.now) (reply_of c.in-Settled.answer))

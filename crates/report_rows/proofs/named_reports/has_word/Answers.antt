@@ -1,0 +1,8 @@
+use Rattle.std.proofs.Common.{ap, sym, ◌∙◌}
+use Rattle.std.specs.Str.{bytes_eq}
+use Rattle.report_rows.specs.ReportRows.{Row}
+use Rattle.report_rows.proofs.named_reports.has_word.Goals as goal
+
+pub returns : goal.returns
+returns c =
+    c.eq.ensures ∙ ap (λ (row : Row). bytes_eq row.word c.args.word.now) (sym c.row_of.ensures)

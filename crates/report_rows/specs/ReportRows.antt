@@ -1,0 +1,211 @@
+-- The reports, a row for each.
+use Rattle.std.specs.Prelude.{ℕ, ℤ, Bool, true, false, List, [], ◌∷◌, Option, Some, None, bytes_eq}
+use Rattle.std.specs.Prelude.{codes, find, option_map}
+use Rattle.book_reports.specs.declared.report.PeriodReport.{PeriodReport}
+use Rattle.book_reports.specs.declared.report.PeriodReport.TheVariants as of_period
+use Rattle.book_reports.specs.declared.report.Report.{Report}
+use Rattle.book_reports.specs.declared.report.Report.TheVariants as made
+use Rattle.book_reports.specs.declared.what_if.StatementForm.{StatementForm}
+use Rattle.book_reports.specs.declared.what_if.StatementForm.TheVariants as form
+use Rattle.report_rows.specs.declared.report_row.BodyKind.{BodyKind}
+use Rattle.report_rows.specs.declared.report_row.BodyKind.TheVariants as body
+use Rattle.report_rows.specs.declared.report_row.ReportName.{ReportName}
+use Rattle.report_rows.specs.declared.report_row.ReportName.TheVariants as report
+use Rattle.report_rows.specs.declared.report_row.ReportRow.{ReportRow}
+use Rattle.report_rows.specs.declared.report_row.Shape.{Shape}
+use Rattle.report_rows.specs.declared.report_row.Shape.TheVariants.{OfCentre, OfDay, OfOffice}
+use Rattle.report_rows.specs.declared.report_row.Shape.TheVariants.{OfPeriod, OfRecord}
+
+-- A report's word; what it is about; whether it is also a table; whether it is written while the books are
+-- open; whether it is also made by the prices of another tariff; where it is served, as a text and as a
+-- table; and what it is as a text.
+pub record Row : Type 0 where
+  pub word : List ℕ
+  pub shape : Shape
+  pub csv : Bool
+  pub streamed : Bool
+  pub by_prices : Bool
+  pub path : Option (List ℕ)
+  pub csv_path : Option (List ℕ)
+  pub kind : BodyKind
+
+-- a row of the code, as one reads it
+abbrev pub row_seen : ReportRow → Row
+row_seen row = record {
+  word = row.word.now;
+  shape = row.shape;
+  csv = row.csv;
+  streamed = row.streamed;
+  by_prices = row.by_prices;
+  path = option_map (λ path. path.now) row.path;
+  csv_path = option_map (λ path. path.now) row.csv_path;
+  kind = row.kind;
+}
+
+-- The table.
+unfoldable pub row_of : ReportName → Row
+row_of report.Statement = record {
+  word = codes "statement";
+  shape = OfCentre;
+  csv = true;
+  streamed = false;
+  by_prices = true;
+  path = Some (codes "/statement/");
+  csv_path = Some (codes "/statement-csv/");
+  kind = body.Text;
+}
+row_of report.Adjustments = record {
+  word = codes "adjustments";
+  shape = OfCentre;
+  csv = true;
+  streamed = false;
+  by_prices = false;
+  path = Some (codes "/adjustments/");
+  csv_path = Some (codes "/adjustments-csv/");
+  kind = body.Text;
+}
+row_of report.Details = record {
+  word = codes "details";
+  shape = OfCentre;
+  csv = true;
+  streamed = true;
+  by_prices = false;
+  path = Some (codes "/details/");
+  csv_path = Some (codes "/details-csv/");
+  kind = body.Text;
+}
+row_of report.Bill = record {
+  word = codes "bill";
+  shape = OfCentre;
+  csv = true;
+  streamed = false;
+  by_prices = false;
+  path = None;
+  csv_path = None;
+  kind = body.Text;
+}
+row_of report.Page = record {
+  word = codes "page";
+  shape = OfPeriod;
+  csv = false;
+  streamed = false;
+  by_prices = false;
+  path = Some (codes "/period/");
+  csv_path = None;
+  kind = body.Page;
+}
+row_of report.Disputes = record {
+  word = codes "disputes";
+  shape = OfOffice;
+  csv = true;
+  streamed = true;
+  by_prices = false;
+  path = Some (codes "/disputes");
+  csv_path = Some (codes "/disputes-csv");
+  kind = body.Text;
+}
+row_of report.Record = record {
+  word = codes "record";
+  shape = OfRecord;
+  csv = false;
+  streamed = false;
+  by_prices = false;
+  path = Some (codes "/record/");
+  csv_path = None;
+  kind = body.Text;
+}
+row_of report.Periods = record {
+  word = codes "periods";
+  shape = OfOffice;
+  csv = false;
+  streamed = false;
+  by_prices = false;
+  path = Some (codes "/periods");
+  csv_path = None;
+  kind = body.Text;
+}
+row_of report.Rulings = record {
+  word = codes "rulings";
+  shape = OfOffice;
+  csv = false;
+  streamed = true;
+  by_prices = false;
+  path = Some (codes "/rulings");
+  csv_path = None;
+  kind = body.Text;
+}
+row_of report.TariffText = record {
+  word = codes "tariff-text";
+  shape = OfDay;
+  csv = false;
+  streamed = false;
+  by_prices = false;
+  path = Some (codes "/tariff/");
+  csv_path = None;
+  kind = body.TariffFile;
+}
+
+-- the reports in the order of the program's help
+abbrev pub reports : List ReportName
+reports = report.Statement ∷ report.Adjustments ∷ report.Details ∷ report.Bill ∷ report.Page
+    ∷ report.Disputes ∷ report.Record ∷ report.Periods ∷ report.Rulings ∷ report.TariffText ∷ []
+
+-- the text is the word of the report
+abbrev pub has_word : List ℕ → ReportName → Bool
+has_word text name = bytes_eq (row_of name).word text
+
+-- the report of a word, if it is the word of one
+abbrev pub named_report : List ℕ → Option ReportName
+named_report text = find (has_word text) reports
+
+-- where a report is served in a form, if it is, and what it is in that form
+abbrev pub path_in : Row → StatementForm → Option (List ℕ)
+path_in row form.Text = row.path
+path_in row form.Table = row.csv_path
+
+abbrev pub kind_in : Row → StatementForm → BodyKind
+kind_in row form.Text = row.kind
+kind_in row form.Table = body.Csv
+
+-- The report that a name makes of what it is about. Details are made only as they are written.
+abbrev pub statement_in : StatementForm → PeriodReport
+statement_in form.Text = of_period.Statement
+statement_in form.Table = of_period.StatementTable
+
+abbrev pub adjustments_in : StatementForm → PeriodReport
+adjustments_in form.Text = of_period.AdjustmentList
+adjustments_in form.Table = of_period.AdjustmentTable
+
+abbrev pub disputes_in : StatementForm → Report
+disputes_in form.Text = made.DisputeList
+disputes_in form.Table = made.DisputeTable
+
+-- of a period, of one centre or of the whole office
+abbrev pub report_of_centre : ReportName → StatementForm → ℕ → Option (List ℕ) → Option Report
+report_of_centre report.Statement form period centre =
+    Some (made.OfPeriod (statement_in form) period centre)
+report_of_centre report.Adjustments form period centre =
+    Some (made.OfPeriod (adjustments_in form) period centre)
+report_of_centre report.Bill form period centre = Some (made.Bill form period centre)
+report_of_centre name form period centre = None
+
+-- of a period of the whole office: a page is never a table
+abbrev pub report_of_period : ReportName → StatementForm → ℕ → Option Report
+report_of_period report.Page form.Text period = Some (made.PeriodPage period)
+report_of_period name form period = None
+
+-- of the books
+abbrev pub report_of_office : ReportName → StatementForm → Option Report
+report_of_office report.Disputes form = Some (disputes_in form)
+report_of_office report.Periods form = Some made.PeriodList
+report_of_office report.Rulings form = Some made.RulingList
+report_of_office name form = None
+
+-- of the tariff of a day, and of a record
+abbrev pub report_of_day : ReportName → ℤ → Option Report
+report_of_day report.TariffText day = Some (made.TariffText day)
+report_of_day name day = None
+
+abbrev pub report_of_record : ReportName → List ℕ → Option Report
+report_of_record report.Record record_name = Some (made.Record record_name)
+report_of_record name record_name = None

@@ -1,0 +1,374 @@
+//! The table of the reports. All that a report adds to this crate stands in this file: its name, its
+//! row, its place in the order of the program's help, and the report of `book_reports` that it is.
+
+ghost use Rattle.std.specs.Prelude.{◌≡◌, option_map};
+ghost use Rattle.report_rows.specs.ReportRows as spec;
+
+use book_reports::{PeriodReport, Report, StatementForm};
+use smf_text::Name;
+
+/// A report, by its name.
+#[derive(Clone, Copy)]
+pub enum ReportName {
+    /// What a period charges.
+    Statement,
+    /// What a period adds to closed periods and reverses in them.
+    Adjustments,
+    /// The records that a period counts.
+    Details,
+    /// A bill: that of a centre, or what each centre owes.
+    Bill,
+    /// A period as a page for a browser.
+    Page,
+    /// The records in dispute.
+    Disputes,
+    /// A record, with its price and what became of it.
+    Record,
+    /// The periods.
+    Periods,
+    /// The rulings.
+    Rulings,
+    /// The file of a tariff.
+    TariffText,
+}
+
+/// What a report is about, and so which words follow BOOK, and what follows the path.
+#[derive(Clone, Copy)]
+pub enum Shape {
+    /// A period, of the whole office or of one centre.
+    OfCentre,
+    /// A period of the whole office.
+    OfPeriod,
+    /// The books.
+    OfOffice,
+    /// The tariff that begins on a day.
+    OfDay,
+    /// A record, by its name.
+    OfRecord,
+}
+
+/// What a report is, as the body of an answer.
+#[derive(Clone, Copy)]
+pub enum BodyKind {
+    /// A text for people.
+    Text,
+    /// Rows with commas.
+    Csv,
+    /// A page for a browser.
+    Page,
+    /// The file of a tariff, in UTF-8.
+    TariffFile,
+}
+
+/// All that sets a report apart from the others but its text.
+#[derive(Clone, Copy)]
+pub struct ReportRow {
+    /// Its word on the command line.
+    pub word: &'static str,
+    /// What help says of it.
+    pub about: &'static str,
+    pub shape: Shape,
+    /// It is also a table of comma-separated values, where `--csv` asks for one.
+    pub csv: bool,
+    /// It is written while the books are open, and never held whole.
+    pub streamed: bool,
+    /// It is also made by the prices of another tariff, which `--tariff` names.
+    pub by_prices: bool,
+    /// Where it is served, or in front of what names a period, a day or a record.
+    pub path: Option<&'static str>,
+    /// The same of the table.
+    pub csv_path: Option<&'static str>,
+    /// What it is where it is no table.
+    pub kind: BodyKind,
+}
+
+impl ReportRow {
+    /// Where the report is served in this form, if it is.
+    pub fn path_in(self, form: StatementForm) -> Option<&'static str>
+        ensures { option_map (λ path. path.now) result
+            ≡ spec.path_in (spec.row_seen self) form }
+    {
+        match form {
+            StatementForm::Text => self.path,
+            StatementForm::Table => self.csv_path,
+        }
+    }
+
+    /// What the report is in this form.
+    pub fn kind_in(self, form: StatementForm) -> BodyKind
+        ensures { result ≡ spec.kind_in (spec.row_seen self) form }
+    {
+        match form {
+            StatementForm::Text => self.kind,
+            StatementForm::Table => BodyKind::Csv,
+        }
+    }
+}
+
+/// What a period charges.
+pub const STATEMENT: ReportRow = ReportRow {
+    word: "statement",
+    about: "Prints what a period charges",
+    shape: Shape::OfCentre,
+    csv: true,
+    streamed: false,
+    by_prices: true,
+    path: Some("/statement/"),
+    csv_path: Some("/statement-csv/"),
+    kind: BodyKind::Text,
+};
+
+/// What a period adds to closed periods and reverses in them.
+pub const ADJUSTMENTS: ReportRow = ReportRow {
+    word: "adjustments",
+    about: "Prints what a period adds to closed periods and reverses in them",
+    shape: Shape::OfCentre,
+    csv: true,
+    streamed: false,
+    by_prices: false,
+    path: Some("/adjustments/"),
+    csv_path: Some("/adjustments-csv/"),
+    kind: BodyKind::Text,
+};
+
+/// The records that a period counts.
+pub const DETAILS: ReportRow = ReportRow {
+    word: "details",
+    about: "Prints each record that a period counts, and what it costs",
+    shape: Shape::OfCentre,
+    csv: true,
+    streamed: true,
+    by_prices: false,
+    path: Some("/details/"),
+    csv_path: Some("/details-csv/"),
+    kind: BodyKind::Text,
+};
+
+/// A bill. It is not served.
+pub const BILL: ReportRow = ReportRow {
+    word: "bill",
+    about: "Prints the bill of a centre for a period, or what each centre owes",
+    shape: Shape::OfCentre,
+    csv: true,
+    streamed: false,
+    by_prices: false,
+    path: None,
+    csv_path: None,
+    kind: BodyKind::Text,
+};
+
+/// A period as a page for a browser.
+pub const PAGE: ReportRow = ReportRow {
+    word: "page",
+    about: "Prints a period as a page for a browser",
+    shape: Shape::OfPeriod,
+    csv: false,
+    streamed: false,
+    by_prices: false,
+    path: Some("/period/"),
+    csv_path: None,
+    kind: BodyKind::Page,
+};
+
+/// The records in dispute.
+pub const DISPUTES: ReportRow = ReportRow {
+    word: "disputes",
+    about: "Prints the records in dispute",
+    shape: Shape::OfOffice,
+    csv: true,
+    streamed: true,
+    by_prices: false,
+    path: Some("/disputes"),
+    csv_path: Some("/disputes-csv"),
+    kind: BodyKind::Text,
+};
+
+/// A record, with its price and what became of it.
+pub const RECORD: ReportRow = ReportRow {
+    word: "record",
+    about: "Prints a record, how it was priced, and what became of it",
+    shape: Shape::OfRecord,
+    csv: false,
+    streamed: false,
+    by_prices: false,
+    path: Some("/record/"),
+    csv_path: None,
+    kind: BodyKind::Text,
+};
+
+/// The periods.
+pub const PERIODS: ReportRow = ReportRow {
+    word: "periods",
+    about: "Prints the periods",
+    shape: Shape::OfOffice,
+    csv: false,
+    streamed: false,
+    by_prices: false,
+    path: Some("/periods"),
+    csv_path: None,
+    kind: BodyKind::Text,
+};
+
+/// The rulings.
+pub const RULINGS: ReportRow = ReportRow {
+    word: "rulings",
+    about: "Prints the tariffs, the closes, the choices and the adoption",
+    shape: Shape::OfOffice,
+    csv: false,
+    streamed: true,
+    by_prices: false,
+    path: Some("/rulings"),
+    csv_path: None,
+    kind: BodyKind::Text,
+};
+
+/// The file of a tariff.
+pub const TARIFF_TEXT: ReportRow = ReportRow {
+    word: "tariff-text",
+    about: "Prints the tariff file that begins on a day, byte for byte",
+    shape: Shape::OfDay,
+    csv: false,
+    streamed: false,
+    by_prices: false,
+    path: Some("/tariff/"),
+    csv_path: None,
+    kind: BodyKind::TariffFile,
+};
+
+/// The row of a report.
+#[tactic(auto, unfolding(crate::specs::ReportRows::row_of))]
+pub fn row_of(name: ReportName) -> ReportRow
+    ensures { spec.row_of name ≡ spec.row_seen result }
+{
+    match name {
+        ReportName::Statement => STATEMENT,
+        ReportName::Adjustments => ADJUSTMENTS,
+        ReportName::Details => DETAILS,
+        ReportName::Bill => BILL,
+        ReportName::Page => PAGE,
+        ReportName::Disputes => DISPUTES,
+        ReportName::Record => RECORD,
+        ReportName::Periods => PERIODS,
+        ReportName::Rulings => RULINGS,
+        ReportName::TariffText => TARIFF_TEXT,
+    }
+}
+
+/// The reports in the order of the program's help.
+pub(crate) static REPORTS: [ReportName; 10] = [
+    ReportName::Statement,
+    ReportName::Adjustments,
+    ReportName::Details,
+    ReportName::Bill,
+    ReportName::Page,
+    ReportName::Disputes,
+    ReportName::Record,
+    ReportName::Periods,
+    ReportName::Rulings,
+    ReportName::TariffText,
+];
+
+fn statement_in(form: StatementForm) -> PeriodReport
+    ensures { result ≡ spec.statement_in form }
+{
+    match form {
+        StatementForm::Text => PeriodReport::Statement,
+        StatementForm::Table => PeriodReport::StatementTable,
+    }
+}
+
+fn adjustments_in(form: StatementForm) -> PeriodReport
+    ensures { result ≡ spec.adjustments_in form }
+{
+    match form {
+        StatementForm::Text => PeriodReport::AdjustmentList,
+        StatementForm::Table => PeriodReport::AdjustmentTable,
+    }
+}
+
+fn disputes_in(form: StatementForm) -> Report
+    ensures { result ≡ spec.disputes_in form }
+{
+    match form {
+        StatementForm::Text => Report::DisputeList,
+        StatementForm::Table => Report::DisputeTable,
+    }
+}
+
+/// The report of a period, of one centre or of the whole office.
+pub(crate) fn report_of_centre(
+    name: ReportName,
+    form: StatementForm,
+    period: u16,
+    centre: Option<Name>,
+) -> Option<Report>
+    ensures { result ≡ spec.report_of_centre name form period centre }
+{
+    match name {
+        ReportName::Statement => Some(Report::OfPeriod {
+            report: statement_in(form),
+            period,
+            centre,
+        }),
+        ReportName::Adjustments => Some(Report::OfPeriod {
+            report: adjustments_in(form),
+            period,
+            centre,
+        }),
+        ReportName::Bill => Some(Report::Bill {
+            form,
+            period,
+            centre,
+        }),
+        _ => None,
+    }
+}
+
+/// The report of a period of the whole office. A page is never a table.
+pub(crate) fn report_of_period(
+    name: ReportName,
+    form: StatementForm,
+    period: u16,
+) -> Option<Report>
+    ensures { result ≡ spec.report_of_period name form period }
+{
+    match name {
+        ReportName::Page => match form {
+            StatementForm::Text => Some(Report::PeriodPage(period)),
+            StatementForm::Table => None,
+        },
+        _ => None,
+    }
+}
+
+/// The report of the books.
+pub(crate) fn report_of_office(name: ReportName, form: StatementForm) -> Option<Report>
+    ensures { result ≡ spec.report_of_office name form }
+{
+    match name {
+        ReportName::Disputes => Some(disputes_in(form)),
+        ReportName::Periods => Some(Report::PeriodList),
+        ReportName::Rulings => Some(Report::RulingList),
+        _ => None,
+    }
+}
+
+/// The report of the tariff that begins on a day.
+pub(crate) fn report_of_day(name: ReportName, day: i32) -> Option<Report>
+    ensures { result ≡ spec.report_of_day name day }
+{
+    match name {
+        ReportName::TariffText => Some(Report::TariffText(day)),
+        _ => None,
+    }
+}
+
+/// The report of a record.
+pub(crate) fn report_of_record(name: ReportName, record: [u8; 32]) -> Option<Report>
+    ensures { result ≡ spec.report_of_record name record }
+{
+    match name {
+        ReportName::Record => Some(Report::Record(record)),
+        _ => None,
+    }
+}
