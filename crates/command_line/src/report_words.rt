@@ -23,6 +23,15 @@ fn statement_form(csv: bool) -> StatementForm
     }
 }
 
+/// The form that is asked for.
+fn asked_form(found: &ArgMatches<'_>) -> Option<StatementForm>
+    ensures form { IfSome result (IsForm (rows_in found.now)) }
+    ensures some { HasWord (rows_in found.now) known.csv → IsSome result }
+{
+    let csv = flag_in(found, "csv")?;
+    Some(statement_form(csv))
+}
+
 /// What a period charged, or what it would charge by the tariff that is named.
 pub(crate) fn statement_in<'a>(found: &ArgMatches<'a>) -> Option<BookRequest<'a>>
     ensures asked { IfSome result (IsOfBooks (codes "statement") (rows_in found.now)) }
@@ -30,8 +39,7 @@ pub(crate) fn statement_in<'a>(found: &ArgMatches<'a>) -> Option<BookRequest<'a>
         → HasWord (rows_in found.now) known.csv → IsSome result }
 {
     let period = period_in(found)?;
-    let csv = flag_in(found, "csv")?;
-    let form = statement_form(csv);
+    let form = asked_form(found)?;
     match text_in(found, "tariff") {
         Some(file) => Some(BookRequest::WhatIf { form, period, file }),
         None => Some(charged(form, period)),
@@ -49,15 +57,14 @@ fn charged<'a>(form: StatementForm, period: PeriodWords<'a>) -> BookRequest<'a>
     })
 }
 
-/// The form that is asked for. What is never a table is a text.
+/// The same of a report that may never be a table, and then is a text.
 fn form_in(csv: bool, found: &ArgMatches<'_>) -> Option<StatementForm>
     ensures table { csv ≡ true → IfSome result (IsForm (rows_in found.now)) }
     ensures text { csv ≡ false → IfSome result (λ form. form ≡ StatementForm.Text) }
     ensures some { (csv ≡ true → HasWord (rows_in found.now) known.csv) → IsSome result }
 {
     if csv {
-        let asked = flag_in(found, "csv")?;
-        Some(statement_form(asked))
+        asked_form(found)
     } else {
         Some(StatementForm::Text)
     }
