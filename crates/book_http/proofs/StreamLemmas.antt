@@ -21,7 +21,7 @@ use Rattle.book_reports.specs.StreamedDetails.{detail_answer, detail_length_outc
 use Rattle.book_reports.specs.StreamedDetails.{detail_text_outcome}
 use Rattle.book_reports.specs.StreamedRulings.{refusal_in}
 use Rattle.book_reports.specs.Writing.{WritesUntil}
-use Rattle.book_reports.proofs.DetailReading.{refused_back, shown_back}
+use Rattle.book_reports.proofs.CursorLemmas.{refused_back, shown_back}
 use Rattle.book_reports.proofs.ReadingLemmas.{fault_alike, fault_tells, goes_on, read_as}
 use Rattle.office.specs.Requests.{Text, response_outcome}
 use Rattle.book_http.specs.declared.answer_head.BodyKind.{BodyKind}

@@ -16,7 +16,7 @@ use Rattle.book_reports.specs.BillTariffs.{tariffs_outcome, tariffs_shown}
 use Rattle.book_reports.specs.BillWork.{work_outcome, work_seen, work_shown}
 use Rattle.book_reports.specs.HeldBack.{held_back_outcome}
 use Rattle.book_reports.specs.Shown.{closed_through, shown_by}
-use Rattle.book_reports.proofs.DetailReading.{refused_back}
+use Rattle.book_reports.proofs.CursorLemmas.{refused_back}
 use Rattle.book_reports.proofs.WritingLemmas.{same_value}
 
 -- of a period that is not there nothing is answered

@@ -5,6 +5,7 @@ pub mod ReadingLemmas
 pub mod ShownLemmas
 pub mod ReportLemmas
 pub mod FrontLemmas
+pub mod CursorLemmas
 pub mod RulingReading
 pub mod StreamedLemmas
 pub mod StreamingLemmas
@@ -12,7 +13,7 @@ pub mod RulingLemmas
 pub mod DisputeReading
 pub mod DisputeLemmas
 pub mod AnsweringLemmas
-pub mod DetailReading
+pub mod WrittenListLemmas
 pub mod DetailLemmas
 pub mod DetailLengths
 pub mod TariffLemmas

@@ -7,6 +7,8 @@ pub mod ReceiptLines
 pub mod CheckLists
 pub mod RecordNames
 pub mod Shown
+pub mod Cursors
+pub mod DetailsInTurn
 pub mod BillWork
 pub mod BillLines
 pub mod PeriodDays
@@ -22,6 +24,8 @@ pub mod Writing
 pub mod Reports
 pub mod StreamedRulings
 pub mod StreamedAnswers
+pub mod WrittenLists
 pub mod StreamedDisputes
 pub mod StreamedDetails
 pub mod WorkSums
+pub mod DetailLengths

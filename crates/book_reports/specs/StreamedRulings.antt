@@ -5,7 +5,8 @@ use Rattle.std.specs.Io.KnownBytes.{Appends}
 use Rattle.book_model.specs.declared.fault.LedgerFault.{LedgerFault}
 use Rattle.book_model.specs.declared.fault.LedgerFault.TheVariants as ledger
 use Rattle.book_model.specs.Words.{RulingSeen}
-use Rattle.report_texts.specs.RulingLists.{ruling_list_text}
+use Rattle.std.proofs.Common.{arith}
+use Rattle.report_texts.specs.RulingLists.{ruling_list_head, ruling_list_text}
 use Rattle.book_reports.specs.declared.fault.ReportFault.{ReportFault}
 use Rattle.book_reports.specs.declared.fault.ReportFault.TheVariants.{Write, Memory, Ledger}
 use Rattle.book_reports.specs.Writing.{WritesPrefix}
@@ -51,6 +52,10 @@ WritesSome {X} text held holds result = (made : X) × WritesPrefix (text made) h
 -- the list of some rulings
 abbrev pub WritesSomeRulings : Option (List ℕ) → Option (List ℕ) → Result (Unit {0}) ReportFault → Type 0
 WritesSomeRulings = WritesSome {X = List RulingSeen} ruling_list_text
+
+-- something stands above it
+pub some_above_rulings : 0 < length ruling_list_head
+some_above_rulings = omega arith
 
 -- the text that was written into memory, or why it was not: a lack of memory has one form there
 abbrev pub text_by : {T : Type 0} → T → Result (Unit {0}) ReportFault → Result T LedgerFault

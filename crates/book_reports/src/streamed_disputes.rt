@@ -13,7 +13,8 @@ ghost use Rattle.book_reports.specs.StreamedRulings.{LeavesSome, WritesAllBut, r
 ghost use Rattle.book_reports.specs.Writing.{is_write_fault, is_write_or_memory};
 
 use crate::fault::ReportFault;
-use crate::waiting::{flush, push_part};
+use crate::waiting::flush;
+use crate::written_lists::push_lines;
 use book_core::{Dispute, Ledger, LedgerFault, Sink};
 use report_texts::{dispute_list_head, dispute_rows, dispute_table_head, push_dispute};
 use std::alloc::{AllocError, Global};
@@ -60,28 +61,6 @@ fn part_of(
         }
         DisputeForm::Table => dispute_rows(alloc, number, dispute),
     }
-}
-
-/// Adds the lines of a dispute to what waits, which is written before where it is much. In a table
-/// a dispute without records has no line: then what waits stays.
-fn push_lines<W: Writer + Drop>(
-    waiting: &mut Vec<u8>,
-    lines: &[u8],
-    sink: &mut Sink<W>,
-) -> Result<(), ReportFault>
-    requires { has_failed sink.old ≡ false }
-    ensures written { WritesAllBut (waiting.old.items ++ lines.now) waiting.new.items
-        (W.contents (writer_of sink.old)) (W.contents (writer_of sink.new)) result }
-    ensures left { 0 < length waiting.old.items
-        → LeavesSome (waiting.old.items ++ lines.now) waiting.new.items
-        (W.contents (writer_of sink.old)) (W.contents (writer_of sink.new)) result }
-    ensures failed { has_failed sink.new ≡ is_write_fault result }
-    ensures fault { IfErr result (λ fault. is_write_or_memory fault ≡ true) }
-{
-    if lines.is_empty() {
-        return Ok(());
-    }
-    push_part(waiting, lines, sink)
 }
 
 /// The bytes from which the dispute after this one is the first: a zero byte behind its identity.

@@ -1,7 +1,7 @@
 use Rattle.std.proofs.Common.{◌∙◌, eqb-true, length, sym}
 use Rattle.std.proofs.lemmas.Bool.{eqb-false}
 use Rattle.book_reports.proofs.StreamedLemmas.{none_added, some_in}
-use Rattle.book_reports.proofs.streamed_disputes.push_lines.Goals as goal
+use Rattle.book_reports.proofs.written_lists.push_lines.Goals as goal
 
 -- there is nothing to add
 pub returns-then-is_empty-clause-written : goal.returns-then-is_empty-clause-written
