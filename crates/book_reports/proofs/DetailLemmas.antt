@@ -12,24 +12,24 @@ use Rattle.book_core.specs.Ledgers.{Seen}
 use Rattle.book_core.specs.Calls.{IsCall}
 use Rattle.book_core.specs.Transition.{IsTransition}
 use Rattle.report_texts.specs.DetailTables.{detail_row, details_heading}
-use Rattle.book_reports.specs.declared.fault.ReportFault.{ReportFault}
+use Rattle.book_lists.specs.declared.fault.ReportFault.{ReportFault}
+use Rattle.book_lists.specs.Faults.{report_fault_of}
+use Rattle.book_lists.specs.Streamed.{WritesAnswerUntil}
+use Rattle.book_lists.specs.WrittenLists.{list_answer, list_text, parts_from}
+use Rattle.book_lists.proofs.AnsweringLemmas.{answer_unread}
+use Rattle.book_lists.proofs.CursorLemmas.{shown_back}
+use Rattle.book_lists.proofs.ShownLemmas.{shown}
+use Rattle.book_lists.proofs.WritingLemmas.{same_value}
+use Rattle.book_lists.proofs.WrittenListLemmas.{parts_each, text_some, then_written}
 use Rattle.book_reports.specs.declared.streamed_details.DetailReport.{DetailReport}
 use Rattle.book_reports.specs.declared.streamed_details.Sums.{Sums}
 use Rattle.book_reports.specs.declared.what_if.StatementForm.{StatementForm}
 use Rattle.book_reports.specs.declared.what_if.StatementForm.TheVariants as form
 use Rattle.book_reports.specs.BookTexts.{closed_through, closed_through_outcome, shown_by}
-use Rattle.book_reports.specs.Faults.{report_fault_of}
-use Rattle.book_reports.specs.StreamedAnswers.{WritesAnswerUntil}
 use Rattle.book_reports.specs.StreamedDetails.{WritesDetails, detail_answer}
 use Rattle.book_reports.specs.StreamedDetails.{details_end, details_head, details_part}
 use Rattle.book_reports.specs.StreamedDetails.{details_text, end_in, head_in, part_in, sums_of}
 use Rattle.book_reports.specs.StreamedDetails.{some_above_details, text_in, with_detail}
-use Rattle.book_reports.specs.WrittenLists.{list_answer, list_text, parts_from}
-use Rattle.book_reports.proofs.AnsweringLemmas.{answer_unread}
-use Rattle.book_reports.proofs.CursorLemmas.{shown_back}
-use Rattle.book_reports.proofs.ShownLemmas.{shown}
-use Rattle.book_reports.proofs.WrittenListLemmas.{parts_each, text_some, then_written}
-use Rattle.book_reports.proofs.WritingLemmas.{same_value}
 
 -- what the sums of details are with one more
 pub sums_more : (read : List Detail) (detail : Detail)

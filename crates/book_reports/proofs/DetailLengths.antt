@@ -9,19 +9,19 @@ use Rattle.book_model.specs.declared.fault.LedgerFault.TheVariants.{Memory}
 use Rattle.book_model.specs.Words.{details_outcome}
 use Rattle.book_core.specs.Ledgers.{Seen}
 use Rattle.book_core.specs.Calls.{IsCall}
+use Rattle.book_lists.specs.Cursors.{Folds}
+use Rattle.book_lists.proofs.CursorLemmas.{map_same}
+use Rattle.book_lists.proofs.ReadingLemmas.{by_names}
+use Rattle.book_lists.proofs.ShownLemmas.{answers, answers_none, both_shown, refused_next, shown}
+use Rattle.book_lists.proofs.ShownLemmas.{then_stays}
+use Rattle.book_lists.proofs.WritingLemmas.{same_value}
 use Rattle.book_reports.specs.declared.detail_lengths.Counted.{Counted}
 use Rattle.book_reports.specs.declared.streamed_details.DetailReport.{DetailReport}
 use Rattle.book_reports.specs.BookTexts.{closed_through, closed_through_outcome, shown_by}
-use Rattle.book_reports.specs.Cursors.{Folds}
 use Rattle.book_reports.specs.DetailLengths.{AreCounted}
 use Rattle.book_reports.specs.StreamedDetails.{detail_length_outcome, details_end, details_head}
 use Rattle.book_reports.specs.StreamedDetails.{details_part, details_text, sums_of, with_detail}
-use Rattle.book_reports.proofs.CursorLemmas.{map_same}
 use Rattle.book_reports.proofs.DetailLemmas.{sums_more, whole_text}
-use Rattle.book_reports.proofs.ReadingLemmas.{by_names}
-use Rattle.book_reports.proofs.ShownLemmas.{answers, answers_none, both_shown, refused_next, shown}
-use Rattle.book_reports.proofs.ShownLemmas.{then_stays}
-use Rattle.book_reports.proofs.WritingLemmas.{same_value}
 
 -- with what stands above and below these are the bytes of the text
 whole_size : (report : DetailReport) (through : Option ℤ) (counted : Counted) (details : List Detail)

@@ -17,24 +17,24 @@ use Rattle.book_core.specs.Transition.{IsTransition}
 use Rattle.report_texts.specs.DisputeLists.{dispute_lines, dispute_list_head}
 use Rattle.report_texts.specs.DisputeTables.{member_heading, rows_from}
 use Rattle.report_texts.specs.Figures.{dispute_count}
-use Rattle.book_reports.specs.declared.fault.ReportFault.{ReportFault}
+use Rattle.book_lists.specs.declared.fault.ReportFault.{ReportFault}
+use Rattle.book_lists.specs.Faults.{report_fault_of}
+use Rattle.book_lists.specs.Streamed.{WritesFirst}
+use Rattle.book_lists.specs.Writing.{WritesPrefix, WritesUntil, is_write_or_memory}
+use Rattle.book_lists.proofs.AnsweringLemmas.{HasBytes, answer_refused, answer_unread}
+use Rattle.book_lists.proofs.AnsweringLemmas.{answer_written, only_hinders}
+use Rattle.book_lists.proofs.StreamedLemmas.{is_prefix, is_short, none_written, part_written}
+use Rattle.book_lists.proofs.StreamedLemmas.{rest_until, rest_written, some_before, written_as}
+use Rattle.book_lists.proofs.StreamedLemmas.{written_of_more}
+use Rattle.book_lists.proofs.WritingLemmas.{same_value}
 use Rattle.book_reports.specs.declared.streamed_disputes.DisputeForm.{DisputeForm}
 use Rattle.book_reports.specs.declared.streamed_disputes.DisputeForm.TheVariants as form
-use Rattle.book_reports.specs.Faults.{report_fault_of}
 use Rattle.book_reports.specs.StreamedAnswers.{answered_by}
 use Rattle.book_reports.specs.StreamedDisputes.{WritesDisputes, WritesSomeDisputes, dispute_report}
 use Rattle.book_reports.specs.StreamedDisputes.{dispute_count_outcome, disputes_head, disputes_part}
 use Rattle.book_reports.specs.StreamedDisputes.{disputes_text}
-use Rattle.book_reports.specs.StreamedRulings.{WritesFirst}
-use Rattle.book_reports.specs.Writing.{WritesPrefix, WritesUntil, is_write_or_memory}
-use Rattle.book_reports.proofs.AnsweringLemmas.{HasBytes, answer_refused, answer_unread}
-use Rattle.book_reports.proofs.AnsweringLemmas.{answer_written, only_hinders}
 use Rattle.book_reports.proofs.DisputeReading.{HasReadOf, all_of, none_more_of, none_read_of}
 use Rattle.book_reports.proofs.DisputeReading.{one_more_of}
-use Rattle.book_reports.proofs.StreamedLemmas.{is_prefix, is_short, none_written, part_written}
-use Rattle.book_reports.proofs.StreamedLemmas.{rest_until, rest_written, some_before, written_as}
-use Rattle.book_reports.proofs.StreamedLemmas.{written_of_more}
-use Rattle.book_reports.proofs.WritingLemmas.{same_value}
 
 -- ---- texts
 

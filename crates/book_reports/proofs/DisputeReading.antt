@@ -13,12 +13,12 @@ use Rattle.book_model.proofs.FromLemmas.{bytes_after, bytes_after-push, disputes
 use Rattle.book_model.proofs.FromLemmas.{walk_on}
 use Rattle.book_core.specs.Ledgers.{Seen}
 use Rattle.book_core.specs.Calls.{IsCall}
+use Rattle.book_lists.proofs.FrontLemmas.{IsFront, front_all, front_taken, next_taken}
+use Rattle.book_lists.proofs.ReadingLemmas.{by_names, call_failed}
+use Rattle.book_lists.proofs.ShownLemmas.{Shows, answers, answers_none, refused_next, shown}
+use Rattle.book_lists.proofs.ShownLemmas.{shown_as, then_shown}
+use Rattle.book_lists.proofs.WritingLemmas.{same_value}
 use Rattle.book_reports.specs.StreamedDisputes.{dispute_count_outcome}
-use Rattle.book_reports.proofs.FrontLemmas.{IsFront, front_all, front_taken, next_taken}
-use Rattle.book_reports.proofs.ReadingLemmas.{by_names, call_failed}
-use Rattle.book_reports.proofs.ShownLemmas.{Shows, answers, answers_none, refused_next, shown}
-use Rattle.book_reports.proofs.ShownLemmas.{shown_as, then_shown}
-use Rattle.book_reports.proofs.WritingLemmas.{same_value}
 
 -- the disputes of a book
 abbrev pub all_of : Naming → Book → List Disputed

@@ -22,14 +22,14 @@ use Rattle.book_model.specs.Words.{tariffs_through, terms_in, text_on}
 use Rattle.book_model.proofs.ListedLemmas.{in_turn}
 use Rattle.book_core.specs.Calls.{IsCall}
 use Rattle.book_core.specs.Ledgers.{Seen}
+use Rattle.book_lists.proofs.ReadingLemmas.{by_names}
+use Rattle.book_lists.proofs.ShownLemmas.{answers, answers_none, refused_next}
 use Rattle.book_reports.specs.declared.bill_tariffs.KeptTariffs.{KeptTariffs}
 use Rattle.book_reports.specs.declared.period_days.PeriodDays.{PeriodDays}
 use Rattle.book_reports.specs.BillTariffs.{HasKept, has_begun_after, kept_of, left_by, tariffs_billed}
 use Rattle.book_reports.specs.BillTariffs.{tariffs_on_outcome, tariffs_shown}
 use Rattle.book_reports.proofs.BillLineLemmas.{last_push}
 use Rattle.book_reports.proofs.RulingReading.{HasRead, first_read, one_more_read}
-use Rattle.book_reports.proofs.ReadingLemmas.{by_names}
-use Rattle.book_reports.proofs.ShownLemmas.{answers, answers_none, refused_next}
 use Rattle.book_reports.proofs.TariffLemmas.{AreTariffs, IsTariff, are_tariffs, no_tariff}
 
 -- ---- one more tariff

@@ -10,15 +10,16 @@ use Rattle.book_core.specs.Calls.{Calls, IsCall, Makes, Reopens}
 use Rattle.book_core.specs.Transition.{IsTransition}
 use Rattle.book_core.proofs.TransitionLemmas.{work_as}
 use Rattle.report_texts.specs.RulingLists.{ruling_line, ruling_list_head, ruling_list_text}
-use Rattle.book_reports.specs.declared.fault.ReportFault.{ReportFault}
-use Rattle.book_reports.specs.declared.fault.ReportFault.TheVariants as report
+use Rattle.book_lists.specs.declared.fault.ReportFault.{ReportFault}
+use Rattle.book_lists.specs.declared.fault.ReportFault.TheVariants as report
+use Rattle.book_lists.specs.Streamed.{is_hindrance, refusal_in}
+use Rattle.book_lists.specs.WrittenLists.{list_text, parts_from}
+use Rattle.book_lists.proofs.ReadingLemmas.{IsAlike, reopens_alike}
+use Rattle.book_lists.proofs.WrittenListLemmas.{parts_as, parts_each}
 use Rattle.book_reports.specs.declared.report.Report.TheVariants.{RulingList}
 use Rattle.book_reports.specs.BookTexts.{report_outcome}
 use Rattle.book_reports.specs.StreamedAnswers.{WritesRulings}
-use Rattle.book_reports.specs.StreamedRulings.{is_hindrance, refusal_in, text_by}
-use Rattle.book_reports.specs.WrittenLists.{list_text, parts_from}
-use Rattle.book_reports.proofs.ReadingLemmas.{IsAlike, reopens_alike}
-use Rattle.book_reports.proofs.WrittenListLemmas.{parts_as, parts_each}
+use Rattle.book_reports.specs.StreamedRulings.{text_by}
 
 -- ---- texts
 

@@ -5,10 +5,10 @@ use Rattle.book_model.specs.declared.listed_ruling.ListedRuling.{ListedRuling}
 use Rattle.book_model.specs.Words.{RulingSeen, ruling_outcome, ruling_shown, rulings_listed}
 use Rattle.book_core.specs.Ledgers.{Seen}
 use Rattle.book_core.specs.Calls.{IsCall}
-use Rattle.book_reports.proofs.FrontLemmas.{IsFront, front_taken}
-use Rattle.book_reports.proofs.ReadingLemmas.{by_names}
-use Rattle.book_reports.proofs.ShownLemmas.{Shows, shown, shown_as, then_shown}
-use Rattle.book_reports.proofs.WritingLemmas.{same_value}
+use Rattle.book_lists.proofs.FrontLemmas.{IsFront, front_taken}
+use Rattle.book_lists.proofs.ReadingLemmas.{by_names}
+use Rattle.book_lists.proofs.ShownLemmas.{Shows, shown, shown_as, then_shown}
+use Rattle.book_lists.proofs.WritingLemmas.{same_value}
 
 -- so many of the book's rulings were read, and the next one
 pub record HasRead (old new : Seen) (count : ℕ) (read : List RulingSeen) (next : Option ListedRuling)

@@ -21,12 +21,12 @@ use Rattle.book_model.specs.Words.{tariffs_seen, text_on}
 use Rattle.book_model.proofs.ListedLemmas.{in_turn}
 use Rattle.book_core.specs.Ledgers.{Seen}
 use Rattle.book_core.specs.Calls.{IsCall}
+use Rattle.book_lists.proofs.FrontLemmas.{all_taken, next_taken}
+use Rattle.book_lists.proofs.ReadingLemmas.{by_names}
+use Rattle.book_lists.proofs.ShownLemmas.{answers, answers_as, answers_none, refused_next}
 use Rattle.book_reports.specs.declared.report.Report.TheVariants.{TariffText}
 use Rattle.book_reports.specs.BookTexts.{report_outcome}
-use Rattle.book_reports.proofs.FrontLemmas.{all_taken, next_taken}
 use Rattle.book_reports.proofs.RulingReading.{HasRead, first_read, one_more_read}
-use Rattle.book_reports.proofs.ReadingLemmas.{by_names}
-use Rattle.book_reports.proofs.ShownLemmas.{answers, answers_as, answers_none, refused_next}
 
 -- a ruling is a tariff
 abbrev pub IsTariff : RulingSeen → Type 0

@@ -22,16 +22,16 @@ use Rattle.book_core.specs.Calls.{IsCall}
 use Rattle.book_core.specs.Ledgers.{Seen}
 use Rattle.book_core.proofs.KeyedRowLemmas.{rows_under_keys}
 use Rattle.book_core.proofs.ListLimits.{rows_shown, sum_by-rows_of_le}
+use Rattle.book_lists.specs.Cursors.{Folds}
+use Rattle.book_lists.proofs.CursorLemmas.{map_same}
+use Rattle.book_lists.proofs.ReadingLemmas.{by_names}
+use Rattle.book_lists.proofs.ShownLemmas.{answers, answers_none, both_shown, refused_next, shown}
+use Rattle.book_lists.proofs.ShownLemmas.{then_stays}
+use Rattle.book_lists.proofs.WritingLemmas.{same_value}
 use Rattle.book_reports.specs.declared.bill_work.WorkSums.{WorkSums}
 use Rattle.book_reports.specs.BillWork.{AreWork, IsWorkOf, work_outcome, work_seen, work_shown}
 use Rattle.book_reports.specs.BookTexts.{closed_through, closed_through_outcome, shown_by}
-use Rattle.book_reports.specs.Cursors.{Folds}
 use Rattle.book_reports.specs.WorkSums.{AreSumsOf, prices_of}
-use Rattle.book_reports.proofs.CursorLemmas.{map_same}
-use Rattle.book_reports.proofs.ReadingLemmas.{by_names}
-use Rattle.book_reports.proofs.ShownLemmas.{answers, answers_none, both_shown, refused_next, shown}
-use Rattle.book_reports.proofs.ShownLemmas.{then_stays}
-use Rattle.book_reports.proofs.WritingLemmas.{same_value}
 
 -- ---- the rows of all
 

@@ -9,14 +9,14 @@ use Rattle.report_texts.specs.DetailLists.{detail_head, detail_line, detail_list
 use Rattle.std.proofs.Common.{arith, length-append}
 use Rattle.report_texts.specs.Periods.{title_line}
 use Rattle.report_texts.specs.DetailTables.{detail_row, detail_table, details_heading}
-use Rattle.book_reports.specs.declared.fault.ReportFault.{ReportFault}
+use Rattle.book_lists.specs.declared.fault.ReportFault.{ReportFault}
+use Rattle.book_lists.specs.Streamed.{WritesAnswerUntil}
+use Rattle.book_lists.specs.Streamed.{WritesSome}
 use Rattle.book_reports.specs.declared.streamed_details.DetailReport.{DetailReport}
 use Rattle.book_reports.specs.declared.streamed_details.Sums.{Sums}
 use Rattle.book_reports.specs.declared.what_if.StatementForm.{StatementForm}
 use Rattle.book_reports.specs.declared.what_if.StatementForm.TheVariants as form
 use Rattle.book_reports.specs.BookTexts.{closed_through, shown_by}
-use Rattle.book_reports.specs.StreamedAnswers.{WritesAnswerUntil}
-use Rattle.book_reports.specs.StreamedRulings.{WritesSome}
 
 -- the text of some details, by the day that the period was closed through, if it was
 abbrev pub text_in : StatementForm → DetailReport → Option ℤ → List Detail → List ℕ

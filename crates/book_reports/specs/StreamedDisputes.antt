@@ -5,11 +5,12 @@ use Rattle.book_core.specs.Transition.{Transition}
 use Rattle.report_texts.specs.DisputeLists.{dispute_lines, dispute_list_head, dispute_list_text}
 use Rattle.report_texts.specs.Figures.{dispute_count}
 use Rattle.report_texts.specs.DisputeTables.{dispute_rows, dispute_table, member_heading}
-use Rattle.book_reports.specs.declared.fault.ReportFault.{ReportFault}
+use Rattle.book_lists.specs.declared.fault.ReportFault.{ReportFault}
+use Rattle.book_lists.specs.Streamed.{WritesAnswerUntil}
+use Rattle.book_lists.specs.Streamed.{WritesSome}
 use Rattle.book_reports.specs.declared.streamed_disputes.DisputeForm.{DisputeForm}
 use Rattle.book_reports.specs.declared.streamed_disputes.DisputeForm.TheVariants as form
-use Rattle.book_reports.specs.StreamedAnswers.{WritesAnswerUntil, answered_by}
-use Rattle.book_reports.specs.StreamedRulings.{WritesSome}
+use Rattle.book_reports.specs.StreamedAnswers.{answered_by}
 
 -- how many disputes there are
 abbrev pub dispute_count_outcome : Naming → Book → Outcome ℕ

@@ -14,10 +14,9 @@ ghost use Rattle.book_reports.specs.StreamedDetails as streamed;
 ghost use Rattle.book_reports.specs.WorkSums.{Prices, SumsFit};
 
 use crate::book_texts::closed_through;
-use crate::detail_cursors::DetailCursor;
-use crate::folds::{Step, fold};
 use crate::streamed_details::{NO_SUMS, Sums, with_detail};
 use book_core::{ChargeRow, Detail, Ledger, LedgerFault, RowKey, empty_row, key_of, row_with};
+use book_lists::{DetailCursor, Step, fold};
 use book_model::WorkRows;
 use smf_text::Name;
 use std::alloc::{AllocError, Global};

@@ -7,10 +7,10 @@ ghost use Rattle.book_core.specs.Calls.{IsCall};
 ghost use Rattle.book_reports.specs.BookTexts.{report_outcome};
 ghost use Rattle.book_reports.specs.StreamedRulings.{text_by};
 
-use crate::fault::ReportFault;
 use crate::report::Report;
 use crate::streamed_rulings::{MOST_RULINGS, write_rulings};
 use book_core::{Ledger, LedgerFault, ListedRuling, Sink};
+use book_lists::ReportFault;
 use std::alloc::Global;
 
 /// The text that was written into memory, or why it was not.

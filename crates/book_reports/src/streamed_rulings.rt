@@ -7,59 +7,19 @@ ghost use Rattle.book_model.specs.Words.{HasDays, ruling_shown};
 ghost use Rattle.book_core.specs.Calls.{Reopens};
 ghost use Rattle.book_core.specs.Transition.{IsTransition};
 ghost use Rattle.report_texts.specs.RulingLists.{ruling_line};
+ghost use Rattle.book_lists.specs.Streamed.{refusal_in};
+ghost use Rattle.book_lists.specs.Writing.{is_write_fault};
 ghost use Rattle.book_reports.specs.StreamedAnswers.{WritesRulings};
-ghost use Rattle.book_reports.specs.StreamedRulings.{WritesSomeRulings, refusal_in};
-ghost use Rattle.book_reports.specs.Writing.{is_write_fault};
+ghost use Rattle.book_reports.specs.StreamedRulings.{WritesSomeRulings};
 
-use crate::cursors::Cursor;
-use crate::fault::ReportFault;
-use crate::folds::Step;
-use crate::written_lists::{Lines, write_list};
 use book_core::{Ledger, LedgerFault, ListedRuling, Sink};
+use book_lists::{Lines, ReportFault, RulingCursor, Step, write_list};
 use report_texts::{push_ruling_line, ruling_list_head};
 use std::alloc::{AllocError, Global};
 use streams::Writer;
 
 /// More rulings than any books have.
 pub(crate) const MOST_RULINGS: u64 = 1 << 32;
-
-/// The rulings of the books, by their numbers.
-pub(crate) struct RulingCursor;
-
-impl<L: Ledger> Cursor<L> for RulingCursor {
-    ghost use Rattle.std.specs.Prelude.{◌≡◌, ◌<◌, IfOk, IfSome, Ok, false, option_map, refl, slice_get};
-    ghost use Rattle.book_model.specs.Words.{HasDays, RulingSeen, ruling_outcome, ruling_shown};
-    ghost use Rattle.book_model.specs.Words.{rulings_listed};
-    ghost use Rattle.book_core.specs.Calls.{IsCall};
-
-    type Item = ListedRuling;
-
-    ghost Entry = { RulingSeen };
-
-    ghost shown = { ruling_shown };
-
-    ghost IsSound = { λ ruling. HasDays (ruling_shown ruling) };
-
-    ghost all = { λ cursor naming book. Ok (rulings_listed naming book.rulings) };
-
-    ghost asked = { λ cursor naming count last book. (ruling_outcome naming count book).answer };
-
-    fn next(
-        &self,
-        ledger: &mut L,
-        count: u64,
-        _last: Option<ListedRuling>,
-    ) -> Result<Option<ListedRuling>, LedgerFault>
-        requires { 0 < count → (L.seen ledger.old).must_reopen ≡ false }
-        ensures item { IsCall (option_map ruling_shown) (L.seen ledger.old) (L.seen ledger.new)
-            result (ruling_outcome (L.seen ledger.old).naming count) }
-        ensures sound { IfOk result (λ found. IfSome found (λ ruling. HasDays (ruling_shown ruling))) }
-    {
-        ledger.ruling(count)
-    }
-
-    ghost in_turn = { λ cursor naming book count last known. refl };
-}
 
 /// A line for each ruling.
 pub(crate) struct RulingLines;

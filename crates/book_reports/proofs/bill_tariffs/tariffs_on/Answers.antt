@@ -1,8 +1,8 @@
 use Rattle.std.proofs.Common.{SFits, refl, rules, string_bytes, w32}
 use Rattle.std.proofs.lemmas.Int.{to_z-of_z}
+use Rattle.book_lists.proofs.ReadingLemmas.{call_failed, passed_on}
 use Rattle.book_reports.proofs.KeptTariffLemmas.{keep_begun, keep_ended, keep_more}
 use Rattle.book_reports.proofs.KeptTariffLemmas.{keep_refused, keep_stopped}
-use Rattle.book_reports.proofs.ReadingLemmas.{call_failed, passed_on}
 use Rattle.book_reports.proofs.bill_tariffs.tariffs_on.Goals as goal
 
 pub returns-in_err-next-clause-tariffs : goal.returns-in_err-next-clause-tariffs

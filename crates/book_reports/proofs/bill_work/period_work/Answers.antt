@@ -1,5 +1,5 @@
 use Rattle.std.proofs.Common.{refl}
-use Rattle.book_reports.proofs.ReadingLemmas.{call_failed, passed_on}
+use Rattle.book_lists.proofs.ReadingLemmas.{call_failed, passed_on}
 use Rattle.book_reports.proofs.WorkLemmas.{work_ended, work_refused, work_stopped}
 use Rattle.book_reports.proofs.bill_work.period_work.Goals as goal
 

@@ -1,6 +1,6 @@
 use Rattle.std.proofs.Common.{refl}
+use Rattle.book_lists.proofs.ReadingLemmas.{call_failed, passed_on}
 use Rattle.book_reports.proofs.DetailLengths.{size_ended, size_refused, size_stopped}
-use Rattle.book_reports.proofs.ReadingLemmas.{call_failed, passed_on}
 use Rattle.book_reports.proofs.detail_lengths.details_length.Goals as goal
 
 -- the day of the close is not answered

@@ -1,7 +1,7 @@
 use Rattle.std.proofs.Common.{sym}
 use Rattle.book_model.specs.declared.bill.HeldBack.{HeldBack}
 use Rattle.book_model.specs.Words.{held_back_in}
-use Rattle.book_reports.proofs.ReadingLemmas.{passed_on}
+use Rattle.book_lists.proofs.ReadingLemmas.{passed_on}
 use Rattle.book_reports.proofs.DisputeReading.{all_summed, sum_refused, sum_stopped, sum_unread}
 use Rattle.book_reports.proofs.HeldLemmas.{held_begun, held_on}
 use Rattle.book_reports.proofs.held_back.held_in_all.Goals as goal

@@ -2,7 +2,7 @@ use Rattle.std.proofs.Common.{◌≡◌, ◌∙◌, ◌+◌, Some, ap, ap₂, re
 use Rattle.std.proofs.Common.{SFits, w32}
 use Rattle.std.proofs.lemmas.Int.{to_z-of_z}
 use Rattle.book_model.specs.Words.{TariffSeen}
-use Rattle.book_reports.proofs.ReadingLemmas.{call_failed, passed_on}
+use Rattle.book_lists.proofs.ReadingLemmas.{call_failed, passed_on}
 use Rattle.book_reports.proofs.TariffLemmas.{SeeksOn, seek_begun, seek_more, text_found, text_gone}
 use Rattle.book_reports.proofs.TariffLemmas.{text_lost, text_refused}
 use Rattle.book_reports.proofs.ruling_texts.tariff_text.Goals as goal

@@ -1,7 +1,7 @@
 use Rattle.std.proofs.Common.{ℕ, ◌+◌, ◌++◌, ◌∷◌, [], ap, length, length-append, refl, ◌∙◌}
 use Rattle.std.specs.Prelude.{option_map}
 use Rattle.book_model.specs.Words.{dispute_shown}
-use Rattle.book_reports.proofs.ReadingLemmas.{passed_on}
+use Rattle.book_lists.proofs.ReadingLemmas.{passed_on}
 use Rattle.book_reports.proofs.DisputeReading.{all_summed, first_read, one_more_read, sum_refused}
 use Rattle.book_reports.proofs.DisputeReading.{sum_stopped, sum_unread}
 use Rattle.book_reports.proofs.streamed_disputes.count_disputes.Goals as goal

@@ -3,14 +3,14 @@ use Rattle.std.proofs.KnownBytes.{Appends-nil}
 use Rattle.std.proofs.lemmas.Result.{IfErr-weaker, err_from_is_err_and}
 use Rattle.streams.specs.Sinks.{writer_of}
 use Rattle.book_model.specs.Words.{dispute_shown}
+use Rattle.book_lists.specs.declared.fault.ReportFault.TheVariants as report
+use Rattle.book_lists.specs.Writing.{is_write_or_memory}
+use Rattle.book_lists.proofs.ReadingLemmas.{passed_on}
+use Rattle.book_lists.proofs.StreamedLemmas.{none_written, some_before}
 use Rattle.book_reports.specs.StreamedDisputes.{disputes_part}
-use Rattle.book_reports.specs.declared.fault.ReportFault.TheVariants as report
-use Rattle.book_reports.specs.Writing.{is_write_or_memory}
-use Rattle.book_reports.proofs.ReadingLemmas.{passed_on}
 use Rattle.book_reports.proofs.DisputeLemmas.{some_cut, some_ended, some_stopped, text_begun, text_cut}
 use Rattle.book_reports.proofs.DisputeLemmas.{text_ended, text_fewer, text_more, text_refused}
 use Rattle.book_reports.proofs.DisputeLemmas.{text_stopped, text_unbegun, text_uncounted}
-use Rattle.book_reports.proofs.StreamedLemmas.{none_written, some_before}
 use Rattle.book_reports.proofs.streamed_disputes.write_disputes.Goals as goal
 
 -- they are not counted
