@@ -10,17 +10,17 @@ use Rattle.book_core.specs.Calls.{Calls}
 use Rattle.book_core.specs.Ledgers.{Seen}
 use Rattle.book_core.specs.Transition.{IsTransition, Then, Transition}
 use Rattle.book_core.proofs.TransitionLemmas.{work_as, work_then}
-use Rattle.book_reports.specs.declared.fault.ReportFault.{ReportFault}
-use Rattle.book_reports.specs.declared.fault.ReportFault.TheVariants.{Write, Memory, Ledger}
+use Rattle.book_lists.specs.declared.fault.ReportFault.{ReportFault}
+use Rattle.book_lists.specs.declared.fault.ReportFault.TheVariants.{Write, Memory, Ledger}
+use Rattle.book_lists.specs.Streamed.{WritesAnswerUntil, WritesUntilOrRefuses}
+use Rattle.book_lists.specs.Streamed.{is_hindrance, refusal_in}
+use Rattle.book_lists.proofs.ReadingLemmas.{IsAlike, Tells, fault_alike, goes_on, made}
+use Rattle.book_lists.proofs.ReadingLemmas.{reopens_alike}
+use Rattle.book_lists.proofs.WritingLemmas.{same_value}
 use Rattle.book_reports.specs.declared.streamed_details.DetailReport.{DetailReport}
 use Rattle.book_reports.specs.BookTexts.{shown_by}
-use Rattle.book_reports.specs.StreamedAnswers.{WritesAnswerUntil, WritesUntilOrRefuses}
 use Rattle.book_reports.specs.StreamedDetails.{detail_answer, detail_length_outcome}
 use Rattle.book_reports.specs.StreamedDetails.{detail_text_outcome}
-use Rattle.book_reports.specs.StreamedRulings.{is_hindrance, refusal_in}
-use Rattle.book_reports.proofs.ReadingLemmas.{IsAlike, Tells, fault_alike, goes_on, made}
-use Rattle.book_reports.proofs.ReadingLemmas.{reopens_alike}
-use Rattle.book_reports.proofs.WritingLemmas.{same_value}
 use Rattle.office.specs.Requests.{Response, Text, response_outcome}
 use Rattle.report_rows.specs.declared.report_row.BodyKind.{BodyKind}
 use Rattle.book_http.specs.declared.status.Status.TheVariants.{Done}

@@ -12,17 +12,17 @@ use Rattle.book_core.specs.Calls.{Calls, IsCall, Reopens}
 use Rattle.book_core.specs.Ledgers.{Seen}
 use Rattle.book_core.specs.Transition.{IsTransition, NoEvent, Then, Transition}
 use Rattle.book_core.proofs.TransitionLemmas.{no_work, work_as, work_then}
-use Rattle.book_reports.specs.declared.fault.ReportFault.{ReportFault}
-use Rattle.book_reports.specs.declared.fault.ReportFault.TheVariants.{Write, Memory, Ledger}
+use Rattle.book_lists.specs.declared.fault.ReportFault.{ReportFault}
+use Rattle.book_lists.specs.declared.fault.ReportFault.TheVariants.{Write, Memory, Ledger}
+use Rattle.book_lists.specs.Streamed.{WritesAnswerUntil, WritesUntilOrRefuses}
+use Rattle.book_lists.specs.Streamed.{refusal_in}
+use Rattle.book_lists.specs.Writing.{WritesUntil}
+use Rattle.book_lists.proofs.CursorLemmas.{refused_back, shown_back}
+use Rattle.book_lists.proofs.ReadingLemmas.{fault_alike, fault_tells, goes_on, read_as}
 use Rattle.book_reports.specs.declared.streamed_details.DetailReport.{DetailReport}
 use Rattle.book_reports.specs.BookTexts.{shown_by}
-use Rattle.book_reports.specs.StreamedAnswers.{WritesAnswerUntil, WritesUntilOrRefuses}
 use Rattle.book_reports.specs.StreamedDetails.{detail_answer, detail_length_outcome}
 use Rattle.book_reports.specs.StreamedDetails.{detail_text_outcome}
-use Rattle.book_reports.specs.StreamedRulings.{refusal_in}
-use Rattle.book_reports.specs.Writing.{WritesUntil}
-use Rattle.book_reports.proofs.DetailReading.{refused_back, shown_back}
-use Rattle.book_reports.proofs.ReadingLemmas.{fault_alike, fault_tells, goes_on, read_as}
 use Rattle.office.specs.Requests.{Text, response_outcome}
 use Rattle.report_rows.specs.declared.report_row.BodyKind.{BodyKind}
 use Rattle.book_http.specs.declared.served.Served.{Served}

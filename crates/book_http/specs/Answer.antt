@@ -12,8 +12,8 @@ use Rattle.book_model.specs.Words.{Naming, Book, Event}
 use Rattle.book_core.specs.Calls.{Calls}
 use Rattle.book_core.specs.Transition.{Transition, NoEvent}
 use Rattle.book_model.specs.declared.fault.LedgerFault.TheVariants as fault
-use Rattle.book_reports.specs.declared.fault.ReportFault.{ReportFault}
-use Rattle.book_reports.specs.declared.fault.ReportFault.TheVariants.{Write, Memory, Ledger}
+use Rattle.book_lists.specs.declared.fault.ReportFault.{ReportFault}
+use Rattle.book_lists.specs.declared.fault.ReportFault.TheVariants.{Write, Memory, Ledger}
 use Rattle.book_reports.specs.declared.report.Report.{Report}
 use Rattle.book_reports.specs.declared.streamed_details.DetailReport.{DetailReport}
 use Rattle.book_reports.specs.declared.what_if.StatementForm.{StatementForm}

@@ -14,7 +14,7 @@ use Rattle.book_core.specs.Words.{IsTransition, MakesAnswered}
 use Rattle.book_core.proofs.FollowLemmas.{then_answered, calls_answered, none_answered}
 use Rattle.book_core.proofs.FollowLemmas.{accept_event-answered, ruling_answered}
 use Rattle.book_core.proofs.TransitionLemmas.{no_work, work_then}
-use Rattle.book_reports.proofs.ReadingLemmas.{IsReading}
+use Rattle.book_lists.proofs.ReadingLemmas.{IsReading}
 use Rattle.office.specs.Laws.{IsStillOpen}
 use Rattle.office.proofs.ChoiceLemmas.{choices_answered}
 use Rattle.office.proofs.LawLemmas.{asks_answered}

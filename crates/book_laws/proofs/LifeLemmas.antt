@@ -17,7 +17,7 @@ use Rattle.report_texts.specs.Columns.{newline}
 use Rattle.report_texts.specs.LifeLines.{net_line}
 use Rattle.table_model.specs.Readable.{IsChain}
 use Rattle.table_model.specs.Words.{chained, close_after}
-use Rattle.book_reports.proofs.WritingLemmas.{same_value}
+use Rattle.book_lists.proofs.WritingLemmas.{same_value}
 use Rattle.book_laws.proofs.Words.{Added, Charged, Reversed, Turn, net_count, one_if}
 use Rattle.book_laws.proofs.LinkedLemmas.{linked_after, posted_early}
 use Rattle.book_laws.proofs.NetLemmas.{has_without, in_added, in_counted, linked_nets}

@@ -4,13 +4,13 @@ use Rattle.streams.specs.InputOutput.{Output}
 use Rattle.book_model.specs.declared.fault.LedgerFault.{LedgerFault}
 use Rattle.book_model.specs.Words.{Book, Naming}
 use Rattle.book_core.specs.Words.{IsCall, Books, Seen, books}
-use Rattle.book_reports.specs.declared.fault.ReportFault.{ReportFault}
-use Rattle.book_reports.specs.declared.fault.ReportFault.TheVariants.{Write, Memory, Ledger}
+use Rattle.book_lists.specs.declared.fault.ReportFault.{ReportFault}
+use Rattle.book_lists.specs.declared.fault.ReportFault.TheVariants.{Write, Memory, Ledger}
+use Rattle.book_lists.specs.Faults.{report_fault_of}
+use Rattle.book_lists.proofs.WritingLemmas.{refusal_not_write}
 use Rattle.book_reports.specs.declared.report.Report.{Report}
 use Rattle.book_reports.specs.BookTexts.{report_outcome}
-use Rattle.book_reports.specs.Faults.{report_fault_of}
 use Rattle.book_reports.specs.Reports.{IsPassedOn}
-use Rattle.book_reports.proofs.WritingLemmas.{refusal_not_write}
 use Rattle.book_laws.specs.AnswerLaws.{IsCalled}
 use Rattle.book_laws.specs.ReportLaws.{IsReported, HasText, HasPrefix, IsRefused, OneText}
 use Rattle.book_laws.specs.ReportLaws.{OnePrefix, OneRefusedReport}

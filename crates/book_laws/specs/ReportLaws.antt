@@ -6,8 +6,8 @@ use Rattle.book_model.specs.declared.fault.LedgerFault.{LedgerFault}
 use Rattle.book_model.specs.declared.fault.LedgerFault.TheVariants.{Store}
 use Rattle.book_model.specs.Words.{Naming, Book}
 use Rattle.book_core.specs.Ledgers.{Books, Seen, IsOpenAt, books}
-use Rattle.book_reports.specs.declared.fault.ReportFault.{ReportFault}
-use Rattle.book_reports.specs.declared.fault.ReportFault.TheVariants.{Write, Ledger}
+use Rattle.book_lists.specs.declared.fault.ReportFault.{ReportFault}
+use Rattle.book_lists.specs.declared.fault.ReportFault.TheVariants.{Write, Ledger}
 use Rattle.book_reports.specs.declared.report.Report.{Report}
 use Rattle.book_reports.specs.BookTexts.{report_outcome}
 use Rattle.book_reports.specs.Reports.{IsReport}

@@ -8,6 +8,9 @@ use Rattle.book_model.specs.declared.fault.LedgerFault.{LedgerFault}
 use Rattle.book_model.specs.declared.fault.LedgerFault.TheVariants.{NoSuchPeriod}
 use Rattle.book_model.specs.Words.{Book, Naming, Period, bill_of, billed_lines, details_asked}
 use Rattle.book_model.specs.Words.{details_of, lines_of, period_of}
+use Rattle.book_lists.specs.Shown.{shown_by}
+use Rattle.book_lists.proofs.CursorLemmas.{refused_back}
+use Rattle.book_lists.proofs.WritingLemmas.{same_value}
 use Rattle.book_reports.specs.declared.bill_tariffs.KeptTariffs.{KeptTariffs}
 use Rattle.book_reports.specs.declared.bill_work.PeriodWork.{PeriodWork}
 use Rattle.book_reports.specs.BillLines.{billed_outcome}
@@ -15,9 +18,7 @@ use Rattle.book_reports.specs.Bills.{PeriodBillSeen, bill_with, period_bill_outc
 use Rattle.book_reports.specs.BillTariffs.{tariffs_outcome, tariffs_shown}
 use Rattle.book_reports.specs.BillWork.{work_outcome, work_seen, work_shown}
 use Rattle.book_reports.specs.HeldBack.{held_back_outcome}
-use Rattle.book_reports.specs.Shown.{closed_through, shown_by}
-use Rattle.book_reports.proofs.DetailReading.{refused_back}
-use Rattle.book_reports.proofs.WritingLemmas.{same_value}
+use Rattle.book_reports.specs.Shown.{closed_through}
 
 -- of a period that is not there nothing is answered
 unanswered : {A B : Type 0} (f : Period → A) (show : Period → B) (found : Option Period)

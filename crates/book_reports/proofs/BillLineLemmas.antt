@@ -20,10 +20,10 @@ use Rattle.book_model.specs.Words.{trail_outcome, trail_shown}
 use Rattle.book_core.specs.Calls.{IsCall}
 use Rattle.book_core.specs.Ledgers.{Seen}
 use Rattle.report_texts.specs.Centres.{lines_of_centre}
+use Rattle.book_lists.proofs.ReadingLemmas.{fault_alike, fault_tells, read_as}
+use Rattle.book_lists.proofs.WritingLemmas.{same_value}
 use Rattle.book_reports.specs.BillLines.{billed_outcome, is_unheld, line_period_outcome}
 use Rattle.book_reports.specs.BookTexts.{shown_by}
-use Rattle.book_reports.proofs.ReadingLemmas.{fault_alike, fault_tells, read_as}
-use Rattle.book_reports.proofs.WritingLemmas.{same_value}
 
 -- ---- the last charge before a period
 

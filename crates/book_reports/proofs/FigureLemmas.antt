@@ -13,10 +13,10 @@ use Rattle.book_core.specs.Ledgers.{Seen}
 use Rattle.book_core.specs.Calls.{IsCall}
 use Rattle.report_texts.specs.Figures.{figures_by, lines_in}
 use Rattle.report_texts.specs.declared.figures.Figures.{Figures}
+use Rattle.book_lists.proofs.ReadingLemmas.{IsReading, fault_alike, fault_tells, read_as, read_then}
+use Rattle.book_lists.proofs.WritingLemmas.{same_value}
 use Rattle.book_reports.specs.BookTexts.{shown_by}
 use Rattle.book_reports.specs.Figures.{is_missing, lines_outcome}
-use Rattle.book_reports.proofs.ReadingLemmas.{IsReading, fault_alike, fault_tells, read_as, read_then}
-use Rattle.book_reports.proofs.WritingLemmas.{same_value}
 
 -- what is answered of a period, if there is one, and what is taken of it, if there is one
 abbrev pub answered : {X Y : Type 0} → (Book → X → List Y) → (Book → Option X) → Book

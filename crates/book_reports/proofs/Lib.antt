@@ -1,18 +1,9 @@
 pub mod NumberLemmas
-pub mod WritingLemmas
 pub mod BookLemmas
-pub mod ReadingLemmas
-pub mod ShownLemmas
+pub mod MadeLemmas
 pub mod ReportLemmas
-pub mod FrontLemmas
-pub mod RulingReading
-pub mod StreamedLemmas
-pub mod StreamingLemmas
 pub mod RulingLemmas
-pub mod DisputeReading
 pub mod DisputeLemmas
-pub mod AnsweringLemmas
-pub mod DetailReading
 pub mod DetailLemmas
 pub mod DetailLengths
 pub mod TariffLemmas
@@ -22,7 +13,6 @@ pub mod RecordNameLemmas
 pub mod DetailSums
 pub mod WorkLemmas
 pub mod BillLineLemmas
-pub mod HeldLemmas
 pub mod KeptTariffLemmas
 pub mod BillLemmas
 pub mod PageLemmas

@@ -12,11 +12,11 @@ use Rattle.page_texts.specs.Figures.{FiguresSeen, figures_of, figures_seen}
 use Rattle.page_texts.specs.OfficePage.{office_page_text}
 use Rattle.page_texts.specs.PeriodPage.{period_page_text}
 use Rattle.report_texts.specs.Figures.{number_after, period_open}
+use Rattle.book_lists.specs.Shown.{shown_by}
+use Rattle.book_lists.proofs.WritingLemmas.{same_value}
 use Rattle.book_reports.specs.Figures.{lines_outcome, rows_outcome}
 use Rattle.book_reports.specs.Pages.{first_figures, office_page_outcome, page_figures}
 use Rattle.book_reports.specs.Pages.{page_figures_outcome, period_page_outcome}
-use Rattle.book_reports.specs.Shown.{shown_by}
-use Rattle.book_reports.proofs.WritingLemmas.{same_value}
 
 -- a book that has these rows and lines in a period has these figures of it
 pub figures_known : (naming : Naming) (period : ℕ) (rows : List ChargeRow) (lines : List Line)

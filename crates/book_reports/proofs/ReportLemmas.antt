@@ -10,16 +10,16 @@ use Rattle.book_model.specs.Words.{Answers, Book, Naming}
 use Rattle.book_core.specs.Calls.{IsCall}
 use Rattle.book_core.specs.Ledgers.{Books, in_memory}
 use Rattle.book_core.proofs.MemoryLemmas.{answers_in_memory, stays_in_memory}
-use Rattle.book_reports.specs.declared.fault.ReportFault.{ReportFault}
-use Rattle.book_reports.specs.declared.fault.ReportFault.TheVariants as report
+use Rattle.book_lists.specs.declared.fault.ReportFault.{ReportFault}
+use Rattle.book_lists.specs.declared.fault.ReportFault.TheVariants as report
+use Rattle.book_lists.specs.Writing.{WritesTexts, is_write_or_memory}
+use Rattle.book_lists.proofs.ReadingLemmas.{IsAlike, IsReading, Tells, fault_alike, fault_tells}
+use Rattle.book_lists.proofs.ReadingLemmas.{read_as}
+use Rattle.book_lists.proofs.WritingLemmas.{memory_not_write, nothing_written, prefix_written}
+use Rattle.book_lists.proofs.WritingLemmas.{same_value}
 use Rattle.book_reports.specs.declared.report.Report.{Report}
 use Rattle.book_reports.specs.BookTexts.{report_outcome, shown_by}
 use Rattle.book_reports.specs.Reports.{IsPassedOn, IsReport}
-use Rattle.book_reports.specs.Writing.{WritesTexts, is_write_or_memory}
-use Rattle.book_reports.proofs.ReadingLemmas.{IsAlike, IsReading, Tells, fault_alike, fault_tells}
-use Rattle.book_reports.proofs.ReadingLemmas.{read_as}
-use Rattle.book_reports.proofs.WritingLemmas.{memory_not_write, nothing_written, prefix_written}
-use Rattle.book_reports.proofs.WritingLemmas.{same_value}
 
 -- an answer that is shown says what it said
 shown_alike : (answer : Result (Vec ℕ Global) LedgerFault)

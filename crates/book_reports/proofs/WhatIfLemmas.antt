@@ -11,14 +11,15 @@ use Rattle.book_model.specs.Faults.{refusal_of}
 use Rattle.book_model.specs.Words.{Book, Outcome, Terms, no_event, terms_in}
 use Rattle.book_core.specs.Ledgers.{Seen}
 use Rattle.book_core.specs.Calls.{IsCall}
+use Rattle.book_lists.proofs.ReadingLemmas.{IsAlike, IsReading, Tells, call_failed}
+use Rattle.book_lists.proofs.ReadingLemmas.{passed_on, read_as, read_then}
+use Rattle.book_lists.proofs.WritingLemmas.{same_value}
 use Rattle.book_reports.specs.declared.what_if.StatementForm.TheVariants as shown_as
 use Rattle.book_reports.specs.declared.what_if.WhatIf.{WhatIf}
 use Rattle.book_reports.specs.BookTexts.{IsMadeOf, closed_through, closed_through_outcome}
 use Rattle.book_reports.specs.WhatIfTexts.{form_under, shown_by_both, table_under, text_under}
 use Rattle.book_reports.specs.WhatIfTexts.{what_if_by, what_if_report}
-use Rattle.book_reports.proofs.ReadingLemmas.{IsAlike, IsReading, Tells, call_failed, call_made}
-use Rattle.book_reports.proofs.ReadingLemmas.{passed_on, read_as, read_then}
-use Rattle.book_reports.proofs.WritingLemmas.{same_value}
+use Rattle.book_reports.proofs.MadeLemmas.{call_made}
 
 -- what two answers of a book are shown as
 abbrev pub both : {A B C : Type 0} → (Book → Outcome A) → (Book → Outcome B) → (A → B → C) → Book

@@ -1,9 +1,9 @@
 -- What was worked in a period: the rows of its steps and of its jobs, of details that are read one
 -- after another.
-use Rattle.std.proofs.Common.{◌≡◌, ◌∙◌, ℕ, ◌+◌, ◌<◌, ◌^◌, ℤ, Bool, List, [], ◌∷◌, ◌++◌}
+use Rattle.std.proofs.Common.{◌≡◌, ◌∙◌, ℕ, ◌+◌, ◌<◌, ◌^◌, ℤ, Bool, List}
 use Rattle.std.proofs.Common.{length, map, not, refl, sym, ap, subst, arith}
-use Rattle.std.proofs.Common.{Option, Some, None, Ok, Err}
-use Rattle.std.specs.Prelude.{All, filter, sum_by}
+use Rattle.std.proofs.Common.{Option, Result, Ok, Err}
+use Rattle.std.specs.Prelude.{All, IfOk, filter, sum_by}
 use Rattle.std.specs.BTreeMap.{values}
 use Rattle.std.proofs.lemmas.List.{length-map}
 use Rattle.std.proofs.lemmas.List.Elements.{All-filter, All-map}
@@ -16,23 +16,22 @@ use Rattle.book_model.specs.declared.fault.LedgerFault.{LedgerFault}
 use Rattle.book_model.specs.declared.fault.LedgerFault.TheVariants.{Memory}
 use Rattle.book_model.specs.declared.row.ChargeRow.{ChargeRow}
 use Rattle.book_model.specs.declared.row.RowKey.{RowKey}
-use Rattle.book_model.specs.Words.{AreRows, Book, IsDay, Naming, is_step, jobs_of, next_after}
-use Rattle.book_model.specs.Words.{next_detail_outcome, steps_of, work_rows}
+use Rattle.book_model.specs.Words.{AreRows, IsDay, details_outcome, is_step, jobs_of, steps_of}
+use Rattle.book_model.specs.Words.{work_rows}
 use Rattle.book_core.specs.Calls.{IsCall}
 use Rattle.book_core.specs.Ledgers.{Seen}
 use Rattle.book_core.proofs.KeyedRowLemmas.{rows_under_keys}
 use Rattle.book_core.proofs.ListLimits.{rows_shown, sum_by-rows_of_le}
+use Rattle.book_lists.specs.Cursors.{Folds}
+use Rattle.book_lists.proofs.CursorLemmas.{map_same}
+use Rattle.book_lists.proofs.ReadingLemmas.{by_names}
+use Rattle.book_lists.proofs.ShownLemmas.{answers, answers_none, both_shown, refused_next, shown}
+use Rattle.book_lists.proofs.ShownLemmas.{then_stays}
+use Rattle.book_lists.proofs.WritingLemmas.{same_value}
 use Rattle.book_reports.specs.declared.bill_work.WorkSums.{WorkSums}
-use Rattle.book_reports.specs.declared.streamed_details.DetailReport.{DetailReport}
-use Rattle.book_reports.specs.declared.what_if.StatementForm.TheVariants as form
 use Rattle.book_reports.specs.BillWork.{AreWork, IsWorkOf, work_outcome, work_seen, work_shown}
 use Rattle.book_reports.specs.BookTexts.{closed_through, closed_through_outcome, shown_by}
 use Rattle.book_reports.specs.WorkSums.{AreSumsOf, prices_of}
-use Rattle.book_reports.proofs.DetailReading.{HasRead, all_details, first_read, next_shown}
-use Rattle.book_reports.proofs.DetailReading.{one_more_read, refused_back}
-use Rattle.book_reports.proofs.FrontLemmas.{front_all}
-use Rattle.book_reports.proofs.ReadingLemmas.{by_names}
-use Rattle.book_reports.proofs.ShownLemmas.{answers, answers_none, refused_next, shown}
 
 -- ---- the rows of all
 
@@ -118,19 +117,7 @@ module _ (work : WorkSums) (details : List Detail) (are : AreSumsOf work details
             }));
       }
 
--- ---- details in turn
-
--- the details of a period, or of one centre in it
-abbrev pub report_on : ℕ → Option (List ℕ) → DetailReport
-report_on period centre = record { form = form.Text; period = period; centre = centre }
-
--- details were read, and these are their sums
-pub record WorksSoFar (period : ℕ) (centre : Option (List ℕ)) (old new : Seen) (through : Option ℤ)
-    (next : Option Detail) (work : WorkSums) : Type 0 where
-  pub count : ℕ
-  pub read : List Detail
-  pub far : HasRead (report_on period centre) old new through count read next
-  pub sums : AreSumsOf work read
+-- ---- what was read
 
 -- so these are the rows of all
 work_is : (through : Option ℤ) (details : List Detail) (rows : WorkRows) → IsWorkOf details rows
@@ -141,86 +128,50 @@ work_is through details rows is = λ i. record {
   jobs = sym is.jobs i;
 }
 
--- at first there are none
-pub work_begun : (period : ℕ) (centre : Option (List ℕ)) (old mid new : Seen) (through : Option ℤ)
-    (next : Option Detail) (work : WorkSums) → AreSumsOf work []
-    → IsCall (λ day. day) old mid (Ok through) (closed_through_outcome period)
-    → IsCall (λ found. found) mid new (Ok next) (next_detail_outcome mid.naming period centre None)
-    → WorksSoFar period centre old new through next work
-work_begun period centre old mid new through next work none day call = record {
-  count = 0;
-  read = [];
-  far = first_read (report_on period centre) old mid new through next day call;
-  sums = none;
-}
-
--- a refusal of the next detail is one of the rows
-none_worked : (period : ℕ) (centre : Option (List ℕ)) (naming : Naming) (last : Option Detail)
-    (book : Book) (fault : LedgerFault)
-    → (next_detail_outcome naming period centre last book).answer ≡ Err fault
-    → (work_outcome naming period centre book).answer ≡ Err fault
-none_worked period centre naming last book fault said =
-    ap (shown_by (work_seen (closed_through book period)))
-    (refused_back (next_after last) (all_details (report_on period centre) naming book) fault
-    (sym (next_shown (report_on period centre) naming last book) ∙ said))
-
--- the first detail was refused
-pub work_unbegun : (period : ℕ) (centre : Option (List ℕ)) (old mid new : Seen) (through : Option ℤ)
-    (fault : LedgerFault)
-    → IsCall (λ day. day) old mid (Ok through) (closed_through_outcome period)
-    → IsCall (λ found. found) mid new (Err fault)
-    (next_detail_outcome mid.naming period centre None)
-    → IsCall work_shown old new (Err fault) (work_outcome old.naming period centre)
-work_unbegun period centre old mid new through fault day call =
-    refused_next (Err fault) refl (λ book. refl) (λ book. refl)
-    (λ book known. none_worked period centre old.naming None book fault) (shown (λ book. refl) day)
-    (by_names (λ naming. next_detail_outcome naming period centre None) day.work.naming call)
-
-module _ {period : ℕ} {centre : Option (List ℕ)} {old mid : Seen} {through : Option ℤ}
-    {next : Option Detail} {work : WorkSums}
-    (it : WorksSoFar period centre old mid through next work)
+module _ (period : ℕ) (centre : Option (List ℕ)) {old mid new : Seen} {through : Option ℤ}
+    {result : Result WorkSums LedgerFault}
+    (day : IsCall (λ day. day) old mid (Ok through) (closed_through_outcome period))
+    (it : Folds (λ detail. detail) mid new
+    (λ book. (details_outcome mid.naming period centre book).answer) AreSumsOf result)
   where
-    -- there are no more: these are the rows
-    pub work_ended : (rows : WorkRows) → next ≡ None
-        → ((details : List Detail) → AreSumsOf work details → IsWorkOf details rows)
-        → IsCall work_shown old mid (Ok (record { through = through; rows = rows }))
-        (work_outcome old.naming period centre)
-    work_ended rows last makes =
-        answers _ (λ book. refl)
-        (λ book all.
-        let same : all.details ≡ it.read = sym (front_all all.those last) in
-        ap (shown_by (work_seen (closed_through book period))) all.answered
-        ∙ (λ i. Ok (work_seen (all.closed i) (same i)))
-        ∙ ap Ok (work_is through it.read rows (makes it.read it.sums)))
-        it.far.shows
+    -- the same call by the names that there were
+    its_call : IsCall (λ sums. map (λ detail. detail) it.items) mid new result
+        (details_outcome old.naming period centre)
+    its_call =
+        by_names (λ naming book. details_outcome naming period centre book) day.work.naming it.read
 
-    -- there was no memory
-    pub work_stopped : IsCall work_shown old mid (Err Memory) (work_outcome old.naming period centre)
-    work_stopped = answers_none (λ book. refl) it.far.shows
-
-    -- the ledger refused the next call
-    pub work_refused : (new : Seen) (detail : Detail) (fault : LedgerFault)
-        → IsCall (λ found. found) mid new (Err fault)
-        (next_detail_outcome mid.naming period centre (Some detail))
+    -- the details were refused
+    pub work_refused : (fault : LedgerFault) → result ≡ Err fault
         → IsCall work_shown old new (Err fault) (work_outcome old.naming period centre)
-    work_refused new detail fault call =
+    work_refused fault is =
         refused_next (Err fault) refl (λ book. refl) (λ book. refl)
-        (λ book known. none_worked period centre old.naming (Some detail) book fault) it.far.shows
-        (by_names (λ naming. next_detail_outcome naming period centre (Some detail))
-        it.far.shows.work.naming call)
+        (λ book known. ap (shown_by (work_seen (closed_through book period))))
+        (shown (λ book. refl) day)
+        (subst (λ result. IsCall (λ sums. map (λ detail. detail) it.items) mid new result
+        (details_outcome old.naming period centre)) is its_call)
 
-    -- or it goes on
-    pub work_more : (new : Seen) (detail : Detail) (after : Option Detail) (more : WorkSums)
-        → next ≡ Some detail
-        → ((details : List Detail) → AreSumsOf work details
-        → AreSumsOf more (details ++ detail ∷ []))
-        → IsCall (λ found. found) mid new (Ok after)
-        (next_detail_outcome mid.naming period centre (Some detail))
-        → WorksSoFar period centre old new through after more
-    work_more new detail after more is adds call = record {
-      count = it.count + 1;
-      read = it.read ++ detail ∷ [];
-      far = one_more_read (report_on period centre) old mid new through it.count it.read detail next after is
-          it.far call;
-      sums = adds it.read it.sums;
-    }
+    module _ (sums : WorkSums) (is : result ≡ Ok sums) where
+      read_call : IsCall (λ sums. map (λ detail. detail) it.items) mid new (Ok sums)
+          (details_outcome old.naming period centre)
+      read_call =
+          subst (λ result. IsCall (λ sums. map (λ detail. detail) it.items) mid new result
+          (details_outcome old.naming period centre)) is its_call
+
+      -- there was no memory for their rows
+      pub work_stopped : IsCall work_shown old new (Err Memory) (work_outcome old.naming period centre)
+      work_stopped =
+          answers_none (λ book. refl) (then_stays (λ book. refl) (shown (λ book. refl) day) read_call)
+
+      -- or these are the rows
+      pub work_ended : (rows : WorkRows)
+          → ((details : List Detail) → AreSumsOf sums details → IsWorkOf details rows)
+          → IsCall work_shown old new (Ok (record { through = through; rows = rows }))
+          (work_outcome old.naming period centre)
+      work_ended rows makes =
+          answers _ (λ book. refl)
+          (λ book both.
+          ap (shown_by (work_seen (closed_through book period))) both.next
+          ∙ (λ i. Ok (work_seen (same_value both.first i) (sym (map_same it.items) i)))
+          ∙ ap Ok (work_is through it.items rows
+          (makes it.items (subst (λ result. IfOk result (λ sums. AreSumsOf sums it.items)) is it.has))))
+          (both_shown (λ book. refl) (shown (λ book. refl) day) read_call)

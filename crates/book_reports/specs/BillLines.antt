@@ -7,7 +7,7 @@ use Rattle.book_model.specs.declared.line.Line.{Line}
 use Rattle.book_model.specs.Words.{AreLines, Book, Naming, Outcome, adjustments_outcome}
 use Rattle.book_model.specs.Words.{billed_lines, no_event, period_of_line}
 use Rattle.report_texts.specs.Charges.{plain_lines}
-use Rattle.book_reports.specs.Shown.{shown_by}
+use Rattle.book_lists.specs.Shown.{shown_by}
 
 -- lines that a bill can show
 abbrev pub AreBilled : List BilledLine → Type 0

@@ -5,8 +5,9 @@ use Rattle.book_model.specs.declared.detail.Detail.{Detail}
 use Rattle.book_model.specs.declared.row.ChargeRow.{ChargeRow}
 use Rattle.book_model.specs.Words.{AreRows, Book, Naming, Outcome, details_outcome, jobs_of, no_event}
 use Rattle.book_model.specs.Words.{steps_of, work_rows}
+use Rattle.book_lists.specs.Shown.{shown_by}
 use Rattle.book_reports.specs.declared.bill_work.PeriodWork.{PeriodWork}
-use Rattle.book_reports.specs.Shown.{closed_through, shown_by}
+use Rattle.book_reports.specs.Shown.{closed_through}
 
 -- rows of steps and of jobs that a bill can show: with what lines charge, 64 bits hold what they cost
 pub record AreWork (steps jobs : List ChargeRow) : Type 0 where

@@ -5,10 +5,11 @@ use Rattle.book_model.specs.Words.{BillSeen, Book, Naming, Outcome, bill_outcome
 use Rattle.report_texts.specs.BillTables.{bill_table, office_bill_table}
 use Rattle.report_texts.specs.BillTexts.{bill_text}
 use Rattle.report_texts.specs.OfficeBills.{office_bill_text}
+use Rattle.book_lists.specs.Shown.{shown_by}
 use Rattle.book_reports.specs.declared.bills.PeriodBill.{PeriodBill}
 use Rattle.book_reports.specs.declared.what_if.StatementForm.{StatementForm}
 use Rattle.book_reports.specs.declared.what_if.StatementForm.TheVariants.{Text, Table}
-use Rattle.book_reports.specs.Shown.{closed_through, shown_by}
+use Rattle.book_reports.specs.Shown.{closed_through}
 
 -- a bill, and the day that its period was closed through, if it was
 pub record PeriodBillSeen : Type 0 where

@@ -25,6 +25,7 @@ use Rattle.report_texts.specs.DisputeTables.{dispute_table}
 use Rattle.report_texts.specs.PeriodLists.{period_list_text}
 use Rattle.report_texts.specs.RulingLists.{ruling_list_text}
 use Rattle.report_texts.specs.RecordTexts.{record_text}
+pub use Rattle.book_lists.specs.Shown.{shown_by}
 use Rattle.book_reports.specs.declared.report.PeriodReport.{PeriodReport}
 use Rattle.book_reports.specs.declared.report.PeriodReport.TheVariants.{AdjustmentList, Statement}
 use Rattle.book_reports.specs.declared.report.PeriodReport.TheVariants.{AdjustmentTable}
@@ -36,7 +37,7 @@ use Rattle.book_reports.specs.declared.report.Report.TheVariants.{PeriodPage, Re
 use Rattle.book_reports.specs.declared.report.Report.TheVariants.{TariffText}
 use Rattle.book_reports.specs.Bills.{bill_answer}
 use Rattle.book_reports.specs.Pages.{office_page_answer, period_page_answer}
-pub use Rattle.book_reports.specs.Shown.{closed_through, closed_through_outcome, shown_by}
+pub use Rattle.book_reports.specs.Shown.{closed_through, closed_through_outcome}
 
 -- the centre that a text names, if it is a name
 abbrev pub centre_named : List ℕ → Option (List ℕ)

@@ -1,8 +1,8 @@
 -- Read in this order: the lines of receipts and of check lists, the names of records as they are
--- spelled, answers that are shown, the parts of a bill and the bill as a whole, pages, the texts that
--- books answer, also by another tariff, the figures of a period, the faults, what a writer gains, a
--- report as a whole, lists that are written while they are read, also those that books may refuse, and
--- the sums of what was worked.
+-- spelled, the day of a close, the parts of a bill and the bill as a whole, pages, the texts that
+-- books answer, that of a tariff, the same by another tariff, the figures of a period, a report as a whole, lists that are
+-- written while they are read, also those that books may refuse, the sums of what was worked, and
+-- how long the text of details is.
 pub mod ReceiptLines
 pub mod CheckLists
 pub mod RecordNames
@@ -15,13 +15,13 @@ pub mod BillTariffs
 pub mod Bills
 pub mod Pages
 pub mod BookTexts
+pub mod RulingTexts
 pub mod WhatIfTexts
 pub mod Figures
-pub mod Faults
-pub mod Writing
 pub mod Reports
 pub mod StreamedRulings
 pub mod StreamedAnswers
 pub mod StreamedDisputes
 pub mod StreamedDetails
 pub mod WorkSums
+pub mod DetailLengths

@@ -8,7 +8,7 @@ use Rattle.page_texts.specs.Figures.{FiguresSeen, figures_of}
 use Rattle.page_texts.specs.OfficePage.{office_page_text}
 use Rattle.page_texts.specs.PeriodPage.{period_page_text}
 use Rattle.report_texts.specs.Figures.{lines_in, period_open, rows_in}
-use Rattle.book_reports.specs.Shown.{shown_by}
+use Rattle.book_lists.specs.Shown.{shown_by}
 
 -- what the page of the office shows of a period
 abbrev pub page_figures : Naming → ℕ → Book → FiguresSeen

@@ -6,11 +6,11 @@ use Rattle.streams.specs.InputOutput.{Output}
 use Rattle.book_model.specs.declared.fault.LedgerFault.{LedgerFault}
 use Rattle.book_core.specs.Ledgers.{Books}
 use Rattle.book_core.specs.Calls.{IsCall}
-use Rattle.book_reports.specs.declared.fault.ReportFault.{ReportFault}
-use Rattle.book_reports.specs.declared.fault.ReportFault.TheVariants.{Write}
+use Rattle.book_lists.specs.declared.fault.ReportFault.{ReportFault}
+use Rattle.book_lists.specs.declared.fault.ReportFault.TheVariants.{Write}
+use Rattle.book_lists.specs.Faults.{report_fault_of}
 use Rattle.book_reports.specs.declared.report.Report.{Report}
 use Rattle.book_reports.specs.BookTexts.{report_outcome}
-use Rattle.book_reports.specs.Faults.{report_fault_of}
 
 -- A text was written whole; or a write failed, and the writer has a prefix that is not the whole.
 abbrev pub IsWritten : {A : Type 0} → List ℕ → Output → Result A ReportFault → Type 0

@@ -1,13 +1,7 @@
--- An answer with its value shown, and the day that a period was closed through.
-use Rattle.std.specs.Prelude.{ℕ, ℤ, Option, Result, Ok, Err}
+-- The day that a period was closed through.
+use Rattle.std.specs.Prelude.{ℕ, ℤ, Option, Ok}
 use Rattle.book_model.specs.RulingAnswers.{through_of}
-use Rattle.book_model.specs.declared.fault.LedgerFault.{LedgerFault}
 use Rattle.book_model.specs.Words.{Book, Outcome, no_event}
-
--- the answer with its value shown; a refusal stays one
-abbrev pub shown_by : {V A : Type 0} → (V → A) → Result V LedgerFault → Result A LedgerFault
-shown_by show (Ok value) = Ok (show value)
-shown_by show (Err fault) = Err fault
 
 -- the day that a period was closed through, if it is closed
 abbrev pub closed_through : Book → ℕ → Option ℤ

@@ -6,15 +6,17 @@ use Rattle.book_model.specs.declared.fault.LedgerFault.{LedgerFault}
 use Rattle.book_model.specs.Words.{Book, Naming, Outcome, details_outcome, no_event}
 use Rattle.book_core.specs.Transition.{Transition}
 use Rattle.report_texts.specs.DetailLists.{detail_head, detail_line, detail_list_text, detail_total}
+use Rattle.std.proofs.Common.{arith, length-append}
+use Rattle.report_texts.specs.Periods.{title_line}
 use Rattle.report_texts.specs.DetailTables.{detail_row, detail_table, details_heading}
-use Rattle.book_reports.specs.declared.fault.ReportFault.{ReportFault}
+use Rattle.book_lists.specs.declared.fault.ReportFault.{ReportFault}
+use Rattle.book_lists.specs.Streamed.{WritesAnswerUntil}
+use Rattle.book_lists.specs.Streamed.{WritesSome}
 use Rattle.book_reports.specs.declared.streamed_details.DetailReport.{DetailReport}
 use Rattle.book_reports.specs.declared.streamed_details.Sums.{Sums}
 use Rattle.book_reports.specs.declared.what_if.StatementForm.{StatementForm}
 use Rattle.book_reports.specs.declared.what_if.StatementForm.TheVariants as form
 use Rattle.book_reports.specs.BookTexts.{closed_through, shown_by}
-use Rattle.book_reports.specs.StreamedAnswers.{WritesAnswerUntil}
-use Rattle.book_reports.specs.StreamedRulings.{WritesSome}
 
 -- the text of some details, by the day that the period was closed through, if it was
 abbrev pub text_in : StatementForm → DetailReport → Option ℤ → List Detail → List ℕ
@@ -97,3 +99,14 @@ abbrev pub WritesSomeDetails : DetailReport → Option (List ℕ) → Option (Li
     → Result (Unit {0}) ReportFault → Type 0
 WritesSomeDetails report =
     WritesSome {X = Option ℤ × List Detail} (λ of. details_text report of.0 of.1)
+
+-- something stands above them
+some_above_in : (shape : StatementForm) (report : DetailReport) (through : Option ℤ)
+    → 0 < length (head_in shape report through)
+unfolding title_line details_heading
+some_above_in form.Text report through = simp length-append (omega arith)
+some_above_in form.Table report through = simp length-append (omega arith)
+
+pub some_above_details : (report : DetailReport) (through : Option ℤ)
+    → 0 < length (details_head report through)
+some_above_details report through = some_above_in report.form report through

@@ -14,8 +14,9 @@ ghost use Rattle.book_reports.specs.StreamedDetails as streamed;
 ghost use Rattle.book_reports.specs.WorkSums.{Prices, SumsFit};
 
 use crate::book_texts::closed_through;
-use crate::streamed_details::{MOST_DETAILS, NO_SUMS, Sums, with_detail};
+use crate::streamed_details::{NO_SUMS, Sums, with_detail};
 use book_core::{ChargeRow, Detail, Ledger, LedgerFault, RowKey, empty_row, key_of, row_with};
+use book_lists::{DetailCursor, Step, fold};
 use book_model::WorkRows;
 use smf_text::Name;
 use std::alloc::{AllocError, Global};
@@ -133,6 +134,28 @@ impl WorkSums {
     }
 }
 
+/// Sums up what was worked.
+struct WorkStep;
+
+impl Step<Detail> for WorkStep {
+    ghost use Rattle.book_model.specs.Words.{IsDay};
+    ghost use Rattle.book_reports.specs.WorkSums.{AreSumsOf};
+
+    type State = WorkSums;
+
+    ghost Takes = { λ step detail. IsDay detail.priced.day };
+
+    ghost Has = { λ step sums details. AreSumsOf sums details };
+
+    fn begin(&self, alloc: Global) -> Result<WorkSums, AllocError> {
+        Ok(WorkSums::new(alloc))
+    }
+
+    fn add(&self, _alloc: Global, sums: &mut WorkSums, detail: &Detail) -> Result<(), LedgerFault> {
+        sums.add(detail)
+    }
+}
+
 /// What was worked in a period, for the centre that is named or for the whole office.
 pub(crate) fn period_work<L: Ledger>(
     alloc: Global,
@@ -146,16 +169,11 @@ pub(crate) fn period_work<L: Ledger>(
     ensures rows { IfOk result (λ work. AreWork work.rows.steps.items work.rows.jobs.items) }
 {
     let through = closed_through(ledger, period)?;
-    let mut next = ledger.next_detail(period, *centre, None)?;
-    let mut sums = WorkSums::new(alloc);
-    'details: for _ in 0..MOST_DETAILS {
-        let Some(detail) = next else {
-            let rows = sums.into_rows(alloc)?;
-            return Ok(PeriodWork { through, rows });
-        };
-        sums.add(&detail)?;
-        next = ledger.next_detail(period, *centre, Some(detail))?;
-    }
-    // Only a ledger that lies has more.
-    Err(LedgerFault::Memory)
+    let details = DetailCursor {
+        period,
+        centre: *centre,
+    };
+    let sums = fold(alloc, ledger, &details, &WorkStep)?;
+    let rows = sums.into_rows(alloc)?;
+    Ok(PeriodWork { through, rows })
 }

@@ -9,10 +9,18 @@ ghost use Rattle.book_reports.specs.StreamedDetails as spec;
 
 use crate::book_texts::closed_through;
 use crate::streamed_details::{
-    DetailReport, MOST_DETAILS, NO_SUMS, Sums, detail_after, end_of, head_of, part_of, with_detail,
+    DetailReport, NO_SUMS, Sums, end_of, head_of, part_of, with_detail,
 };
 use book_core::{Detail, Ledger, LedgerFault};
+use book_lists::{DetailCursor, Step, fold};
 use std::alloc::{AllocError, Global};
+
+/// How many details there are, what they come to, and how many bytes their lines have.
+#[derive(Clone, Copy)]
+pub(crate) struct Counted {
+    sums: Sums,
+    size: usize,
+}
 
 /// How many bytes stand above the details.
 fn size_of_head(
@@ -53,19 +61,61 @@ fn count_detail(
     Ok(())
 }
 
-/// How many bytes there are with those that stand below the details.
-fn size_with_end(
+/// Counts details, and the bytes of their lines.
+#[derive(Drop)]
+struct LengthStep {
+    report: DetailReport,
+}
+
+impl Step<Detail> for LengthStep {
+    ghost use Rattle.book_model.specs.Words.{IsDay};
+    ghost use Rattle.book_reports.specs.DetailLengths.{AreCounted};
+
+    type State = Counted;
+
+    ghost Takes = { λ step detail. IsDay detail.priced.day };
+
+    ghost Has = { λ step counted details. AreCounted step.report counted details };
+
+    fn begin(&self, _alloc: Global) -> Result<Counted, AllocError> {
+        Ok(Counted {
+            sums: NO_SUMS,
+            size: 0,
+        })
+    }
+
+    fn add(
+        &self,
+        alloc: Global,
+        counted: &mut Counted,
+        detail: &Detail,
+    ) -> Result<(), LedgerFault> {
+        count_detail(
+            alloc,
+            &self.report,
+            detail,
+            &mut counted.sums,
+            &mut counted.size,
+        )
+    }
+}
+
+/// How many bytes there are with those that stand above the lines and below them.
+fn size_in_all(
     alloc: Global,
     report: &DetailReport,
-    sums: Sums,
-    size: usize,
+    above: usize,
+    counted: Counted,
 ) -> Result<usize, LedgerFault>
-    ensures whole { IfOk result
-        (λ whole. whole ≡ size + length (spec.details_end report.now sums)) }
+    ensures whole { IfOk result (λ whole. whole
+        ≡ above + counted.size + length (spec.details_end report.now counted.sums)) }
     ensures fault { IfErr result (λ fault. fault ≡ LedgerFault.Memory) }
 {
-    let end = end_of(alloc, report, sums)?;
-    match size.checked_add(end.len()) {
+    let end = end_of(alloc, report, counted.sums)?;
+    let Some(lines) = above.checked_add(counted.size) else {
+        return Err(LedgerFault::Memory);
+    };
+    match lines.checked_add(end.len()) {
         Some(whole) => Ok(whole),
         None => Err(LedgerFault::Memory),
     }
@@ -82,16 +132,11 @@ pub fn details_length<L: Ledger>(
         (spec.detail_length_outcome report (L.seen ledger.old).naming) }
 {
     let through = closed_through(ledger, report.period)?;
-    let mut next = detail_after(ledger, &report, None)?;
-    let mut size = size_of_head(alloc, &report, through)?;
-    let mut sums = NO_SUMS;
-    'details: for _ in 0..MOST_DETAILS {
-        let Some(detail) = next else {
-            return size_with_end(alloc, &report, sums, size);
-        };
-        count_detail(alloc, &report, &detail, &mut sums, &mut size)?;
-        next = detail_after(ledger, &report, Some(detail))?;
-    }
-    // Only a ledger that lies has more.
-    Err(LedgerFault::Memory)
+    let details = DetailCursor {
+        period: report.period,
+        centre: report.centre,
+    };
+    let counted = fold(alloc, ledger, &details, &LengthStep { report })?;
+    let above = size_of_head(alloc, &report, through)?;
+    size_in_all(alloc, &report, above, counted)
 }

@@ -6,18 +6,17 @@ ghost use Rattle.std.specs.Prelude.{◌≡◌, ◌∷◌, [], false, IfErr, None
 ghost use Rattle.streams.specs.InputOutput.{output};
 ghost use Rattle.streams.specs.Sinks.{writer_of, has_failed};
 ghost use Rattle.book_core.specs.Ledgers.{books};
+ghost use Rattle.book_lists.specs.Writing.{WritesTexts, is_write_fault};
 ghost use Rattle.book_reports.specs.BookTexts.{shown_by};
 ghost use Rattle.book_reports.specs.ReceiptLines as lines;
 ghost use Rattle.book_reports.specs.Reports.{IsPassedOn, IsReport};
-ghost use Rattle.book_reports.specs.Writing.{WritesTexts, is_write_fault};
 
 use crate::book_texts::report_text;
-use crate::fault::ReportFault;
-use crate::output::{write_bytes, write_text};
 use crate::receipt_lines::receipt_line_text;
 use crate::report::{PeriodReport, Report};
 use book_core::{Ledger, LedgerFault, Sink};
 use book_import::Receipt;
+use book_lists::{ReportFault, write_bytes, write_text};
 use std::alloc::Global;
 use streams::Writer;
 

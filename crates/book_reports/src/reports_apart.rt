@@ -5,13 +5,13 @@ ghost use Rattle.std.specs.Prelude.{◌≡◌, None, false};
 ghost use Rattle.streams.specs.InputOutput.{output};
 ghost use Rattle.streams.specs.Sinks.{has_failed};
 ghost use Rattle.book_core.specs.Ledgers.{books};
+ghost use Rattle.book_lists.specs.Writing.{is_write_fault};
 ghost use Rattle.book_reports.specs.Reports.{IsReport};
-ghost use Rattle.book_reports.specs.Writing.{is_write_fault};
 
-use crate::fault::ReportFault;
 use crate::report::{PeriodReport, Report};
 use crate::reports::write_report;
 use book_core::{Ledger, Sink};
+use book_lists::ReportFault;
 use std::alloc::Global;
 use streams::Writer;
 

@@ -1,23 +1,20 @@
 //! The details of a period, written as they are read: a list of millions of lines is never made
 //! whole. What is held of it is one detail, and the lines that wait to be written.
 
-ghost use Rattle.std.specs.Prelude.{◌≡◌, ◌++◌, ◌<◌, IfErr, IfOk, IfSome, None, OnOk};
-ghost use Rattle.std.specs.Prelude.{false, length, true};
+ghost use Rattle.std.specs.Prelude.{◌≡◌, IfOk, IfSome, None, false};
 ghost use Rattle.std.specs.Option.{ForSome};
 ghost use Rattle.streams.specs.Sinks.{has_failed, writer_of};
-ghost use Rattle.book_model.specs.Words.{IsDay, ShowsDetail, next_detail_outcome};
-ghost use Rattle.book_core.specs.Calls.{IsCall, Reopens};
+ghost use Rattle.book_model.specs.Words.{IsDay};
+ghost use Rattle.book_core.specs.Calls.{Reopens};
 ghost use Rattle.book_core.specs.Transition.{IsTransition};
+ghost use Rattle.book_lists.specs.Streamed.{refusal_in};
+ghost use Rattle.book_lists.specs.Writing.{is_write_fault};
 ghost use Rattle.book_reports.specs.StreamedDetails as spec;
-ghost use Rattle.book_reports.specs.StreamedRulings.{LeavesSome, WritesAllBut, refusal_in};
-ghost use Rattle.book_reports.specs.Writing.{WritesPrefix, WritesUntil, is_write_fault};
-ghost use Rattle.book_reports.specs.Writing.{is_write_or_memory};
 
 use crate::book_texts::closed_through;
-use crate::fault::ReportFault;
-use crate::waiting::{flush, push_part};
 use crate::what_if::StatementForm;
 use book_core::{Detail, Ledger, LedgerFault, Sink};
+use book_lists::{DetailCursor, Lines, ReportFault, Step, write_list};
 use report_texts::{detail_head, detail_row, detail_table_head, detail_total, push_detail_line};
 use smf_text::Name;
 use std::alloc::{AllocError, Global};
@@ -52,9 +49,6 @@ pub(crate) const NO_SUMS: Sums = Sums {
     blocks: 0,
     amount: 0,
 };
-
-/// More details than any books have.
-pub(crate) const MOST_DETAILS: u64 = 1 << 32;
 
 /// The sums with one more detail, if 64 bits hold them. Those of sound books do.
 pub(crate) fn with_detail(sums: Sums, detail: &Detail) -> Option<Sums>
@@ -127,70 +121,61 @@ pub(crate) fn end_of(
     }
 }
 
-/// Counts one more detail, and adds its line to what waits, of which it writes some.
-fn push_detail<W: Writer + Drop>(
-    alloc: Global,
-    report: &DetailReport,
-    detail: &Detail,
-    sums: &mut Sums,
-    waiting: &mut Vec<u8>,
-    sink: &mut Sink<W>,
-) -> Result<(), ReportFault>
-    requires day { IsDay detail.now.priced.day }
-    requires unwritten { has_failed sink.old ≡ false }
-    ensures sums { OnOk result (sums.new ≡ spec.with_detail sums.old detail.now) }
-    ensures written { WritesAllBut
-        (waiting.old.items ++ spec.details_part report.now detail.now)
-        waiting.new.items (W.contents (writer_of sink.old)) (W.contents (writer_of sink.new))
-        result }
-    ensures left { LeavesSome
-        (waiting.old.items ++ spec.details_part report.now detail.now)
-        waiting.new.items (W.contents (writer_of sink.old)) (W.contents (writer_of sink.new))
-        result }
-    ensures failed { has_failed sink.new ≡ is_write_fault result }
-    ensures fault { IfErr result (λ fault. is_write_or_memory fault ≡ true) }
-{
-    let Some(more) = with_detail(*sums, detail) else {
-        return Err(ReportFault::Memory);
-    };
-    *sums = more;
-    let part = part_of(alloc, report, detail)?;
-    push_part(waiting, &part, sink)
+/// How details are shown, of a period that was closed through a day or is open.
+#[derive(Drop)]
+pub(crate) struct DetailLines {
+    report: DetailReport,
+    through: Option<i32>,
+    ghost day: { ForSome through IsDay },
 }
 
-/// Adds what stands below the details to what waits, and writes it all.
-fn write_end<W: Writer + Drop>(
-    alloc: Global,
-    report: &DetailReport,
-    sums: Sums,
-    waiting: &mut Vec<u8>,
-    sink: &mut Sink<W>,
-) -> Result<(), ReportFault>
-    requires { has_failed sink.old ≡ false }
-    ensures written { WritesPrefix (waiting.old.items ++ spec.details_end report.now sums)
-        (W.contents (writer_of sink.old)) (W.contents (writer_of sink.new)) result }
-    ensures until { 0 < length waiting.old.items
-        → WritesUntil (waiting.old.items ++ spec.details_end report.now sums)
-        (W.contents (writer_of sink.old)) (W.contents (writer_of sink.new)) result }
-    ensures failed { has_failed sink.new ≡ is_write_fault result }
-    ensures fault { IfErr result (λ fault. is_write_or_memory fault ≡ true) }
-{
-    let end = end_of(alloc, report, sums)?;
-    waiting.extend_from_slice(&end)?;
-    flush(waiting, sink)
+impl Step<Detail> for DetailLines {
+    ghost use Rattle.std.specs.Prelude.{◌≡◌};
+    ghost use Rattle.book_model.specs.Words.{IsDay};
+    ghost use Rattle.book_reports.specs.StreamedDetails.{sums_of};
+
+    type State = Sums;
+
+    ghost Takes = { λ lines detail. IsDay detail.priced.day };
+
+    ghost Has = { λ lines sums details. sums ≡ sums_of details };
+
+    fn begin(&self, _alloc: Global) -> Result<Sums, AllocError> {
+        Ok(NO_SUMS)
+    }
+
+    fn add(&self, _alloc: Global, sums: &mut Sums, detail: &Detail) -> Result<(), LedgerFault> {
+        let Some(more) = with_detail(*sums, detail) else {
+            return Err(LedgerFault::Memory);
+        };
+        *sums = more;
+        Ok(())
+    }
 }
 
-/// The first of the details that comes after one, or the first of all.
-pub(crate) fn detail_after<L: Ledger>(
-    ledger: &mut L,
-    report: &DetailReport,
-    last: Option<Detail>,
-) -> Result<Option<Detail>, LedgerFault>
-    ensures detail { IsCall (λ found. found) (L.seen ledger.old) (L.seen ledger.new) result
-        (next_detail_outcome (L.seen ledger.old).naming report.now.period report.now.centre last) }
-    ensures shown { IfOk result ShowsDetail }
-{
-    ledger.next_detail(report.period, report.centre, last)
+impl Lines<Detail> for DetailLines {
+    ghost use Rattle.book_reports.specs.StreamedDetails.{details_end, details_head, details_part};
+    ghost use Rattle.book_reports.specs.StreamedDetails.{some_above_details, sums_of};
+
+    ghost above = { λ lines. details_head lines.report lines.through };
+
+    ghost part = { λ lines number detail. details_part lines.report detail };
+
+    ghost below = { λ lines details. details_end lines.report (sums_of details) };
+
+    fn head(&self, alloc: Global) -> Result<Vec<u8>, AllocError> {
+        head_of(alloc, &self.report, self.through)
+    }
+
+    fn line(&self, alloc: Global, _number: u64, detail: &Detail) -> Result<Vec<u8>, AllocError> {
+        part_of(alloc, &self.report, detail)
+    }
+
+    fn end(&self, alloc: Global, sums: &Sums) -> Result<Vec<u8>, AllocError> {
+        end_of(alloc, &self.report, *sums)
+    }
+
+    ghost some = { λ lines. some_above_details lines.report lines.through };
 }
 
 /// Writes the details of a period, of the office or of one centre: all of them, or, before a fault,
@@ -213,19 +198,9 @@ pub fn write_details<L: Ledger, W: Writer + Drop>(
     ensures failed { has_failed sink.old ≡ false → has_failed sink.new ≡ is_write_fault result }
 {
     let through = closed_through(ledger, report.period)?;
-    let mut next = detail_after(ledger, &report, None)?;
-    if sink.failed() {
-        return Err(ReportFault::Write);
-    }
-    let mut waiting = head_of(alloc, &report, through)?;
-    let mut sums = NO_SUMS;
-    'details: for _ in 0..MOST_DETAILS {
-        let Some(detail) = next else {
-            return write_end(alloc, &report, sums, &mut waiting, sink);
-        };
-        push_detail(alloc, &report, &detail, &mut sums, &mut waiting, sink)?;
-        next = detail_after(ledger, &report, Some(detail))?;
-    }
-    // Only a ledger that lies has more.
-    Err(ReportFault::Memory)
+    let details = DetailCursor {
+        period: report.period,
+        centre: report.centre,
+    };
+    write_list(alloc, ledger, &details, &DetailLines { report, through }, sink)
 }

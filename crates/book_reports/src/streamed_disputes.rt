@@ -1,20 +1,20 @@
 //! The disputes, written as they are read: with a million records in dispute the list has 150 MB, and
 //! is never made whole. What is held of it is one dispute, and the lines that wait to be written.
 
-ghost use Rattle.std.specs.Prelude.{◌≡◌, ◌++◌, ◌<◌, ◌∷◌, [], IfErr, IfOk, false, length, true};
+ghost use Rattle.std.specs.Prelude.{◌≡◌, IfOk, false};
 ghost use Rattle.streams.specs.Sinks.{has_failed, writer_of};
 ghost use Rattle.book_model.specs.Words.{IsDispute, dispute_shown};
 ghost use Rattle.book_core.specs.Calls.{IsCall, Reopens};
 ghost use Rattle.book_core.specs.Transition.{IsTransition};
+ghost use Rattle.book_lists.specs.Streamed.{refusal_in};
+ghost use Rattle.book_lists.specs.Writing.{is_write_fault};
 ghost use Rattle.book_reports.specs.StreamedDisputes.{WritesDisputes, WritesSomeDisputes};
+ghost use Rattle.book_reports.specs.StreamedDisputes as spec;
 ghost use Rattle.book_reports.specs.StreamedDisputes.{dispute_count_outcome, disputes_head};
 ghost use Rattle.book_reports.specs.StreamedDisputes.{disputes_part};
-ghost use Rattle.book_reports.specs.StreamedRulings.{LeavesSome, WritesAllBut, refusal_in};
-ghost use Rattle.book_reports.specs.Writing.{is_write_fault, is_write_or_memory};
 
-use crate::fault::ReportFault;
-use crate::waiting::{flush, push_part};
 use book_core::{Dispute, Ledger, LedgerFault, Sink};
+use book_lists::{DisputeCursor, Lines, ReportFault, Step, fold, write_list};
 use report_texts::{dispute_list_head, dispute_rows, dispute_table_head, push_dispute};
 use std::alloc::{AllocError, Global};
 use streams::Writer;
@@ -27,9 +27,6 @@ pub enum DisputeForm {
     /// A table of comma-separated values.
     Table,
 }
-
-/// More disputes than any books have.
-pub(crate) const MOST_DISPUTES: u64 = 1 << 32;
 
 /// What stands above so many disputes.
 fn head_of(alloc: Global, form: DisputeForm, count: u64) -> Result<Vec<u8>, AllocError>
@@ -62,51 +59,143 @@ fn part_of(
     }
 }
 
-/// Adds the lines of a dispute to what waits, which is written before where it is much. In a table
-/// a dispute without records has no line: then what waits stays.
-fn push_lines<W: Writer + Drop>(
-    waiting: &mut Vec<u8>,
-    lines: &[u8],
-    sink: &mut Sink<W>,
-) -> Result<(), ReportFault>
-    requires { has_failed sink.old ≡ false }
-    ensures written { WritesAllBut (waiting.old.items ++ lines.now) waiting.new.items
-        (W.contents (writer_of sink.old)) (W.contents (writer_of sink.new)) result }
-    ensures left { 0 < length waiting.old.items
-        → LeavesSome (waiting.old.items ++ lines.now) waiting.new.items
-        (W.contents (writer_of sink.old)) (W.contents (writer_of sink.new)) result }
-    ensures failed { has_failed sink.new ≡ is_write_fault result }
-    ensures fault { IfErr result (λ fault. is_write_or_memory fault ≡ true) }
-{
-    if lines.is_empty() {
-        return Ok(());
-    }
-    push_part(waiting, lines, sink)
-}
+/// Counts disputes.
+struct CountStep;
 
-/// The bytes from which the dispute after this one is the first: a zero byte behind its identity.
-pub(crate) fn bytes_after(dispute: Dispute) -> Result<Vec<u8>, AllocError>
-    ensures { IfOk result (λ bytes. bytes.items ≡ dispute.identity.items ++ 0 ∷ []) }
-{
-    let mut bytes = dispute.identity;
-    bytes.push(0)?;
-    Ok(bytes)
+impl Step<Dispute> for CountStep {
+    ghost use Rattle.std.specs.Prelude.{◌≡◌, length};
+
+    type State = u64;
+
+    ghost Takes = { λ step dispute. Unit {0} };
+
+    ghost Has = { λ step count disputes. count ≡ length disputes };
+
+    fn begin(&self, _alloc: Global) -> Result<u64, AllocError> {
+        Ok(0)
+    }
+
+    fn add(
+        &self,
+        _alloc: Global,
+        count: &mut u64,
+        _dispute: &Dispute,
+    ) -> Result<(), LedgerFault> {
+        let Some(more) = count.checked_add(1) else {
+            return Err(LedgerFault::Memory);
+        };
+        *count = more;
+        Ok(())
+    }
 }
 
 /// How many disputes there are. Each is read for it, one at a time.
-pub(crate) fn count_disputes<L: Ledger>(ledger: &mut L) -> Result<u64, LedgerFault>
+pub(crate) fn count_disputes<L: Ledger>(
+    alloc: Global,
+    ledger: &mut L,
+) -> Result<u64, LedgerFault>
     ensures { IsCall (λ count. count) (L.seen ledger.old) (L.seen ledger.new) result
         (dispute_count_outcome (L.seen ledger.old).naming) }
 {
-    let mut next = ledger.dispute_from(&[])?;
-    for before in 0..MOST_DISPUTES {
-        let Some(dispute) = next else {
-            return Ok(before);
-        };
-        let from = bytes_after(dispute)?;
-        next = ledger.dispute_from(&from)?;
+    fold(alloc, ledger, &DisputeCursor, &CountStep)
+}
+
+/// The lines of a dispute after so many others, where so many were counted. Only a ledger that lies
+/// has more.
+fn counted_part(
+    alloc: Global,
+    form: DisputeForm,
+    count: u64,
+    number: u64,
+    dispute: &Dispute,
+) -> Result<Vec<u8>, AllocError>
+    requires { IsDispute (dispute_shown dispute.now) }
+    ensures { IfOk result (λ part.
+        part.items ≡ spec.counted_part form count number (dispute_shown dispute.now)) }
+{
+    if count <= number {
+        return Ok(Vec::new(alloc));
     }
-    Err(LedgerFault::Memory)
+    part_of(alloc, form, number + 1, dispute)
+}
+
+/// What stands below so many disputes, where so many were counted: nothing. Only a ledger that lies
+/// has fewer.
+fn end_of(
+    alloc: Global,
+    form: DisputeForm,
+    count: u64,
+    number: u64,
+) -> Result<Vec<u8>, AllocError>
+    ensures { IfOk result (λ end. end.items ≡ spec.missing_lines form count number) }
+{
+    if number < count {
+        return Err(AllocError);
+    }
+    Ok(Vec::new(alloc))
+}
+
+/// How disputes are shown, of which so many were counted.
+#[derive(Drop)]
+struct DisputeLines {
+    form: DisputeForm,
+    count: u64,
+}
+
+impl Step<Dispute> for DisputeLines {
+    ghost use Rattle.std.specs.Prelude.{◌≡◌, length};
+    ghost use Rattle.book_model.specs.Words.{IsDispute, dispute_shown};
+
+    type State = u64;
+
+    ghost Takes = { λ lines dispute. IsDispute (dispute_shown dispute) };
+
+    ghost Has = { λ lines number disputes. number ≡ length disputes };
+
+    fn begin(&self, _alloc: Global) -> Result<u64, AllocError> {
+        Ok(0)
+    }
+
+    fn add(
+        &self,
+        _alloc: Global,
+        number: &mut u64,
+        _dispute: &Dispute,
+    ) -> Result<(), LedgerFault> {
+        let Some(more) = number.checked_add(1) else {
+            return Err(LedgerFault::Memory);
+        };
+        *number = more;
+        Ok(())
+    }
+}
+
+impl Lines<Dispute> for DisputeLines {
+    ghost use Rattle.std.specs.Prelude.{length};
+    ghost use Rattle.book_model.specs.Words.{dispute_shown};
+    ghost use Rattle.book_reports.specs.StreamedDisputes.{counted_part, disputes_head};
+    ghost use Rattle.book_reports.specs.StreamedDisputes.{missing_lines, some_above_disputes};
+
+    ghost above = { λ lines. disputes_head lines.form lines.count };
+
+    ghost part = { λ lines number dispute.
+        counted_part lines.form lines.count number (dispute_shown dispute) };
+
+    ghost below = { λ lines disputes. missing_lines lines.form lines.count (length disputes) };
+
+    fn head(&self, alloc: Global) -> Result<Vec<u8>, AllocError> {
+        head_of(alloc, self.form, self.count)
+    }
+
+    fn line(&self, alloc: Global, number: u64, dispute: &Dispute) -> Result<Vec<u8>, AllocError> {
+        counted_part(alloc, self.form, self.count, number, dispute)
+    }
+
+    fn end(&self, alloc: Global, number: &u64) -> Result<Vec<u8>, AllocError> {
+        end_of(alloc, self.form, self.count, *number)
+    }
+
+    ghost some = { λ lines. some_above_disputes lines.form lines.count };
 }
 
 /// Writes the disputes: all of them, or, before a fault, a prefix of their text that is not the
@@ -128,20 +217,6 @@ pub fn write_disputes<L: Ledger, W: Writer + Drop>(
         (W.contents (writer_of sink.old)) (W.contents (writer_of sink.new)) result }
     ensures failed { has_failed sink.old ≡ false → has_failed sink.new ≡ is_write_fault result }
 {
-    let count = count_disputes(ledger)?;
-    if sink.failed() {
-        return Err(ReportFault::Write);
-    }
-    let mut waiting = head_of(alloc, form, count)?;
-    let mut from = Vec::new(alloc);
-    for before in 0..count {
-        // There are as many as were counted: only a ledger that lies has fewer.
-        let Some(dispute) = ledger.dispute_from(&from)? else {
-            return Err(ReportFault::Memory);
-        };
-        let part = part_of(alloc, form, before + 1, &dispute)?;
-        push_lines(&mut waiting, &part, sink)?;
-        from = bytes_after(dispute)?;
-    }
-    flush(&mut waiting, sink)
+    let count = count_disputes(alloc, ledger)?;
+    write_list(alloc, ledger, &DisputeCursor, &DisputeLines { form, count }, sink)
 }

@@ -1,26 +1,48 @@
 //! The list of rulings, written as it is read: with a million choices it has 90 MB, and is never
 //! made whole. What is held of it is one ruling, and the lines that wait to be written.
 
-ghost use Rattle.std.specs.Prelude.{◌≡◌, ◌++◌, IfErr, IfOk, false, true};
+ghost use Rattle.std.specs.Prelude.{◌≡◌, IfOk, false};
 ghost use Rattle.streams.specs.Sinks.{has_failed, writer_of};
 ghost use Rattle.book_model.specs.Words.{HasDays, ruling_shown};
 ghost use Rattle.book_core.specs.Calls.{Reopens};
 ghost use Rattle.book_core.specs.Transition.{IsTransition};
 ghost use Rattle.report_texts.specs.RulingLists.{ruling_line};
+ghost use Rattle.book_lists.specs.Streamed.{refusal_in};
+ghost use Rattle.book_lists.specs.Writing.{is_write_fault};
 ghost use Rattle.book_reports.specs.StreamedAnswers.{WritesRulings};
-ghost use Rattle.book_reports.specs.StreamedRulings.{LeavesSome, WritesAllBut, WritesSomeRulings};
-ghost use Rattle.book_reports.specs.StreamedRulings.{refusal_in};
-ghost use Rattle.book_reports.specs.Writing.{is_write_fault, is_write_or_memory};
+ghost use Rattle.book_reports.specs.StreamedRulings.{WritesSomeRulings};
 
-use crate::fault::ReportFault;
-use crate::waiting::{flush, push_part};
-use book_core::{Ledger, ListedRuling, Sink};
+use book_core::{Ledger, LedgerFault, ListedRuling, Sink};
+use book_lists::{Lines, ReportFault, RulingCursor, Step, write_list};
 use report_texts::{push_ruling_line, ruling_list_head};
 use std::alloc::{AllocError, Global};
 use streams::Writer;
 
-/// More rulings than any books have.
-pub(crate) const MOST_RULINGS: u64 = 1 << 32;
+/// A line for each ruling.
+pub(crate) struct RulingLines;
+
+impl Step<ListedRuling> for RulingLines {
+    ghost use Rattle.book_model.specs.Words.{HasDays, ruling_shown};
+
+    type State = ();
+
+    ghost Takes = { λ lines ruling. HasDays (ruling_shown ruling) };
+
+    ghost Has = { λ lines state rulings. Unit {0} };
+
+    fn begin(&self, _alloc: Global) -> Result<(), AllocError> {
+        Ok(())
+    }
+
+    fn add(
+        &self,
+        _alloc: Global,
+        _state: &mut (),
+        _ruling: &ListedRuling,
+    ) -> Result<(), LedgerFault> {
+        Ok(())
+    }
+}
 
 /// The line of a ruling.
 fn line_of(alloc: Global, ruling: &ListedRuling) -> Result<Vec<u8>, AllocError>
@@ -32,26 +54,36 @@ fn line_of(alloc: Global, ruling: &ListedRuling) -> Result<Vec<u8>, AllocError>
     Ok(text.into_bytes())
 }
 
-/// Adds the line of a ruling to what waits, which is written before where it is much.
-fn push_line<W: Writer + Drop>(
-    alloc: Global,
-    waiting: &mut Vec<u8>,
-    ruling: &ListedRuling,
-    sink: &mut Sink<W>,
-) -> Result<(), ReportFault>
-    requires days { HasDays (ruling_shown ruling.now) }
-    requires unwritten { has_failed sink.old ≡ false }
-    ensures written { WritesAllBut (waiting.old.items ++ ruling_line (ruling_shown ruling.now))
-        waiting.new.items (W.contents (writer_of sink.old)) (W.contents (writer_of sink.new))
-        result }
-    ensures left { LeavesSome (waiting.old.items ++ ruling_line (ruling_shown ruling.now))
-        waiting.new.items (W.contents (writer_of sink.old)) (W.contents (writer_of sink.new))
-        result }
-    ensures failed { has_failed sink.new ≡ is_write_fault result }
-    ensures fault { IfErr result (λ fault. is_write_or_memory fault ≡ true) }
-{
-    let line = line_of(alloc, ruling)?;
-    push_part(waiting, &line, sink)
+impl Lines<ListedRuling> for RulingLines {
+    ghost use Rattle.std.specs.Prelude.{[]};
+    ghost use Rattle.book_model.specs.Words.{ruling_shown};
+    ghost use Rattle.report_texts.specs.RulingLists.{ruling_line, ruling_list_head};
+    ghost use Rattle.book_reports.specs.StreamedRulings.{some_above_rulings};
+
+    ghost above = { λ lines. ruling_list_head };
+
+    ghost part = { λ lines number ruling. ruling_line (ruling_shown ruling) };
+
+    ghost below = { λ lines rulings. [] };
+
+    fn head(&self, alloc: Global) -> Result<Vec<u8>, AllocError> {
+        Ok(ruling_list_head(alloc)?.into_bytes())
+    }
+
+    fn line(
+        &self,
+        alloc: Global,
+        _number: u64,
+        ruling: &ListedRuling,
+    ) -> Result<Vec<u8>, AllocError> {
+        line_of(alloc, ruling)
+    }
+
+    fn end(&self, alloc: Global, _state: &()) -> Result<Vec<u8>, AllocError> {
+        Ok(Vec::new(alloc))
+    }
+
+    ghost some = { λ lines. some_above_rulings };
 }
 
 /// Writes the list of rulings: the whole of it, or, before a fault, a prefix that is not the whole.
@@ -71,18 +103,5 @@ pub fn write_rulings<L: Ledger, W: Writer + Drop>(
         (W.contents (writer_of sink.old)) (W.contents (writer_of sink.new)) result }
     ensures failed { has_failed sink.old ≡ false → has_failed sink.new ≡ is_write_fault result }
 {
-    let mut next = ledger.ruling(0)?;
-    if sink.failed() {
-        return Err(ReportFault::Write);
-    }
-    let head = ruling_list_head(alloc)?;
-    let mut waiting = head.into_bytes();
-    for before in 0..MOST_RULINGS {
-        let Some(ruling) = next else {
-            return flush(&mut waiting, sink);
-        };
-        push_line(alloc, &mut waiting, &ruling, sink)?;
-        next = ledger.ruling(before + 1)?;
-    }
-    Err(ReportFault::Memory)
+    write_list(alloc, ledger, &RulingCursor, &RulingLines, sink)
 }

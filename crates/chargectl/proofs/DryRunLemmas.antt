@@ -17,11 +17,11 @@ use Rattle.report_texts.specs.declared.figures.Figures.{Figures}
 use Rattle.report_texts.specs.DryRuns.{dry_answer, dry_answered, dry_run_of, dry_run_text}
 use Rattle.report_texts.specs.Figures.{figures, period_open}
 use Rattle.book_import.specs.declared.receipt.Receipt.{Receipt}
+use Rattle.book_lists.proofs.ReadingLemmas.{IsReading, goes_on}
+use Rattle.book_lists.proofs.WritingLemmas.{same_value}
 use Rattle.book_reports.specs.declared.figures.OpenPeriod.{OpenPeriod}
 use Rattle.book_reports.specs.BookTexts.{shown_by}
 use Rattle.book_reports.specs.Figures.{figures_outcome, open_outcome}
-use Rattle.book_reports.proofs.ReadingLemmas.{IsReading, goes_on}
-use Rattle.book_reports.proofs.WritingLemmas.{same_value}
 use Rattle.office.specs.Outcomes.{AskedOutcome, is_hindered}
 use Rattle.office.specs.Requests.{IsAskableRuling, Response, Text, response_of, response_outcome}
 use Rattle.office.specs.Runs.{AsksWithoutReader, dump_here}

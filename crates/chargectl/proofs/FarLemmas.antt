@@ -8,10 +8,12 @@ use Rattle.book_model.specs.declared.fault.LedgerFault.TheVariants.{Memory, Stor
 use Rattle.book_model.specs.Words.{Book, Event, Naming, Outcome, after_all}
 use Rattle.book_core.specs.Words.{Calls, IsCall, Seen, IsTransition, Then}
 use Rattle.book_core.proofs.TransitionLemmas.{work_then}
+use Rattle.book_lists.proofs.ReadingLemmas.{IsReading, Tells, goes_on, read_as, read_then}
+use Rattle.book_lists.proofs.ReadingLemmas.{IsReading, Tells, goes_on, read_as, read_then}
+use Rattle.book_lists.proofs.WritingLemmas.{same_value}
+use Rattle.book_lists.proofs.WritingLemmas.{same_value}
 use Rattle.book_reports.specs.declared.figures.OpenPeriod.{OpenPeriod}
 use Rattle.book_reports.specs.Figures.{open_outcome}
-use Rattle.book_reports.proofs.ReadingLemmas.{IsReading, Tells, goes_on, read_as, read_then}
-use Rattle.book_reports.proofs.WritingLemmas.{same_value}
 use Rattle.office.specs.declared.request.Asked.TheVariants.{Rule}
 use Rattle.office.specs.Requests.{Asks, Gives, IsAskableRuling, IsAskableUnread, no_dump}
 use Rattle.named_books.specs.Shelves.{IsThere}

@@ -8,7 +8,7 @@ use Rattle.without_books.specs.Faults.{IsPrinted}
 use Rattle.chargectl.specs.declared.streamed_lists.StreamedList.{StreamedList}
 use Rattle.chargectl.specs.StreamedLists.{ListsOpen, WritesSomeOf, list_end}
 use Rattle.chargectl.proofs.Words.{ReportFault, RepositoryFault, Unseen, ComesBy, CommandFault}
-use Rattle.book_reports.specs.declared.fault.ReportFault.TheVariants as report
+use Rattle.book_lists.specs.declared.fault.ReportFault.TheVariants as report
 use Rattle.without_books.specs.declared.command_fault.CommandFault.TheVariants as fault
 
 -- an answer that was not written

@@ -2,8 +2,8 @@
 use Rattle.std.proofs.Common.{◌≡◌, ◌∙◌, true≢false, ℕ, List, Option, Result, Ok, Err, inl, inr}
 use Rattle.std.proofs.Common.{refl, sym, take, IsErr}
 use Rattle.std.proofs.KnownBytes.{Appends-kept}
-use Rattle.book_reports.specs.StreamedAnswers.{WritesAnswerUntil, WritesUntilOrRefuses}
-use Rattle.book_reports.specs.Writing.{WritesPrefix, WritesUntil}
+use Rattle.book_lists.specs.Streamed.{WritesAnswerUntil, WritesUntilOrRefuses}
+use Rattle.book_lists.specs.Writing.{WritesPrefix, WritesUntil}
 use Rattle.chargectl.specs.declared.streamed_lists.StreamedList.{StreamedList}
 use Rattle.chargectl.specs.StreamedLists.{WritesSomeOf, list_answer, list_end}
 use Rattle.chargectl.proofs.Words.{Keeps, LedgerFault, ReportFault, RepositoryFault, Unseen}

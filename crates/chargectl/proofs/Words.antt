@@ -7,7 +7,7 @@ pub use Rattle.named_books.proofs.ShelfLemmas.{done_as}
 pub use Rattle.named_books.specs.Shelves.{ComesBy, IsDoneTo, IsOpened, Shelf}
 pub use Rattle.named_books.specs.declared.repository.RepositoryFault.{RepositoryFault}
 pub use Rattle.named_books.specs.declared.repository.RepositoryFault.TheVariants.{Unseen}
-pub use Rattle.book_reports.specs.declared.fault.ReportFault.{ReportFault}
+pub use Rattle.book_lists.specs.declared.fault.ReportFault.{ReportFault}
 pub use Rattle.office.specs.Requests.{response_by}
 pub use Rattle.office.specs.declared.request.Answer.{Answer}
 pub use Rattle.office.specs.declared.request.Asked.{Asked}

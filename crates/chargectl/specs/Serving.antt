@@ -9,7 +9,7 @@ use Rattle.book_http.specs.declared.served.Served.{Served}
 use Rattle.book_http.specs.Answer.{Answers}
 use Rattle.book_http.specs.Replies.{Reply}
 use Rattle.book_http.specs.Statuses.{status_code}
-use Rattle.book_reports.specs.declared.fault.ReportFault.TheVariants.{Write}
+use Rattle.book_lists.specs.declared.fault.ReportFault.TheVariants.{Write}
 use Rattle.named_books.specs.declared.repository.RepositoryFault.{RepositoryFault}
 use Rattle.named_books.specs.Shelves.{Shelf, IsOpened, IsUntouched}
 use Rattle.without_books.specs.declared.command_fault.CommandFault.{CommandFault}

@@ -6,18 +6,18 @@ use Rattle.std.proofs.Common.{sym, subst}
 use Rattle.book_model.specs.declared.fault.LedgerFault.{LedgerFault}
 use Rattle.book_model.specs.Words.{AreMadeOf, Book, Naming}
 use Rattle.book_core.specs.Words.{MakesAnswered}
-use Rattle.book_reports.specs.declared.fault.ReportFault.{ReportFault}
-use Rattle.book_reports.specs.declared.fault.ReportFault.TheVariants.{Write}
+use Rattle.book_lists.specs.declared.fault.ReportFault.{ReportFault}
+use Rattle.book_lists.specs.declared.fault.ReportFault.TheVariants.{Write}
+use Rattle.book_lists.specs.Writing.{is_write_fault}
 use Rattle.book_reports.specs.declared.streamed_disputes.DisputeForm.{DisputeForm}
 use Rattle.book_reports.specs.declared.streamed_disputes.DisputeForm.TheVariants as disputes
 use Rattle.book_reports.specs.declared.what_if.StatementForm.{StatementForm}
 use Rattle.book_reports.specs.declared.what_if.StatementForm.TheVariants as form
 use Rattle.book_reports.specs.BookTexts.{ruling_text}
-use Rattle.book_reports.specs.StreamedAnswers.{WritesAnswerUntil, answered_by}
+use Rattle.book_reports.specs.StreamedAnswers.{answered_by}
 use Rattle.book_reports.specs.StreamedDetails.{WritesSomeDetails, detail_answer}
 use Rattle.book_reports.specs.StreamedDisputes.{WritesSomeDisputes, dispute_report}
 use Rattle.book_reports.specs.StreamedRulings.{WritesSomeRulings}
-use Rattle.book_reports.specs.Writing.{is_write_fault}
 use Rattle.command_line.specs.declared.request.ReportAsked.{ReportAsked}
 use Rattle.named_books.specs.declared.repository.RepositoryFault.{RepositoryFault}
 use Rattle.named_books.specs.Shelves.{Shelf, ComesBy, IsOpened, IsThere, IsUntouched}

@@ -7,9 +7,9 @@ ghost use Rattle.streams.specs.Failures.{HasFailed};
 ghost use Rattle.streams.specs.Sinks.{has_failed, writer_of};
 ghost use Rattle.book_core.specs.Calls.{Reopens};
 ghost use Rattle.book_core.specs.Transition.{IsTransition};
-ghost use Rattle.book_reports.specs.StreamedAnswers.{WritesAnswerUntil};
-ghost use Rattle.book_reports.specs.StreamedRulings.{refusal_in};
-ghost use Rattle.book_reports.specs.Writing.{is_write_fault};
+ghost use Rattle.book_lists.specs.Streamed.{WritesAnswerUntil};
+ghost use Rattle.book_lists.specs.Streamed.{refusal_in};
+ghost use Rattle.book_lists.specs.Writing.{is_write_fault};
 ghost use Rattle.chargectl.specs.Commands.{IsFileFault, first_fault};
 ghost use Rattle.chargectl.specs.StreamedLists as spec;
 ghost use Rattle.chargectl.specs.StreamedLists.{ListsAsked, ListsBy, WritesSomeOf, list_answer};
@@ -127,7 +127,7 @@ fn write_of<L: Ledger, O: Writer + Drop>(
 
 impl<O: Writer + Drop> Visit for Listing<O> {
     ghost use Rattle.streams.specs.Sinks.{has_failed, writer_of};
-    ghost use Rattle.book_reports.specs.StreamedAnswers.{WritesAnswerUntil};
+    ghost use Rattle.book_lists.specs.Streamed.{WritesAnswerUntil};
     ghost use Rattle.chargectl.specs.StreamedLists.{ListsOpen, list_answer, listing_answered};
 
     type Answer = Result<(), ReportFault>;

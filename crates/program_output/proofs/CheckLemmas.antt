@@ -16,16 +16,16 @@ use Rattle.book_import.specs.Pieces.{TakesAll}
 use Rattle.book_import.proofs.FeedLemmas.{HasPassed, holds_here, passed_more, stop_is}
 use Rattle.book_import.proofs.ReachLemmas.{ends_late, ends_early, nothing_further, all_needed}
 use Rattle.book_import.proofs.ReachLemmas.{piece_needed}
-use Rattle.book_reports.specs.declared.fault.ReportFault.{ReportFault}
+use Rattle.book_lists.specs.declared.fault.ReportFault.{ReportFault}
+use Rattle.book_lists.specs.Streamed.{WritesFirst}
+use Rattle.book_lists.specs.Writing.{WritesUntil}
+use Rattle.book_lists.proofs.StreamedLemmas.{is_short, some_behind, written_of_more}
 use Rattle.program_output.specs.declared.listing.Listing.{Listing}
 use Rattle.program_output.specs.Readings.{reading}
 use Rattle.program_output.specs.Checks.{IsCheck, AreWritten}
 use Rattle.book_reports.specs.CheckLists.{record_lines, last_line, check_list_text}
 use Rattle.program_output.specs.Listings.{HasListed, WritesSome, ListsPiece, Breaks, waiting}
 use Rattle.program_output.specs.Listings.{listed_count}
-use Rattle.book_reports.specs.StreamedRulings.{WritesFirst}
-use Rattle.book_reports.specs.Writing.{WritesUntil}
-use Rattle.book_reports.proofs.StreamedLemmas.{is_short, some_behind, written_of_more}
 use Rattle.program_output.proofs.LineLemmas.{last_line_some}
 use Rattle.program_output.proofs.ListingLemmas.{listed_whole, until_grows, grows_on, lines_written}
 

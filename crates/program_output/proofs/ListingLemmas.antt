@@ -4,16 +4,16 @@ use Rattle.std.proofs.Common.{append_assoc, append-nil, length-append, Option, R
 use Rattle.std.specs.Io.KnownBytes.{Appends}
 use Rattle.std.proofs.KnownBytes.{Appends-trans}
 use Rattle.book_import.specs.declared.receipt.Stop.{Stop}
-use Rattle.book_reports.specs.declared.fault.ReportFault.{ReportFault}
+use Rattle.book_lists.specs.declared.fault.ReportFault.{ReportFault}
+use Rattle.book_lists.specs.Streamed.{WritesFirst}
+use Rattle.book_lists.specs.Writing.{WritesUntil}
+use Rattle.book_lists.proofs.StreamedLemmas.{first_written, rest_until, then_written, written_as}
+use Rattle.book_lists.proofs.StreamedLemmas.{written_of_more}
 use Rattle.program_output.specs.declared.listing.Listing.{Listing}
 use Rattle.book_reports.specs.CheckLists.{record_line, record_lines, last_line, check_list_text}
 use Rattle.program_output.specs.Listings.{HasListed, waiting, listed_count}
 use Rattle.program_output.specs.Checks.{AreWritten}
-use Rattle.book_reports.specs.StreamedRulings.{WritesFirst}
-use Rattle.book_reports.specs.Writing.{WritesUntil}
 use Rattle.book_reports.proofs.NumberLemmas.{lines-append, one_more_line}
-use Rattle.book_reports.proofs.StreamedLemmas.{first_written, rest_until, then_written, written_as}
-use Rattle.book_reports.proofs.StreamedLemmas.{written_of_more}
 
 -- all was written
 pub all_written : (text rest : List ℕ) (held holds : Option (List ℕ)) → rest ≡ []

@@ -4,10 +4,10 @@ use Rattle.std.proofs.Common.{Option, Some, None, append-nil}
 use Rattle.std.specs.Io.KnownBytes.{Appends}
 use Rattle.book_model.specs.Words.{FrameFault, Front, front, Joining, HasTaken, Feeds}
 use Rattle.book_import.proofs.FeedLemmas.{Doing, Goes, records_after, records_follow}
-use Rattle.book_reports.specs.declared.fault.ReportFault.{ReportFault}
+use Rattle.book_lists.specs.declared.fault.ReportFault.{ReportFault}
+use Rattle.book_lists.specs.Streamed.{WritesFirst}
 use Rattle.book_reports.specs.CheckLists.{record_line, record_lines}
 use Rattle.program_output.specs.declared.listing.Listing.{Listing}
-use Rattle.book_reports.specs.StreamedRulings.{WritesFirst}
 use Rattle.program_output.specs.Listings.{HasListed, TakesOrBreaks, ListsPiece, waiting}
 use Rattle.program_output.specs.Listings.{listed_count}
 use Rattle.program_output.proofs.ListingLemmas.{line_cut, flush_cut}

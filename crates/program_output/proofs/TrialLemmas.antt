@@ -18,12 +18,12 @@ use Rattle.book_import.specs.Imports.Handles.{out_of_memory}
 use Rattle.book_import.proofs.ReachLemmas.{read_nothing}
 use Rattle.book_import.proofs.NoRulingLemmas.{handles_kept, rulings_stay}
 use Rattle.book_import.specs.Receipts.{receipt_stopped}
-use Rattle.book_reports.specs.declared.fault.ReportFault.{ReportFault}
-use Rattle.book_reports.specs.declared.fault.ReportFault.TheVariants.{Write}
+use Rattle.book_lists.specs.declared.fault.ReportFault.{ReportFault}
+use Rattle.book_lists.specs.declared.fault.ReportFault.TheVariants.{Write}
+use Rattle.book_lists.specs.Writing.{WritesTexts}
+use Rattle.book_lists.proofs.WritingLemmas.{nothing_written, others_written}
 use Rattle.book_reports.specs.ReceiptLines.{receipt_line_text}
 use Rattle.book_reports.specs.BookTexts.{dispute_text, open_statement}
-use Rattle.book_reports.specs.Writing.{WritesTexts}
-use Rattle.book_reports.proofs.WritingLemmas.{nothing_written, others_written}
 use Rattle.program_output.specs.Readings.{reading}
 use Rattle.program_output.specs.Trials.{IsTrial, trial_texts}
 

@@ -5,9 +5,9 @@ use Rattle.book_model.specs.Words.{Front, front}
 use Rattle.book_import.specs.declared.receipt.Stop.{Stop}
 use Rattle.book_import.specs.Dumps.{stop_after}
 use Rattle.book_import.specs.Reach.{is_early_stop, EndsBy, IsNoFurther}
-use Rattle.book_reports.specs.declared.fault.ReportFault.{ReportFault}
+use Rattle.book_lists.specs.declared.fault.ReportFault.{ReportFault}
+use Rattle.book_lists.specs.Writing.{WritesUntil}
 use Rattle.book_reports.specs.CheckLists.{record_lines, check_list_text}
-use Rattle.book_reports.specs.Writing.{WritesUntil}
 use Rattle.program_output.specs.Readings.{Reading}
 
 -- the lines of these records were written, and perhaps more after them

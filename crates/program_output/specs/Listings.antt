@@ -3,10 +3,10 @@ use Rattle.std.specs.Prelude.{◌≡◌, ℕ, ◌+◌, ◌≤◌, List, ◌++◌
 use Rattle.std.specs.Prelude.{Err, string_bytes}
 use Rattle.book_model.specs.Words.{Layout, FrameFault, front, Joining, HasTaken, broken_by}
 use Rattle.book_import.specs.Pieces.{TakesAll}
-use Rattle.book_reports.specs.declared.fault.ReportFault.{ReportFault}
+use Rattle.book_lists.specs.declared.fault.ReportFault.{ReportFault}
+use Rattle.book_lists.specs.Streamed.{WritesFirst}
 use Rattle.program_output.specs.declared.listing.Listing.{Listing}
 use Rattle.book_reports.specs.CheckLists.{record_lines}
-use Rattle.book_reports.specs.StreamedRulings.{WritesFirst}
 
 -- how many bytes are written at once, at most (the office's rule)
 abbrev pub most_written : ℕ

@@ -12,11 +12,11 @@ use Rattle.book_model.specs.Words.{frame_number, TariffFault, tariff_number, led
 use Rattle.book_import.specs.declared.receipt.Stop.{Stop}
 use Rattle.book_import.specs.declared.receipt.Stop.TheVariants.{End, Frame, Read, ReadLimit, Ledger}
 use Rattle.report_texts.specs.Columns.{newline}
-use Rattle.book_reports.specs.declared.fault.ReportFault.{ReportFault}
+use Rattle.book_lists.specs.declared.fault.ReportFault.{ReportFault}
+use Rattle.book_lists.specs.declared.fault.ReportFault.TheVariants as report
 use Rattle.book_reports.specs.ReceiptLines.{fault_text}
 use Rattle.tariff_rules.specs.declared.fault.TariffFault.TheVariants as tariff
 use Rattle.book_model.specs.declared.fault.LedgerFault.TheVariants as ledger
-use Rattle.book_reports.specs.declared.fault.ReportFault.TheVariants as report
 
 -- the name by which the program speaks of itself
 abbrev pub program_name : List ℕ

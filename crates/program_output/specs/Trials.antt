@@ -6,10 +6,10 @@ use Rattle.book_model.specs.Words.{Terms, Book, flat_book, Event, after_all}
 use Rattle.book_import.specs.declared.receipt.Receipt.{Receipt}
 use Rattle.book_import.specs.Reach.{IsReadFor}
 use Rattle.book_import.specs.Imports.{Imports}
-use Rattle.book_reports.specs.declared.fault.ReportFault.{ReportFault}
+use Rattle.book_lists.specs.declared.fault.ReportFault.{ReportFault}
+use Rattle.book_lists.specs.Writing.{WritesTexts}
 use Rattle.book_reports.specs.ReceiptLines.{receipt_line_text}
 use Rattle.book_reports.specs.BookTexts.{dispute_text, open_statement}
-use Rattle.book_reports.specs.Writing.{WritesTexts}
 use Rattle.program_output.specs.Readings.{Reading}
 
 -- the receipt line, the statement and the disputes

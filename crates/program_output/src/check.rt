@@ -14,7 +14,7 @@ ghost use Rattle.program_output.specs.Checks.{IsCheck};
 ghost use Rattle.program_output.specs.Listings.{waiting, listed_count, HasRoom, ListsPiece};
 ghost use Rattle.program_output.specs.Listings.{TakesOrBreaks};
 ghost use Rattle.program_output.specs.Readings.{reading};
-ghost use Rattle.book_reports.specs.Writing.{is_write_fault, is_write_or_memory};
+ghost use Rattle.book_lists.specs.Writing.{is_write_fault, is_write_or_memory};
 
 use crate::listing::Listing;
 use book_core::{Sink, Source};

@@ -3,11 +3,11 @@
 ghost use Rattle.std.specs.Prelude.{◌≡◌, ◌+◌, ◌<◌, ◌≤◌, ◌^◌, ◌++◌, false, true, []};
 ghost use Rattle.std.specs.Prelude.{length, IfErr, IfOk, OnOk};
 ghost use Rattle.streams.specs.Sinks.{writer_of, has_failed};
+ghost use Rattle.book_lists.specs.Streamed.{WritesAllBut};
+ghost use Rattle.book_lists.specs.Writing.{WritesPrefix, WritesUntil, is_write_fault};
+ghost use Rattle.book_lists.specs.Writing.{is_write_or_memory};
 ghost use Rattle.book_reports.specs.CheckLists.{last_line, record_line};
-ghost use Rattle.book_reports.specs.StreamedRulings.{WritesAllBut};
 ghost use Rattle.program_output.specs.Listings.{HasRoom, listed_count, most_written, waiting};
-ghost use Rattle.book_reports.specs.Writing.{WritesPrefix, WritesUntil, is_write_fault};
-ghost use Rattle.book_reports.specs.Writing.{is_write_or_memory};
 
 use book_core::Sink;
 use book_import::Stop;

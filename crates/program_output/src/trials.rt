@@ -4,7 +4,7 @@ ghost use Rattle.streams.specs.AnswerFlags.{NothingUnread};
 ghost use Rattle.streams.specs.InputOutput.{input};
 ghost use Rattle.streams.specs.Sources as sources;
 ghost use Rattle.book_import.specs.ReadLimits.{cut_of, most_reads};
-ghost use Rattle.book_reports.specs.Writing.{is_write_fault, is_write_or_memory};
+ghost use Rattle.book_lists.specs.Writing.{is_write_fault, is_write_or_memory};
 ghost use Rattle.program_output.specs.Readings.{reading};
 ghost use Rattle.program_output.specs.Trials.{IsTrial};
 

@@ -12,7 +12,7 @@ use Rattle.tariff_rules.specs.declared.fault.TariffFault.TheVariants.{Syntax, To
 use Rattle.book_model.specs.declared.fault.LedgerFault.TheVariants as ledger
 use Rattle.book_import.specs.declared.receipt.Stop.{Stop}
 use Rattle.book_import.specs.declared.receipt.Stop.TheVariants.{End}
-use Rattle.book_reports.specs.declared.fault.ReportFault.TheVariants as report
+use Rattle.book_lists.specs.declared.fault.ReportFault.TheVariants as report
 use Rattle.command_line.specs.declared.request.Unclear.{Unclear}
 use Rattle.command_line.specs.declared.request.Unclear.TheVariants as unclear
 use Rattle.named_books.specs.declared.repository.RepositoryFault.{RepositoryFault}

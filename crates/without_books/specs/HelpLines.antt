@@ -9,7 +9,8 @@ use Rattle.tariff_rules.specs.declared.tariff.entry.Entry.TheVariants.{Shift, Ce
 use Rattle.book_model.specs.Words.{frame_number, tariff_number, ledger_number}
 use Rattle.book_model.specs.declared.fault.LedgerFault.{LedgerFault}
 use Rattle.book_import.specs.declared.receipt.Stop.{Stop}
-use Rattle.book_reports.specs.declared.fault.ReportFault.{ReportFault}
+use Rattle.book_lists.specs.declared.fault.ReportFault.{ReportFault}
+use Rattle.book_lists.specs.declared.fault.ReportFault.TheVariants as report
 use Rattle.program_output.specs.Causes.{cause_text}
 use Rattle.program_output.specs.Explanations.{Explains}
 use Rattle.program_output.specs.declared.causes.Cause.{Cause}
@@ -22,7 +23,6 @@ use Rattle.without_books.specs.declared.places.Place.{Place}
 use Rattle.without_books.specs.declared.places.Spot.{Spot}
 use Rattle.book_model.specs.declared.fault.LedgerFault.TheVariants as ledger
 use Rattle.book_import.specs.declared.receipt.Stop.TheVariants as stop
-use Rattle.book_reports.specs.declared.fault.ReportFault.TheVariants as report
 use Rattle.program_output.specs.declared.causes.Cause.TheVariants as cause
 use Rattle.program_output.specs.declared.explanations.FaultKind.TheVariants as kind
 use Rattle.program_output.specs.declared.words.WordKind.TheVariants as word

@@ -9,8 +9,8 @@ use Rattle.book_model.specs.Words.{Layout, TariffFault, terms_in, on_every_day, 
 use Rattle.book_import.specs.ReadLimits.{cut_by, most_reads}
 use Rattle.book_import.specs.declared.receipt.Receipt.{Receipt}
 use Rattle.book_import.specs.declared.receipt.Stop.{Stop}
-use Rattle.book_reports.specs.declared.fault.ReportFault.{ReportFault}
-use Rattle.book_reports.specs.Writing.{is_write_fault}
+use Rattle.book_lists.specs.declared.fault.ReportFault.{ReportFault}
+use Rattle.book_lists.specs.Writing.{is_write_fault}
 use Rattle.command_line.specs.declared.request.NumberKind.{NumberKind}
 use Rattle.program_output.specs.declared.explanations.Explanation.{Explanation}
 use Rattle.program_output.specs.declared.explanations.FaultKind.{FaultKind}

@@ -3,7 +3,7 @@
 ghost use Rattle.std.specs.Prelude.{◌≡◌, true};
 ghost use Rattle.streams.specs.Failures.{HasFailed};
 ghost use Rattle.streams.specs.Sinks.{has_failed, writer_of};
-ghost use Rattle.book_reports.specs.Writing.{is_write_fault};
+ghost use Rattle.book_lists.specs.Writing.{is_write_fault};
 ghost use Rattle.without_books.specs.Reading.{Checks, Lists, check_end};
 
 use crate::command_fault::CommandFault;

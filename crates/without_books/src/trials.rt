@@ -4,7 +4,7 @@ ghost use Rattle.std.specs.Prelude.{◌≡◌, IfErr, IfOk, Ok, true};
 ghost use Rattle.streams.specs.Failures.{HasFailed};
 ghost use Rattle.streams.specs.Sinks.{has_failed, writer_of};
 ghost use Rattle.tariff_rules.specs.TariffFile.{terms_in};
-ghost use Rattle.book_reports.specs.Writing.{is_write_fault};
+ghost use Rattle.book_lists.specs.Writing.{is_write_fault};
 ghost use Rattle.without_books.specs.Faults.{IsFaultIn};
 ghost use Rattle.without_books.specs.Reading.{IsTariffRead, TriesBy, TriesUnder, lasting, trial_end};
 

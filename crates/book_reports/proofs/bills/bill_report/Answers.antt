@@ -1,6 +1,6 @@
 use Rattle.std.proofs.Common.{refl, rules}
 use Rattle.book_reports.specs.Bills.{bill_in}
-use Rattle.book_reports.proofs.ReadingLemmas.{call_made}
+use Rattle.book_reports.proofs.MadeLemmas.{call_made}
 use Rattle.book_reports.proofs.bills.bill_report.Goals as goal
 
 pub returns : goal.returns

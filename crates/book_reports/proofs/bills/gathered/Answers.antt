@@ -1,7 +1,7 @@
 use Rattle.std.proofs.Common.{refl}
+use Rattle.book_lists.proofs.ReadingLemmas.{call_failed}
+use Rattle.book_lists.proofs.ShownLemmas.{answers, both_shown, refused_next, shown, then_stays}
 use Rattle.book_reports.proofs.BillLemmas.{bill_known, bill_unlined, bill_unworked}
-use Rattle.book_reports.proofs.ReadingLemmas.{call_failed}
-use Rattle.book_reports.proofs.ShownLemmas.{answers, both_shown, refused_next, shown, then_stays}
 use Rattle.book_reports.proofs.bills.gathered.Goals as goal
 
 -- the period is not there

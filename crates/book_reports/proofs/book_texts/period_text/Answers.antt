@@ -1,7 +1,8 @@
 use Rattle.std.proofs.Common.{refl, rules}
+use Rattle.book_lists.proofs.ReadingLemmas.{call_failed}
 use Rattle.book_reports.specs.BookTexts.{period_adjustment_table, period_adjustments}
 use Rattle.book_reports.specs.BookTexts.{period_statement, period_statement_table}
-use Rattle.book_reports.proofs.ReadingLemmas.{call_failed, call_made, period_made}
+use Rattle.book_reports.proofs.MadeLemmas.{call_made, period_made}
 use Rattle.book_reports.proofs.book_texts.period_text.Goals as goal
 
 -- the books did not say through which day the period was closed

@@ -3,7 +3,7 @@ use Rattle.report_texts.specs.DisputeLists.{dispute_list_text}
 use Rattle.report_texts.specs.DisputeTables.{dispute_table}
 use Rattle.report_texts.specs.PeriodLists.{period_list_text}
 use Rattle.report_texts.specs.RecordTexts.{record_text}
-use Rattle.book_reports.proofs.ReadingLemmas.{call_made}
+use Rattle.book_reports.proofs.MadeLemmas.{call_made}
 use Rattle.book_reports.proofs.book_texts.report_text.Goals as goal
 
 -- of each list that was asked for its text is made

@@ -5,11 +5,11 @@ use Rattle.book_model.specs.declared.line.Line.{Line}
 use Rattle.report_texts.specs.declared.dry_runs.TriedRuling.TheVariants.{Tariff}
 use Rattle.report_texts.specs.DryRuns.{NamesDay}
 use Rattle.report_texts.specs.Figures.{figures_by, record_count_from}
+use Rattle.book_lists.proofs.ReadingLemmas.{call_failed, read_as}
+use Rattle.book_lists.proofs.WritingLemmas.{same_value}
 use Rattle.book_reports.specs.Figures.{count_outcome}
 use Rattle.book_reports.specs.StreamedDisputes.{dispute_count_outcome}
 use Rattle.book_reports.proofs.FigureLemmas.{own_read}
-use Rattle.book_reports.proofs.ReadingLemmas.{call_failed, read_as}
-use Rattle.book_reports.proofs.WritingLemmas.{same_value}
 use Rattle.book_reports.proofs.figures.figures_with.Goals as goal
 
 pub returns-in_err-lines : goal.returns-in_err-lines

@@ -1,5 +1,5 @@
+use Rattle.book_lists.proofs.ShownLemmas.{Shows}
 use Rattle.book_reports.proofs.PageLemmas.{KnowsPeriods}
-use Rattle.book_reports.proofs.ShownLemmas.{Shows}
 use Rattle.book_reports.proofs.pages.office_page_report.Given as goal
 
 -- the closes are known, and of the periods so far the figures

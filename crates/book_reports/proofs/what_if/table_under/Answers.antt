@@ -1,6 +1,6 @@
 use Rattle.std.proofs.Common.{refl, rules}
 use Rattle.book_reports.specs.WhatIfTexts.{table_shown}
-use Rattle.book_reports.proofs.ReadingLemmas.{call_made}
+use Rattle.book_reports.proofs.MadeLemmas.{call_made}
 use Rattle.book_reports.proofs.what_if.table_under.Goals as goal
 
 pub returns : goal.returns

@@ -1,5 +1,5 @@
 use Rattle.std.proofs.Common.{refl}
-use Rattle.book_reports.proofs.ReadingLemmas.{call_failed}
+use Rattle.book_lists.proofs.ReadingLemmas.{call_failed}
 use Rattle.chargectl.proofs.FarLemmas.{far_read, memory_gone}
 use Rattle.chargectl.proofs.far.is_far_asked.Goals as goal
 

@@ -1,7 +1,7 @@
 use Rattle.std.proofs.Common.{◌∙◌, Ok, ap, false, refl, sym}
 use Rattle.std.specs.Option.{option_map_or}
-use Rattle.book_reports.proofs.ReadingLemmas.{call_failed, read_as}
-use Rattle.book_reports.proofs.WritingLemmas.{same_value}
+use Rattle.book_lists.proofs.ReadingLemmas.{call_failed, read_as}
+use Rattle.book_lists.proofs.WritingLemmas.{same_value}
 use Rattle.chargectl.specs.Far.{is_far}
 use Rattle.chargectl.proofs.far.is_far_on.Goals as goal
 

@@ -1,5 +1,5 @@
 use Rattle.std.proofs.Common.{◌-◌, ◌≤◌, arith, drop, length, length-drop, length-take-le}
-use Rattle.book_reports.proofs.WritingLemmas.{taken_more}
+use Rattle.book_lists.proofs.WritingLemmas.{taken_more}
 use Rattle.program_output.proofs.error_line.hand_all.Goals as goal
 
 pub writes-preserved : goal.writes-preserved

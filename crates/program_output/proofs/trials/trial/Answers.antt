@@ -6,13 +6,13 @@ use Rattle.report_texts.specs.Statements.{statement_text}
 use Rattle.plain_ledger.specs.PlainBook.{book_in}
 use Rattle.book_import.specs.declared.receipt.Receipt.{Receipt}
 use Rattle.book_import.specs.ReadLimits.{cut_of}
-use Rattle.book_reports.specs.declared.fault.ReportFault.{ReportFault}
+use Rattle.book_lists.specs.declared.fault.ReportFault.{ReportFault}
+use Rattle.book_lists.specs.Writing.{is_write_or_memory}
+use Rattle.book_lists.proofs.WritingLemmas.{memory_not_write, others_unwritten, others_written}
 use Rattle.book_reports.specs.ReceiptLines.{receipt_line_text}
 use Rattle.book_reports.specs.BookTexts.{dispute_text, open_statement, shown_by, closed_through}
-use Rattle.book_reports.specs.Writing.{is_write_or_memory}
 use Rattle.book_reports.proofs.BookLemmas.{first_statement}
 use Rattle.book_reports.proofs.ReportLemmas.{report_fault, report_stays, report_writes}
-use Rattle.book_reports.proofs.WritingLemmas.{memory_not_write, others_unwritten, others_written}
 use Rattle.program_output.proofs.TrialLemmas.{IsBooked, is_booked, never_closed, is_trial}
 use Rattle.program_output.proofs.TrialLemmas.{no_trial, texts_written}
 use Rattle.program_output.proofs.trials.trial.Given.{Over}

@@ -3,9 +3,9 @@ use Rattle.std.proofs.KnownBytes.{Appends-nil}
 use Rattle.std.proofs.lemmas.Result.{err_from_is_err_and}
 use Rattle.streams.specs.Sinks.{writer_of}
 use Rattle.book_import.specs.declared.receipt.Stop.{Stop}
+use Rattle.book_lists.specs.Writing.{WritesUntil}
+use Rattle.book_lists.proofs.StreamedLemmas.{some_behind}
 use Rattle.book_reports.specs.CheckLists.{last_line}
-use Rattle.book_reports.specs.Writing.{WritesUntil}
-use Rattle.book_reports.proofs.StreamedLemmas.{some_behind}
 use Rattle.program_output.specs.Listings.{waiting}
 use Rattle.program_output.proofs.LineLemmas.{last_line_short, last_line_some}
 use Rattle.program_output.proofs.listing.Listing.end.Goals as goal

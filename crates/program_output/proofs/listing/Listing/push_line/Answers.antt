@@ -1,8 +1,8 @@
 use Rattle.std.proofs.Common.{◌+◌, arith, ap, length, length-append}
 use Rattle.std.proofs.lemmas.Result.{err_from_is_err_and}
 use Rattle.streams.specs.Sinks.{writer_of}
+use Rattle.book_lists.proofs.StreamedLemmas.{first_written, none_written, written_as}
 use Rattle.book_reports.specs.CheckLists.{record_line}
-use Rattle.book_reports.proofs.StreamedLemmas.{first_written, none_written, written_as}
 use Rattle.program_output.specs.Listings.{waiting}
 use Rattle.program_output.proofs.LineLemmas.{record_line_short}
 use Rattle.program_output.proofs.listing.Listing.push_line.Goals as goal
