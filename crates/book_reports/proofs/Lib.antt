@@ -25,4 +25,5 @@ pub mod BillLineLemmas
 pub mod HeldLemmas
 pub mod KeptTariffLemmas
 pub mod BillLemmas
+pub mod FocusLemmas
 pub mod PageLemmas

@@ -11,6 +11,8 @@ mod check_lists;
 mod detail_lengths;
 mod fault;
 mod figures;
+mod focus_days;
+mod focus_reports;
 mod held_back;
 mod output;
 mod pages;
