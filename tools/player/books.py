@@ -9,7 +9,8 @@ written to a file that the command reads.
     close PERIOD DAY, adopt 2                close BOOK PERIOD DATE, adopt BOOK
     choose RECORD, record RECORD             the same, with the name of the record
     disputes, periods                        the same
-    statement PERIOD [CENTRE]                the same, with --centre; so are adjustments, details, bill and page
+    statement PERIOD [CENTRE]                the same, with --centre; so are adjustments, details and bill
+    focus PERIOD, page PERIOD                the same
     table PERIOD [CENTRE]                    statement with --csv; so are details-table and bill-table
     what-if PERIOD[/CENTRE] TEXT..           statement with --tariff FILE; with --csv what-if-table
     list, with a body of such lines          each of them
@@ -28,7 +29,7 @@ FAR_DAYS = 366
 # The command of a report of a period.
 REPORTS = {"statement": ["statement"], "table": ["statement", "--csv"], "adjustments": ["adjustments"],
            "details": ["details"], "details-table": ["details", "--csv"], "bill": ["bill"], "bill-table": ["bill", "--csv"],
-           "page": ["page"]}
+           "focus": ["focus"], "page": ["page"]}
 LISTS = frozenset("disputes periods record".split())
 OTHER_PRICES = frozenset("what-if what-if-table".split())
 DUMPS = frozenset("import check trial".split())

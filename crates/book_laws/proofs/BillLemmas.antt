@@ -151,7 +151,7 @@ rows_there kind centre details =
 -- ---- what all centres are charged
 
 -- what is owed for one and for others
-one_more_owed : (p q x y : ℕ)
+pub one_more_owed : (p q x y : ℕ)
     → (pos p -ℤ pos q) +ℤ (pos x -ℤ pos y) ≡ pos (p + x) -ℤ pos (q + y)
 one_more_owed p q x y = omega (arith, ints)
 

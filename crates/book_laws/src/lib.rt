@@ -5,6 +5,7 @@ mod bills;
 mod calls;
 mod centres;
 mod details;
+mod focus;
 mod histories;
 mod other_prices;
 mod pages;
@@ -27,6 +28,7 @@ pub use details::{
     details_add_up, details_are_kept, details_stay, next_is_next, rows_join_and_go,
     tariffs_read_kept,
 };
+pub use focus::focus_is_owed;
 pub use histories::{
     books_charge_once, charged_once, closed_stays, closed_texts_stay, conserved, conserved_in_sets,
     dated_right, lines_once, named_once, posted_once, readable_stays, wrong_periods_fail,

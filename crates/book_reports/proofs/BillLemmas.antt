@@ -21,7 +21,7 @@ use Rattle.book_reports.specs.HeldBack.{held_back_outcome}
 use Rattle.book_reports.specs.Shown.{closed_through}
 
 -- of a period that is not there nothing is answered
-unanswered : {A B : Type 0} (f : Period → A) (show : Period → B) (found : Option Period)
+pub unanswered : {A B : Type 0} (f : Period → A) (show : Period → B) (found : Option Period)
     (fault : LedgerFault) → ok_or (option_map f found) NoSuchPeriod ≡ Err fault
     → ok_or (option_map show found) NoSuchPeriod ≡ Err fault
 unanswered f show None fault is = let same : NoSuchPeriod ≡ fault = cc is in ap Err same

@@ -15,4 +15,5 @@ pub mod WorkLemmas
 pub mod BillLineLemmas
 pub mod KeptTariffLemmas
 pub mod BillLemmas
+pub mod FocusLemmas
 pub mod PageLemmas

@@ -32,10 +32,11 @@ use Rattle.book_reports.specs.declared.report.PeriodReport.TheVariants.{Adjustme
 use Rattle.book_reports.specs.declared.report.PeriodReport.TheVariants.{StatementTable}
 use Rattle.book_reports.specs.declared.report.Report.{Report}
 use Rattle.book_reports.specs.declared.report.Report.TheVariants.{Bill, DisputeList, DisputeTable}
-use Rattle.book_reports.specs.declared.report.Report.TheVariants.{OfPeriod, OfficePage, PeriodList}
-use Rattle.book_reports.specs.declared.report.Report.TheVariants.{PeriodPage, Record, RulingList}
-use Rattle.book_reports.specs.declared.report.Report.TheVariants.{TariffText}
+use Rattle.book_reports.specs.declared.report.Report.TheVariants.{Focus, OfPeriod, OfficePage}
+use Rattle.book_reports.specs.declared.report.Report.TheVariants.{PeriodList, PeriodPage, Record}
+use Rattle.book_reports.specs.declared.report.Report.TheVariants.{RulingList, TariffText}
 use Rattle.book_reports.specs.Bills.{bill_answer}
+use Rattle.book_reports.specs.FocusReports.{focus_answer}
 use Rattle.book_reports.specs.Pages.{office_page_answer, period_page_answer}
 pub use Rattle.book_reports.specs.Shown.{closed_through, closed_through_outcome}
 
@@ -97,6 +98,7 @@ report_answer naming (TariffText day) book = ok_or (tariff_text_on day book.ruli
 report_answer naming (Record name) book =
     shown_by (record_text name) (trail_outcome naming name book).answer
 report_answer naming (Bill form period centre) book = bill_answer naming form period centre book
+report_answer naming (Focus period) book = focus_answer naming period book
 report_answer naming OfficePage book = office_page_answer naming book
 report_answer naming (PeriodPage period) book = period_page_answer naming period book
 

@@ -14,6 +14,8 @@ pub mod HeldBack
 pub mod BillTariffs
 pub mod Bills
 pub mod Pages
+pub mod FocusDays
+pub mod FocusReports
 pub mod BookTexts
 pub mod RulingTexts
 pub mod WhatIfTexts

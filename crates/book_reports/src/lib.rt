@@ -10,6 +10,8 @@ mod book_texts;
 mod check_lists;
 mod detail_lengths;
 mod figures;
+mod focus_days;
+mod focus_reports;
 mod held_back;
 mod pages;
 mod period_days;

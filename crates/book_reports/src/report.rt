@@ -52,6 +52,8 @@ pub enum Report {
         /// The centre, `None` for the whole office.
         centre: Option<Name>,
     },
+    /// A period as a table of cost and usage by FOCUS 1.0.
+    Focus(u16),
     /// The page of the office, for a browser: what each period comes to, the open one first.
     OfficePage,
     /// The page of a period, for a browser.

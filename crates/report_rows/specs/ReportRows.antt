@@ -84,6 +84,16 @@ row_of report.Bill = record {
   csv_path = None;
   kind = body.Text;
 }
+row_of report.Focus = record {
+  word = codes "focus";
+  shape = OfPeriod;
+  csv = false;
+  streamed = false;
+  by_prices = false;
+  path = Some (codes "/focus/");
+  csv_path = None;
+  kind = body.Csv;
+}
 row_of report.Page = record {
   word = codes "page";
   shape = OfPeriod;
@@ -147,8 +157,9 @@ row_of report.TariffText = record {
 
 -- the reports in the order of the program's help
 abbrev pub reports : List ReportName
-reports = report.Statement ∷ report.Adjustments ∷ report.Details ∷ report.Bill ∷ report.Page
-    ∷ report.Disputes ∷ report.Record ∷ report.Periods ∷ report.Rulings ∷ report.TariffText ∷ []
+reports = report.Statement ∷ report.Adjustments ∷ report.Details ∷ report.Bill ∷ report.Focus
+    ∷ report.Page ∷ report.Disputes ∷ report.Record ∷ report.Periods ∷ report.Rulings
+    ∷ report.TariffText ∷ []
 
 -- the text is the word of the report
 abbrev pub has_word : List ℕ → ReportName → Bool
@@ -189,8 +200,9 @@ report_of_centre report.Adjustments form period centre =
 report_of_centre report.Bill form period centre = Some (made.Bill form period centre)
 report_of_centre name form period centre = None
 
--- of a period of the whole office: a page is never a table
+-- of a period of the whole office: each has one form
 abbrev pub report_of_period : ReportName → StatementForm → ℕ → Option Report
+report_of_period report.Focus form.Text period = Some (made.Focus period)
 report_of_period report.Page form.Text period = Some (made.PeriodPage period)
 report_of_period name form period = None
 

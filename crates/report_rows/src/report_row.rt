@@ -18,6 +18,8 @@ pub enum ReportName {
     Details,
     /// A bill: that of a centre, or what each centre owes.
     Bill,
+    /// A period as a table of cost and usage by FOCUS 1.0.
+    Focus,
     /// A period as a page for a browser.
     Page,
     /// The records in dispute.
@@ -157,6 +159,19 @@ pub const BILL: ReportRow = ReportRow {
     kind: BodyKind::Text,
 };
 
+/// A period as a table of cost and usage by FOCUS 1.0, which has no other form.
+pub const FOCUS: ReportRow = ReportRow {
+    word: "focus",
+    about: "Prints what a period charges as a table of cost and usage by FOCUS 1.0",
+    shape: Shape::OfPeriod,
+    csv: false,
+    streamed: false,
+    by_prices: false,
+    path: Some("/focus/"),
+    csv_path: None,
+    kind: BodyKind::Csv,
+};
+
 /// A period as a page for a browser.
 pub const PAGE: ReportRow = ReportRow {
     word: "page",
@@ -245,6 +260,7 @@ pub fn row_of(name: ReportName) -> ReportRow
         ReportName::Adjustments => ADJUSTMENTS,
         ReportName::Details => DETAILS,
         ReportName::Bill => BILL,
+        ReportName::Focus => FOCUS,
         ReportName::Page => PAGE,
         ReportName::Disputes => DISPUTES,
         ReportName::Record => RECORD,
@@ -255,11 +271,12 @@ pub fn row_of(name: ReportName) -> ReportRow
 }
 
 /// The reports in the order of the program's help.
-pub(crate) static REPORTS: [ReportName; 10] = [
+pub(crate) static REPORTS: [ReportName; 11] = [
     ReportName::Statement,
     ReportName::Adjustments,
     ReportName::Details,
     ReportName::Bill,
+    ReportName::Focus,
     ReportName::Page,
     ReportName::Disputes,
     ReportName::Record,
@@ -324,7 +341,7 @@ pub(crate) fn report_of_centre(
     }
 }
 
-/// The report of a period of the whole office. A page is never a table.
+/// The report of a period of the whole office. Each has one form.
 pub(crate) fn report_of_period(
     name: ReportName,
     form: StatementForm,
@@ -333,6 +350,10 @@ pub(crate) fn report_of_period(
     ensures { result ≡ spec.report_of_period name form period }
 {
     match name {
+        ReportName::Focus => match form {
+            StatementForm::Text => Some(Report::Focus(period)),
+            StatementForm::Table => None,
+        },
         ReportName::Page => match form {
             StatementForm::Text => Some(Report::PeriodPage(period)),
             StatementForm::Table => None,

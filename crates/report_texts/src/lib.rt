@@ -16,7 +16,9 @@ mod dispute_tables;
 mod dry_runs;
 mod fields;
 mod figures;
+mod focus_tables;
 mod life_lines;
+mod midnights;
 mod moments;
 mod office_bills;
 mod period_lists;
@@ -50,6 +52,7 @@ pub use dispute_lists::{
 pub use dispute_tables::{dispute_rows, dispute_table, dispute_table_head};
 pub use dry_runs::{TriedRuling, dry_run_text};
 pub use figures::{Figures, figures_of, record_count, record_count_from};
+pub use focus_tables::{FocusHead, focus_table};
 pub use life_lines::is_charge;
 pub use office_bills::office_bill_text;
 pub use period_lists::period_list_text;

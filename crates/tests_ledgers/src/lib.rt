@@ -18,6 +18,7 @@
 //! | `details PERIOD`, `details-table PERIOD` | the text, and its comma-separated values |
 //! | `bill PERIOD`, `bill-table PERIOD` | the same |
 //! | these four and the first three with `PERIOD CENTRE` | the text of the centre |
+//! | `focus PERIOD` | the table of cost and usage |
 //! | `page PERIOD`, `office-page` | the page as HTML |
 //! | `record RECORD`, or 64 hexadecimal digits | the record's trail |
 //! | `what-if PERIOD TEXT..`, with a body before the texts | what it would have cost by that |

@@ -26,12 +26,13 @@ enum PeriodText {
     Report(PeriodReport),
     Details(StatementForm),
     Bill(StatementForm),
-    /// It is of all centres alone.
+    /// A table of cost and usage. It is of all centres alone, and so is a page.
+    Focus,
     Page,
 }
 
 /// By the verbs that ask for it.
-const PERIOD_TEXTS: [(&str, PeriodText); 8] = [
+const PERIOD_TEXTS: [(&str, PeriodText); 9] = [
     ("statement", PeriodText::Report(PeriodReport::Statement)),
     ("table", PeriodText::Report(PeriodReport::StatementTable)),
     (
@@ -42,6 +43,7 @@ const PERIOD_TEXTS: [(&str, PeriodText); 8] = [
     ("details-table", PeriodText::Details(StatementForm::Table)),
     ("bill", PeriodText::Bill(StatementForm::Text)),
     ("bill-table", PeriodText::Bill(StatementForm::Table)),
+    ("focus", PeriodText::Focus),
     ("page", PeriodText::Page),
 ];
 
@@ -59,8 +61,9 @@ impl PeriodText {
                 period,
                 centre,
             },
+            PeriodText::Focus if centre.is_none() => Report::Focus(period),
             PeriodText::Page if centre.is_none() => Report::PeriodPage(period),
-            PeriodText::Page => return Err(LineFault::NotUnderstood),
+            PeriodText::Focus | PeriodText::Page => return Err(LineFault::NotUnderstood),
             PeriodText::Details(form) => {
                 return Ok(BookText::Details(DetailReport {
                     form,

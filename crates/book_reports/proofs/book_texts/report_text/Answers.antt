@@ -32,7 +32,11 @@ returns-in-Record g c =
 pub returns-in-Bill : goal.returns-in-Bill
 returns-in-Bill g c = rw c.in-Bill.is c.bill_report.ensures
 
--- and so are pages
+-- a table of cost and usage
+pub returns-in-Focus : goal.returns-in-Focus
+returns-in-Focus g c = rw c.in-Focus.is c.focus_report.ensures
+
+-- and pages
 pub returns-in-OfficePage : goal.returns-in-OfficePage
 returns-in-OfficePage g c = rw c.in-OfficePage.is c.office_page_report.ensures
 
