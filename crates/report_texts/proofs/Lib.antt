@@ -9,3 +9,4 @@ pub mod AccountLines
 pub mod DifferenceLemmas
 pub mod ChargeLemmas
 pub mod CentreAmountLemmas
+pub mod CoverageLemmas

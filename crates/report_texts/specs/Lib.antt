@@ -1,8 +1,8 @@
 -- Read in this order: columns and numbers, how a period is named, each text of a whole period, those
 -- of one centre, what-ifs, the disputes as a list and as a table, the details of a period as both,
--- the bills of a centre and of the office by what they charge, all centres at once too, as texts and
--- as tables, the lists of periods and of rulings, the text of one record in its parts, and what a dry
--- run of a ruling shows: its figures, and its text.
+-- its coverage as both, the bills of a centre and of the office by what they charge, all centres at
+-- once too, as texts and as tables, the lists of periods and of rulings, the text of one record in
+-- its parts, and what a dry run of a ruling shows: its figures, and its text.
 pub mod Columns
 pub mod Periods
 pub mod Statements
@@ -17,6 +17,7 @@ pub mod Moments
 pub mod DisputeTables
 pub mod DetailLists
 pub mod DetailTables
+pub mod Coverage
 pub mod Charges
 pub mod CentreAmounts
 pub mod BillTexts
