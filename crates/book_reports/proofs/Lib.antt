@@ -15,4 +15,7 @@ pub mod WorkLemmas
 pub mod BillLineLemmas
 pub mod KeptTariffLemmas
 pub mod BillLemmas
+pub mod SystemLemmas
+pub mod CoverageLemmas
+pub mod CoverageReading
 pub mod PageLemmas
