@@ -31,6 +31,7 @@ pub mod KeptLemmas
 pub mod StayLemmas
 pub mod CoverageLemmas
 pub mod BillLemmas
+pub mod CoverageSums
 pub mod HeldBackLemmas
 pub mod TariffStays
 pub mod TurnStays
