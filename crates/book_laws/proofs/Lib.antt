@@ -2,11 +2,11 @@
 -- definitions; sums over rows and over a period's sets; the amounts of periods; the lines that are
 -- read; what calls make of any book; and closed periods. Runs, from these; calls one after another,
 -- and what they leave; the lists of all periods; the lines of a statement; single centres; details,
--- which records are counted, what is kept of them, and that they stay; bills, what a table of cost
--- and usage comes to, that bills stay, their tariffs and the periods of their lines; tariff files;
--- pages; rows by another tariff, and their lines; and the texts about a closed period. Single records:
--- their lives, and how their prices came about. Single answers: to calls, reports, imports, and lists
--- of requests.
+-- which records are counted, what is kept of them, that they stay, and coverage; bills, what a table
+-- of cost and usage comes to, that bills stay, their tariffs and the periods of their lines; tariff
+-- files; pages; rows by another tariff, and their lines; and the texts about a closed period. Single
+-- records: their lives, and how their prices came about. Single answers: to calls, reports, imports,
+-- and lists of requests.
 mod Words
 pub mod LinkedLemmas
 pub mod PeriodLemmas
@@ -30,8 +30,10 @@ pub mod DetailLemmas
 pub mod CountedLemmas
 pub mod KeptLemmas
 pub mod StayLemmas
+pub mod CoverageLemmas
 pub mod BillLemmas
 pub mod FocusLemmas
+pub mod CoverageSums
 pub mod HeldBackLemmas
 pub mod TariffStays
 pub mod TurnStays

@@ -4,9 +4,9 @@
 -- one work. Runs: what a run is, and on which books; the statement of a period; and the laws. Then
 -- calls one after another and what they leave, the lists of all periods, how wide the lines of a
 -- statement are, the reports on single centres, details, what is kept of them and that they stay,
--- bills, a table of cost and usage, tariff files, pages, a period's rows by another tariff, and the
--- texts about a closed period that stay. Single records: their lives, and how their prices came
--- about. Single answers: to calls, reports, imports, and lists of requests.
+-- coverage, bills, a table of cost and usage, tariff files, pages, a period's rows by another tariff,
+-- and the texts about a closed period that stay. Single records: their lives, and how their prices
+-- came about. Single answers: to calls, reports, imports, and lists of requests.
 pub mod NetCounts
 pub mod PeriodAmounts
 pub mod PeriodLines
@@ -25,6 +25,7 @@ pub mod CentreLaws
 pub mod DetailLaws
 pub mod KeptDetails
 pub mod DetailStays
+pub mod CoverageLaws
 pub mod BillLaws
 pub mod FocusLaws
 pub mod TariffLaws

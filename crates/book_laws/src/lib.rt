@@ -4,6 +4,7 @@
 mod bills;
 mod calls;
 mod centres;
+mod coverage;
 mod details;
 mod focus;
 mod histories;
@@ -23,6 +24,7 @@ pub use calls::{
     one_text, receipts_count_records, refusal_changes_nothing,
 };
 pub use centres::centres_add_up;
+pub use coverage::{counted_records_are_held, coverage_adds_up, each_day_stands};
 pub use details::{
     centre_details_add_up, counted_by_day, counted_follows, counted_is_read, detailed_once,
     details_add_up, details_are_kept, details_stay, next_is_next, rows_join_and_go,

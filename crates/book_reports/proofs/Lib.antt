@@ -16,4 +16,7 @@ pub mod BillLineLemmas
 pub mod KeptTariffLemmas
 pub mod BillLemmas
 pub mod FocusLemmas
+pub mod SystemLemmas
+pub mod CoverageLemmas
+pub mod CoverageReading
 pub mod PageLemmas

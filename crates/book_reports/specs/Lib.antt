@@ -1,7 +1,8 @@
 -- Read in this order: the lines of receipts and of check lists, the names of records as they are
--- spelled, the day of a close, the parts of a bill and the bill as a whole, pages, the texts that
--- books answer, that of a tariff, the same by another tariff, the figures of a period, a report as a whole, lists that are
--- written while they are read, also those that books may refuse, the sums of what was worked, and
+-- spelled, the day of a close, the parts of a bill and the bill as a whole, pages, the records of a
+-- period with their systems and its coverage, the texts that books answer, that of a tariff, the
+-- same by another tariff, the figures of a period, a report as a whole, lists that are written while
+-- they are read, also those that books may refuse, the sums of what was worked and of coverage, and
 -- how long the text of details is.
 pub mod ReceiptLines
 pub mod CheckLists
@@ -16,6 +17,9 @@ pub mod Bills
 pub mod Pages
 pub mod FocusDays
 pub mod FocusReports
+pub mod SystemDetails
+pub mod SystemsInTurn
+pub mod Coverage
 pub mod BookTexts
 pub mod RulingTexts
 pub mod WhatIfTexts
@@ -26,4 +30,5 @@ pub mod StreamedAnswers
 pub mod StreamedDisputes
 pub mod StreamedDetails
 pub mod WorkSums
+pub mod CoverageSums
 pub mod DetailLengths

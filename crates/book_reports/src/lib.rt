@@ -8,6 +8,8 @@ mod bill_work;
 mod bills;
 mod book_texts;
 mod check_lists;
+mod coverage;
+mod coverage_sums;
 mod detail_lengths;
 mod figures;
 mod focus_days;
@@ -24,6 +26,7 @@ mod ruling_texts;
 mod streamed_details;
 mod streamed_disputes;
 mod streamed_rulings;
+mod system_details;
 mod what_if;
 
 pub use book_lists::{ReportFault, write_bytes, write_text};

@@ -1,0 +1,142 @@
+-- The records of a period with their systems: two calls of a ledger for each, which show one book.
+use Rattle.std.proofs.Common.{◌≡◌, ◌∙◌, ℕ, List, refl, sym, ap, Option, Some, None, Result, Ok, Err}
+use Rattle.std.specs.Option.{ok_or, option_and_then, option_map}
+use Rattle.std.specs.Result.{IsErrAnd}
+use Rattle.smf_frames.specs.Header.{header_of}
+use Rattle.book_model.specs.declared.detail.Detail.{Detail}
+use Rattle.book_model.specs.declared.fault.LedgerFault.{LedgerFault}
+use Rattle.book_model.specs.declared.fault.LedgerFault.TheVariants.{Memory, NoSuchRecord, Reopen}
+use Rattle.book_model.specs.declared.fault.LedgerFault.TheVariants.{Store}
+use Rattle.book_model.specs.declared.trail.Trail.{Trail}
+use Rattle.book_model.specs.RulingAnswers.{record_named}
+use Rattle.book_model.specs.Trails.{TrailSeen, reckoning_in, trail_by, trail_of}
+use Rattle.book_model.specs.Words.{Book, Naming, next_detail_outcome, no_event, trail_outcome}
+use Rattle.book_model.specs.Words.{trail_shown}
+use Rattle.tariff_rules.specs.declared.reckoning.Reckoning.{Reckoning}
+use Rattle.book_core.specs.Calls.{IsCall}
+use Rattle.book_core.specs.Ledgers.{Seen}
+use Rattle.report_texts.specs.declared.coverage_rows.SystemDetail.{SystemDetail}
+use Rattle.book_lists.specs.Shown.{shown_by}
+use Rattle.book_lists.proofs.ReadingLemmas.{IsAlike, Tells, by_names, call_failed, read_as}
+use Rattle.book_lists.proofs.ShownLemmas.{answers, both_shown, refused_next, shown}
+use Rattle.book_lists.proofs.WritingLemmas.{same_value}
+use Rattle.book_reports.specs.SystemDetails.{IsSystemBy, detail_in, hindrance, next_on_system}
+use Rattle.book_reports.specs.SystemDetails.{on_system, system_found, system_named, system_outcome}
+
+-- ---- the system of a record
+
+-- a trail is of the record that is held under the name
+system_told : (naming : Naming) (book : Book) (held : Option (List ℕ)) (seen : TrailSeen)
+    → ok_or (option_and_then (trail_of naming book) held) NoSuchRecord ≡ Ok seen
+    → system_found held ≡ (header_of seen.bytes).system
+system_told naming book None seen told = cc
+system_told naming book (Some bytes) seen told = by (reckoning_in book.rulings bytes) told
+  where
+    by : (reckoning : Option Reckoning)
+        → ok_or (option_map (trail_by naming book bytes) reckoning) NoSuchRecord ≡ Ok seen
+        → (header_of bytes).system ≡ (header_of seen.bytes).system
+    by None told = cc
+    by (Some reckoning) told =
+        ap (λ (seen : TrailSeen). (header_of seen.bytes).system) (same_value told)
+
+-- a hindrance reopens a ledger where the fault does
+hindrance_alike : {V U : Type 0} (fault : LedgerFault)
+    → IsAlike {V = V} {U = U} (Err fault) (Err (hindrance fault))
+hindrance_alike Memory = record { reopen = refl; store = refl }
+hindrance_alike Store = record { reopen = refl; store = refl }
+hindrance_alike Reopen = record { reopen = refl; store = refl }
+hindrance_alike fault = record { reopen = refl; store = refl }
+
+-- and shows nothing
+hindrance_tells : (fault : LedgerFault) (answer : Result (List ℕ) LedgerFault)
+    → Tells (λ (system : List ℕ). system) (Err (hindrance fault)) answer
+hindrance_tells Memory answer = tt
+hindrance_tells Store answer = tt
+hindrance_tells Reopen answer = tt
+hindrance_tells fault answer = tt
+
+-- so the system that a trail shows is that of the record of the name
+pub system_read : {old new : Seen} {name : List ℕ} (answer : Result Trail LedgerFault)
+    (result : Result (List ℕ) LedgerFault)
+    → IsCall trail_shown old new answer (trail_outcome old.naming name)
+    → IsSystemBy answer result
+    → IsCall (λ system. system) old new result (system_outcome old.naming name)
+system_read {old} {new} {name} (Ok trail) result call is =
+    rw is
+    (read_as (λ book. refl) (λ book. refl) (record { reopen = refl; store = refl })
+    (λ book told. ap Ok
+    (system_told old.naming book (record_named old.naming book.held name) (trail_shown trail) told))
+    call)
+system_read {old} {new} {name} (Err fault) result call is =
+    rw is
+    (read_as (λ book. refl) (λ book. refl) (hindrance_alike fault)
+    (λ book told. hindrance_tells fault (Ok (system_named old.naming book name))) call)
+
+-- ---- the next record
+
+module _ {old mid : Seen} (period : ℕ) (last : Option SystemDetail) {asked : Option Detail}
+    (is : asked ≡ detail_in last)
+  where
+    -- the answer to the next detail is that to the one after the last
+    asked_same : (book : Book)
+        → (next_detail_outcome old.naming period None (detail_in last) book).answer
+        ≡ (next_detail_outcome old.naming period None asked book).answer
+    asked_same book =
+        ap (λ asked. (next_detail_outcome old.naming period None asked book).answer) (sym is)
+
+    -- the next record is refused as the next detail is
+    pub next_refused : {fault : LedgerFault} (result : Result (Option SystemDetail) LedgerFault)
+        → IsErrAnd result (λ given. given ≡ fault)
+        → IsCall (λ found. found) old mid (Err fault)
+        (next_detail_outcome old.naming period None asked)
+        → IsCall (λ found. found) old mid result
+        (λ book. no_event (next_on_system old.naming period last book))
+    next_refused result passed call =
+        call_failed result passed (λ book. refl) (λ book. refl)
+        (λ book said. ap (shown_by (option_map (on_system old.naming book)))
+        (asked_same book ∙ said))
+        call
+
+    module _ {found : Option Detail}
+        (call : IsCall (λ found. found) old mid (Ok found)
+        (next_detail_outcome old.naming period None asked))
+      where
+        -- there is none
+        pub none_left : found ≡ None → IsCall (λ found. found) old mid (Ok None)
+            (λ book. no_event (next_on_system old.naming period last book))
+        none_left none =
+            read_as (λ book. refl) (λ book. refl) (record { reopen = refl; store = refl })
+            (λ book said. ap (shown_by (option_map (on_system old.naming book)))
+            (asked_same book ∙ said ∙ ap Ok none))
+            call
+
+        module _ {new : Seen} (detail : Detail) (some : found ≡ Some detail) where
+          -- something hindered the look at its record
+          pub system_hindered : {fault : LedgerFault}
+              (result : Result (Option SystemDetail) LedgerFault)
+              → IsErrAnd result (λ given. given ≡ fault)
+              → IsCall (λ system. system) mid new (Err fault)
+              (system_outcome mid.naming detail.name)
+              → IsCall (λ found. found) old new result
+              (λ book. no_event (next_on_system old.naming period last book))
+          system_hindered result passed next =
+              refused_next result passed (λ book. refl) (λ book. refl) (λ book known told. cc)
+              (shown (λ book. refl) call) next
+
+          -- or this is it
+          pub system_met : (system : List ℕ)
+              → IsCall (λ system. system) mid new (Ok system)
+              (system_outcome mid.naming detail.name)
+              → IsCall (λ found. found) old new
+              (Ok (Some (record { detail = detail; system = system })))
+              (λ book. no_event (next_on_system old.naming period last book))
+          system_met system next =
+              let made : List ℕ → SystemDetail =
+              λ system. record { detail = detail; system = system } in
+              answers _ (λ book. refl)
+              (λ book both.
+              ap (shown_by (option_map (on_system old.naming book)))
+              (asked_same book ∙ both.first ∙ ap Ok some)
+              ∙ ap (λ system. Ok (Some (made system))) (same_value both.next))
+              (both_shown (λ book. refl) (shown (λ book. refl) call)
+              (by_names (λ naming. system_outcome naming detail.name) call.work.naming next))
