@@ -31,11 +31,13 @@ use Rattle.book_reports.specs.declared.report.PeriodReport.TheVariants.{Adjustme
 use Rattle.book_reports.specs.declared.report.PeriodReport.TheVariants.{AdjustmentTable}
 use Rattle.book_reports.specs.declared.report.PeriodReport.TheVariants.{StatementTable}
 use Rattle.book_reports.specs.declared.report.Report.{Report}
-use Rattle.book_reports.specs.declared.report.Report.TheVariants.{Bill, DisputeList, DisputeTable}
-use Rattle.book_reports.specs.declared.report.Report.TheVariants.{Focus, OfPeriod, OfficePage}
+use Rattle.book_reports.specs.declared.report.Report.TheVariants.{Bill, Coverage, DisputeList}
+use Rattle.book_reports.specs.declared.report.Report.TheVariants.{DisputeTable, Focus, OfPeriod}
+use Rattle.book_reports.specs.declared.report.Report.TheVariants.{OfficePage}
 use Rattle.book_reports.specs.declared.report.Report.TheVariants.{PeriodList, PeriodPage, Record}
 use Rattle.book_reports.specs.declared.report.Report.TheVariants.{RulingList, TariffText}
 use Rattle.book_reports.specs.Bills.{bill_answer}
+use Rattle.book_reports.specs.Coverage.{coverage_answer}
 use Rattle.book_reports.specs.FocusReports.{focus_answer}
 use Rattle.book_reports.specs.Pages.{office_page_answer, period_page_answer}
 pub use Rattle.book_reports.specs.Shown.{closed_through, closed_through_outcome}
@@ -99,6 +101,7 @@ report_answer naming (Record name) book =
     shown_by (record_text name) (trail_outcome naming name book).answer
 report_answer naming (Bill form period centre) book = bill_answer naming form period centre book
 report_answer naming (Focus period) book = focus_answer naming period book
+report_answer naming (Coverage form period) book = coverage_answer naming form period book
 report_answer naming OfficePage book = office_page_answer naming book
 report_answer naming (PeriodPage period) book = period_page_answer naming period book
 

@@ -8,6 +8,7 @@ ghost use Rattle.book_core.specs.Calls.{IsCall};
 ghost use Rattle.book_reports.specs.BookTexts as spec;
 
 use crate::bills::bill_report;
+use crate::coverage::coverage_report;
 use crate::focus_reports::focus_report;
 use crate::pages::{office_page_report, period_page_report};
 use crate::report::{PeriodReport, Report};
@@ -198,6 +199,7 @@ pub fn report_text<L: Ledger>(
             centre,
         } => bill_report(alloc, ledger, form, period, centre),
         Report::Focus(period) => focus_report(alloc, ledger, period),
+        Report::Coverage { form, period } => coverage_report(alloc, ledger, form, period),
         Report::OfficePage => office_page_report(alloc, ledger),
         Report::PeriodPage(period) => period_page_report(alloc, ledger, period),
     }

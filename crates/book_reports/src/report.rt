@@ -54,6 +54,13 @@ pub enum Report {
     },
     /// A period as a table of cost and usage by FOCUS 1.0.
     Focus(u16),
+    /// How many records a period counts of each day and system.
+    Coverage {
+        /// As a text or as a table.
+        form: StatementForm,
+        /// The number of the period.
+        period: u16,
+    },
     /// The page of the office, for a browser: what each period comes to, the open one first.
     OfficePage,
     /// The page of a period, for a browser.

@@ -235,7 +235,7 @@ const NUMBER: Argument = Argument::InPlaceOr(
 );
 
 /// The commands in the order of the program's help. Of reports the row has the word and the help.
-pub(crate) static KNOWN_COMMANDS: [KnownCommand; 24] = [
+pub(crate) static KNOWN_COMMANDS: [KnownCommand; 25] = [
     KnownCommand {
         name: "trial",
         about: "Prices a dump from standard input in new books, and prints their statement",
@@ -300,6 +300,11 @@ pub(crate) static KNOWN_COMMANDS: [KnownCommand; 24] = [
         name: report_row::FOCUS.word,
         about: report_row::FOCUS.about,
         words: &[BOOK, PERIOD, WAIT],
+    },
+    KnownCommand {
+        name: report_row::COVERAGE.word,
+        about: report_row::COVERAGE.about,
+        words: &[BOOK, PERIOD, CSV, WAIT],
     },
     KnownCommand {
         name: report_row::PAGE.word,

@@ -94,6 +94,16 @@ row_of report.Focus = record {
   csv_path = None;
   kind = body.Csv;
 }
+row_of report.Coverage = record {
+  word = codes "coverage";
+  shape = OfPeriod;
+  csv = true;
+  streamed = false;
+  by_prices = false;
+  path = Some (codes "/coverage/");
+  csv_path = Some (codes "/coverage-csv/");
+  kind = body.Text;
+}
 row_of report.Page = record {
   word = codes "page";
   shape = OfPeriod;
@@ -158,8 +168,8 @@ row_of report.TariffText = record {
 -- the reports in the order of the program's help
 abbrev pub reports : List ReportName
 reports = report.Statement ∷ report.Adjustments ∷ report.Details ∷ report.Bill ∷ report.Focus
-    ∷ report.Page ∷ report.Disputes ∷ report.Record ∷ report.Periods ∷ report.Rulings
-    ∷ report.TariffText ∷ []
+    ∷ report.Coverage ∷ report.Page ∷ report.Disputes ∷ report.Record ∷ report.Periods
+    ∷ report.Rulings ∷ report.TariffText ∷ []
 
 -- the text is the word of the report
 abbrev pub has_word : List ℕ → ReportName → Bool
@@ -200,9 +210,10 @@ report_of_centre report.Adjustments form period centre =
 report_of_centre report.Bill form period centre = Some (made.Bill form period centre)
 report_of_centre name form period centre = None
 
--- of a period of the whole office: each has one form
+-- of a period of the whole office: coverage alone has two forms
 abbrev pub report_of_period : ReportName → StatementForm → ℕ → Option Report
 report_of_period report.Focus form.Text period = Some (made.Focus period)
+report_of_period report.Coverage form period = Some (made.Coverage form period)
 report_of_period report.Page form.Text period = Some (made.PeriodPage period)
 report_of_period name form period = None
 

@@ -20,6 +20,8 @@ pub enum ReportName {
     Bill,
     /// A period as a table of cost and usage by FOCUS 1.0.
     Focus,
+    /// How many records a period counts of each day and system.
+    Coverage,
     /// A period as a page for a browser.
     Page,
     /// The records in dispute.
@@ -172,6 +174,19 @@ pub const FOCUS: ReportRow = ReportRow {
     kind: BodyKind::Csv,
 };
 
+/// How many records a period counts of each day and system.
+pub const COVERAGE: ReportRow = ReportRow {
+    word: "coverage",
+    about: "Prints how many records a period counts of each day and system",
+    shape: Shape::OfPeriod,
+    csv: true,
+    streamed: false,
+    by_prices: false,
+    path: Some("/coverage/"),
+    csv_path: Some("/coverage-csv/"),
+    kind: BodyKind::Text,
+};
+
 /// A period as a page for a browser.
 pub const PAGE: ReportRow = ReportRow {
     word: "page",
@@ -261,6 +276,7 @@ pub fn row_of(name: ReportName) -> ReportRow
         ReportName::Details => DETAILS,
         ReportName::Bill => BILL,
         ReportName::Focus => FOCUS,
+        ReportName::Coverage => COVERAGE,
         ReportName::Page => PAGE,
         ReportName::Disputes => DISPUTES,
         ReportName::Record => RECORD,
@@ -271,12 +287,13 @@ pub fn row_of(name: ReportName) -> ReportRow
 }
 
 /// The reports in the order of the program's help.
-pub(crate) static REPORTS: [ReportName; 11] = [
+pub(crate) static REPORTS: [ReportName; 12] = [
     ReportName::Statement,
     ReportName::Adjustments,
     ReportName::Details,
     ReportName::Bill,
     ReportName::Focus,
+    ReportName::Coverage,
     ReportName::Page,
     ReportName::Disputes,
     ReportName::Record,
@@ -341,7 +358,7 @@ pub(crate) fn report_of_centre(
     }
 }
 
-/// The report of a period of the whole office. Each has one form.
+/// The report of a period of the whole office.
 pub(crate) fn report_of_period(
     name: ReportName,
     form: StatementForm,
@@ -354,6 +371,7 @@ pub(crate) fn report_of_period(
             StatementForm::Text => Some(Report::Focus(period)),
             StatementForm::Table => None,
         },
+        ReportName::Coverage => Some(Report::Coverage { form, period }),
         ReportName::Page => match form {
             StatementForm::Text => Some(Report::PeriodPage(period)),
             StatementForm::Table => None,

@@ -36,6 +36,10 @@ returns-in-Bill g c = rw c.in-Bill.is c.bill_report.ensures
 pub returns-in-Focus : goal.returns-in-Focus
 returns-in-Focus g c = rw c.in-Focus.is c.focus_report.ensures
 
+-- how many records there are of each day and system
+pub returns-in-Coverage : goal.returns-in-Coverage
+returns-in-Coverage g c = rw c.in-Coverage.is c.coverage_report.ensures
+
 -- and pages
 pub returns-in-OfficePage : goal.returns-in-OfficePage
 returns-in-OfficePage g c = rw c.in-OfficePage.is c.office_page_report.ensures
