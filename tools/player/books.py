@@ -10,7 +10,7 @@ written to a file that the command reads.
     choose RECORD, record RECORD             the same, with the name of the record
     disputes, periods                        the same
     statement PERIOD [CENTRE]                the same, with --centre; so are adjustments, details and bill
-    focus PERIOD, page PERIOD                the same
+    focus PERIOD, coverage PERIOD            the same, and so is page; coverage-table is coverage with --csv
     table PERIOD [CENTRE]                    statement with --csv; so are details-table and bill-table
     what-if PERIOD[/CENTRE] TEXT..           statement with --tariff FILE; with --csv what-if-table
     list, with a body of such lines          each of them
@@ -29,7 +29,7 @@ FAR_DAYS = 366
 # The command of a report of a period.
 REPORTS = {"statement": ["statement"], "table": ["statement", "--csv"], "adjustments": ["adjustments"],
            "details": ["details"], "details-table": ["details", "--csv"], "bill": ["bill"], "bill-table": ["bill", "--csv"],
-           "focus": ["focus"], "page": ["page"]}
+           "focus": ["focus"], "coverage": ["coverage"], "coverage-table": ["coverage", "--csv"], "page": ["page"]}
 LISTS = frozenset("disputes periods record".split())
 OTHER_PRICES = frozenset("what-if what-if-table".split())
 DUMPS = frozenset("import check trial".split())

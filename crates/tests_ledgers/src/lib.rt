@@ -19,6 +19,7 @@
 //! | `bill PERIOD`, `bill-table PERIOD` | the same |
 //! | these four and the first three with `PERIOD CENTRE` | the text of the centre |
 //! | `focus PERIOD` | the table of cost and usage |
+//! | `coverage PERIOD`, `coverage-table PERIOD` | the text, and its comma-separated values |
 //! | `page PERIOD`, `office-page` | the page as HTML |
 //! | `record RECORD`, or 64 hexadecimal digits | the record's trail |
 //! | `what-if PERIOD TEXT..`, with a body before the texts | what it would have cost by that |

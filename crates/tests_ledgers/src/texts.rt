@@ -26,13 +26,14 @@ enum PeriodText {
     Report(PeriodReport),
     Details(StatementForm),
     Bill(StatementForm),
-    /// A table of cost and usage. It is of all centres alone, and so is a page.
+    /// A table of cost and usage. It is of all centres alone, and so are coverage and a page.
     Focus,
+    Coverage(StatementForm),
     Page,
 }
 
 /// By the verbs that ask for it.
-const PERIOD_TEXTS: [(&str, PeriodText); 9] = [
+const PERIOD_TEXTS: [(&str, PeriodText); 11] = [
     ("statement", PeriodText::Report(PeriodReport::Statement)),
     ("table", PeriodText::Report(PeriodReport::StatementTable)),
     (
@@ -44,6 +45,8 @@ const PERIOD_TEXTS: [(&str, PeriodText); 9] = [
     ("bill", PeriodText::Bill(StatementForm::Text)),
     ("bill-table", PeriodText::Bill(StatementForm::Table)),
     ("focus", PeriodText::Focus),
+    ("coverage", PeriodText::Coverage(StatementForm::Text)),
+    ("coverage-table", PeriodText::Coverage(StatementForm::Table)),
     ("page", PeriodText::Page),
 ];
 
@@ -62,8 +65,11 @@ impl PeriodText {
                 centre,
             },
             PeriodText::Focus if centre.is_none() => Report::Focus(period),
+            PeriodText::Coverage(form) if centre.is_none() => Report::Coverage { form, period },
             PeriodText::Page if centre.is_none() => Report::PeriodPage(period),
-            PeriodText::Focus | PeriodText::Page => return Err(LineFault::NotUnderstood),
+            PeriodText::Focus | PeriodText::Coverage(_) | PeriodText::Page => {
+                return Err(LineFault::NotUnderstood);
+            }
             PeriodText::Details(form) => {
                 return Ok(BookText::Details(DetailReport {
                     form,
