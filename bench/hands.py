@@ -99,7 +99,7 @@ REPORTS = {
     "disputes": lambda model: list(model.disputes()), "periods": lambda model: list(model.periods()),
     "rulings": lambda model: list(model.rulings()), "": lambda model: pages.office_page(model).splitlines(),
     "period": lambda model, period: model.of_period(
-        lambda number, _: pages.period_page(model, number).splitlines(), int(period))}
+        lambda number: pages.period_page(model, number).splitlines(), int(period))}
 
 
 def due(model, path):
