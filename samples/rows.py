@@ -188,6 +188,9 @@ DIGITS = re.compile("[0-9A-Fa-f]{64}")
 
 OF_PERIODS = "statement table adjustments adjustment_table".split()
 
+# A period in a path.
+NUMBER = re.compile("[1-9][0-9]{0,3}")
+
 # The paths at which a tariff is handed in: of what form the answer is, and of which period, and which centre, if of one.
 WHAT_IF_PATH = re.compile(r"/what-if(-csv)?/([1-9][0-9]{0,3}(?:/[A-Z0-9-]{1,16})?)")
 
@@ -408,6 +411,8 @@ class Rows:
         has_period = verb in OF_PERIODS or verb in DETAILS or verb in OF_OFFICE
         most = 1 if verb in OF_OFFICE else 2
         if bool(words) != has_period or len(words) > most or not all(map(office.is_name, words[1:])):
+            return served(404, [])
+        if has_period and not NUMBER.fullmatch(words[0]):
             return served(404, [])
         found = self.details if verb in DETAILS else self.of_office if verb in OF_OFFICE else None
         text = found(verb, *words) if found else self.report(verb, words)
