@@ -126,9 +126,9 @@ def due_to(request, model):
         name, *_ = asked.report
         has = b"" if name != "what-if" else (
             b"\nTARIFF %s\n" % hashlib.sha256(asked.body).hexdigest().encode())
+        is_table = name == "focus" or name.endswith("-csv")
         return Due("SERVED 200", form=formats.report_form(*asked.report), has=has,
-                   kind="html" if name in formats.PAGES else "csv" if name.endswith("-csv") else "plain",
-                   may_be_refused=may_be_refused)
+                   kind="html" if name in formats.PAGES else "csv" if is_table else "plain", may_be_refused=may_be_refused)
     return Due("SERVED %d" % asked.status, formats.answer(asked.status, allow=asked.allow),
                may_be_refused=may_be_refused)
 

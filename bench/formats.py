@@ -186,7 +186,8 @@ TOKEN = rb"[!#$%&'*+.^_`|~0-9A-Za-z-]+"
 HEAD = re.compile(rb"(?:\r?\n)*(" + TOKEN + rb") ([!-~\x80-\xff]+) HTTP/1\.[01]\r?\n"
                   rb"((?:" + TOKEN + rb":[\t -~\x80-\xff]*\r?\n)*)\r?\n")
 FIELD = re.compile(rb"([^:\r\n]+):([^\r\n]*)\r?\n")
-PATH = re.compile(rb"/(?:(?P<office>)|period/(?P<page>[1-9][0-9]{0,3})"
+PATH = re.compile(rb"/(?:(?P<office>)"
+                  rb"|(?P<undivided>period|focus|coverage|coverage-csv)/(?P<number>[1-9][0-9]{0,3})"
                   rb"|(?P<whole>periods|disputes|disputes-csv|rulings)"
                   rb"|(?:(?P<report>(?:statement|adjustments)(?:-csv)?)"
                   rb"|(?P<tried>what-if(?:-csv)?))"
@@ -281,12 +282,14 @@ def asked(request, last_period):
         return Asked(200, report=("record", 0, None)) if is_held else Asked(404)
     if path["office"] is not None:
         return Asked(200, report=("office-page", 0, None))
-    return asked_of(path, path["whole"] or path["report"] or b"page", last_period)
+    if path["undivided"] == b"period":
+        return asked_of(path, b"page", last_period)
+    return asked_of(path, path["whole"] or path["report"] or path["undivided"], last_period)
 
 
 def asked_of(path, name, last_period, body=None):
     """The report that a path names, or 404 where it names a period that is not there."""
-    period, centre = int(path["period"] or path["page"] or 0), path["centre"] and path["centre"].decode()
+    period, centre = int(path["period"] or path["number"] or 0), path["centre"] and path["centre"].decode()
     found = period <= last_period
     report = (name.decode(), period, centre) if found else None
     return Asked(200 if found else 404, report=report, body=body)
@@ -396,6 +399,38 @@ RULINGS = (r"RULINGS\n(?:TARIFF %s [0-9a-f]{64} [0-9]+\n)*(?:CLOSE [0-9]+ %s\n)*
            % (DAY, DAY))
 
 
+# Of the whole office alone: cost and usage, and coverage.
+FOCUS_COLUMNS = (
+    "BillingAccountId,BillingAccountName,InvoiceIssuerName,ProviderName,PublisherName,BillingCurrency,"
+    "BillingPeriodStart,BillingPeriodEnd,ServiceCategory,ServiceName,SubAccountId,SubAccountName,"
+    "ChargePeriodStart,ChargePeriodEnd,ChargeCategory,ChargeClass,ChargeFrequency,ChargeDescription,"
+    "ConsumedQuantity,ConsumedUnit,PricingQuantity,PricingUnit,BilledCost,EffectiveCost,ContractedCost,"
+    "ListCost,Tags")
+# What a letterhead says, or nothing: in quotes where it has a comma or a quote.
+LETTERS = r"(?:(?:(?![,\"])[ -~]){0,40}|\"(?:(?!\")[ -~]|\"\"){1,40}\")"
+MIDNIGHT = DAY + "T00:00:00Z"
+TAGS = r'"{""Shift"":""%s"",""Line"":""%%s""}"' % NAME
+CHARGED = (r",Usage-Based,Records: [0-9]+,([0-9]+\.[0-9]{2}),CPU-Seconds,\3,CPU-Seconds,(%s)(?:,\4){3},%s"
+           % (AMOUNT, TAGS % "CHARGE"))
+CORRECTED = (r"Correction,Usage-Based,Record: [0-9a-f]{64},,,,,(-?%s)(?:,\5){3},%s"
+             % (AMOUNT, TAGS % "(?:PLUS|MINUS)"))
+FOCUS_ROW = (r"(%s)(?:,\1){4},%s,%s,%s,Compute,Batch processing,(%s),\2,%s,%s,Usage,(?:%s|%s)\n"
+             % (LETTERS, LETTERS, MIDNIGHT, MIDNIGHT, NAME, MIDNIGHT, MIDNIGHT, CHARGED, CORRECTED))
+COVERAGE_COLUMNS = "period,day,system,count,first,last"
+COVERAGE = r"(?:%s %s(?: +0 - {11}-| +[1-9][0-9]* %s %s)\n)*GAPS [0-9]+\n" % (DAY, SHOWN, TIME, TIME)
+COVERAGE_ROW = r"%s,%s,(?:0,-,-|[1-9][0-9]*,%s,%s)\n" % (DAY, VALUE, TIME, TIME)
+
+
+def undivided_form(name, period):
+    """The form of a report that is of the whole office alone; with period 0 of any period."""
+    return form({"focus": r"%s\n(?:%s)*" % (FOCUS_COLUMNS, FOCUS_ROW),
+                 "coverage": "COVERAGE " + OF_PERIOD[period] + COVERAGE,
+                 "coverage-csv": r"%s\n(?:%s,%s)*" % (COVERAGE_COLUMNS, period or "[0-9]+", COVERAGE_ROW)}[name])
+
+
+UNDIVIDED = "focus", "coverage", "coverage-csv"
+
+
 def html(title, one):
     """The form of a page: a style, and below it tags that are known, no attribute of which can hold a script or lead away from
     here, and texts of such bytes, of which none is markup."""
@@ -435,7 +470,7 @@ def report_form(name, period=0, centre=None):
         return form(name.upper() + title + " " + OF_PERIOD[period] + TEXTS[name] % (centre or NAME))
     if name in TABLES:
         return form(TABLES[name] % (period or "[0-9]+", centre or NAME))
-    return form(WHOLE[name])
+    return undivided_form(name, period) if name in UNDIVIDED else form(WHOLE[name])
 
 
 # Bills, of the office and of a centre.
@@ -474,7 +509,7 @@ DRY_RUN = r"DRY RUN (?:%s)" % "|".join(
         ("CHOOSE [0-9a-f]{64}", "DISPUTES"), ("ADOPT", "DISPUTES")))
 
 OF_PERIODS = ("statement", "statement-csv", "what-if", "what-if-csv", "details", "details-csv",
-              "adjustments", "adjustments-csv")
+              "adjustments", "adjustments-csv", *UNDIVIDED)
 OF_COMMANDS = {name: report_form(name) for name in (*OF_PERIODS, *WHOLE)}
 OF_COMMANDS |= {name: form(text) for name, text in BILLS.items()}
 OF_COMMANDS |= {
@@ -497,6 +532,7 @@ OF_DAMAGED = OF_COMMANDS | {
         ("centre-bill", "BILL CENTRE %s " % NAME + OF_PERIOD[0]),
         ("bill-csv", OFFICE_BILL_COLUMNS), ("centre-bill-csv", BILL_COLUMNS),
         ("adjustments", "ADJUSTMENTS " + OF_PERIOD[0]), ("disputes", "DISPUTES [0-9]+"),
+        ("focus", FOCUS_COLUMNS), ("coverage", "COVERAGE " + OF_PERIOD[0]), ("coverage-csv", COVERAGE_COLUMNS),
         ("adjustments-csv", ADJUSTMENT_COLUMNS), ("disputes-csv", DISPUTE_COLUMNS),
         ("periods", "PERIODS [0-9]+"), ("record", "RECORD [0-9a-f]{64}"), ("rulings", "RULINGS"))}
 # Nor does it make markup then.

@@ -95,11 +95,12 @@ def of_period(report):
 
 REPORTS = {
     "statement": of_period("statement"), "statement-csv": of_period("table"), "adjustments": of_period("adjustments"),
-    "adjustments-csv": of_period("adjustment_table"), "details": of_period("details"),
+    "adjustments-csv": of_period("adjustment_table"), "details": of_period("details"), "focus": of_period("focus"),
+    "coverage": of_period("coverage"), "coverage-csv": of_period("coverage_table"),
     "disputes": lambda model: list(model.disputes()), "periods": lambda model: list(model.periods()),
     "rulings": lambda model: list(model.rulings()), "": lambda model: pages.office_page(model).splitlines(),
     "period": lambda model, period: model.of_period(
-        lambda number, _: pages.period_page(model, number).splitlines(), int(period))}
+        lambda number: pages.period_page(model, number).splitlines(), int(period))}
 
 
 def due(model, path):

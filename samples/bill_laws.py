@@ -1,18 +1,28 @@
 #!/usr/bin/env python3
-"""What holds of the bills of any books, tried by the rules of office.py on random histories of imports, closes, choices,
-tariffs that come late, and, in two of three, an adoption of the second rule.
+"""What holds of the bills of any books, and of their cost and usage and their coverage, tried by the rules of office.py on
+random histories of imports, closes, choices, tariffs that come late, and, in two of three, an adoption of the second rule.
+Some of the steps run on another system.
 
     bill_laws.py HISTORIES CALLS [SCRIPT]   tries so many histories of so many calls: 400 of 60 take some minutes. With
-                                            SCRIPT it also writes them there as rows, which ask for the bills of each
-                                            period and centre at the end, for tests_books to play
+                                            SCRIPT it also writes them there as rows, which ask at the end for the bills
+                                            of each period and centre, for cost and usage, and for coverage, for
+                                            tests_books to play
 
 After each call: the steps and jobs of a bill are the rows of its centre's statement; what it comes to is that statement's
 total with the centre's adjustments; the centres' bills come to the office's; each record that a period counts has its
 price by a tariff that stands on the bill; what a bill says is reversed was charged by the period that it names; however
 the disputes end, a centre is charged no less and no more for them than its bill says; and the bills of closed periods
-stay as they were."""
+stay as they were. Cost and usage is read by Python's csv: each row has the columns of FOCUS, moments, numbers and tags; the
+rows cost what the bill says is owed, of the office and of each centre, those without a class what the statement comes to, and
+the corrections what the adjustments do. Coverage counts the records of the statement, and has each day of the period with each
+system."""
 import collections
 import copy
+import csv
+import datetime
+import decimal
+import io
+import json
 import pathlib
 import sys
 
@@ -70,6 +80,68 @@ def try_period(books, period, centres):
     holds(all(books.in_force(books.data[name]) in tariffs for name in books.counted(period)), "prices are by its tariffs")
 
 
+def moment(text):
+    """What a moment says, as a tool reads it."""
+    return datetime.datetime.strptime(text, "%Y-%m-%dT%H:%M:%SZ")
+
+
+def try_focus_row(row):
+    """A row of cost and usage, by itself."""
+    holds(None not in row and None not in row.values(), "a row has the columns of the heading")
+    begins, ends = (moment(row["BillingPeriod" + word]) for word in ("Start", "End"))
+    day, next_day = (moment(row["ChargePeriod" + word]) for word in ("Start", "End"))
+    holds(begins < ends and next_day - day == datetime.timedelta(1), "no period is empty, and a charge is of one day")
+    tags = json.loads(row["Tags"])
+    holds(list(tags) == ["Shift", "Line"] and office.is_name(tags["Shift"]), "tags have a shift and the kind of line")
+    costs = {row[cost] for cost in ("BilledCost", "EffectiveCost", "ContractedCost", "ListCost")}
+    holds(len(costs) == 1, "there are no discounts")
+    if row["ChargeClass"]:
+        holds(row["ChargeClass"] == "Correction" and next_day <= begins, "a correction is of an earlier period")
+        holds(tags["Line"] in ("PLUS", "MINUS") and not row["ConsumedQuantity"], "a correction says no quantity")
+    else:
+        holds(begins <= day and next_day <= ends and tags["Line"] == "CHARGE", "a charge is of a day of its period")
+        holds(decimal.Decimal(row["ConsumedQuantity"]) >= 0, "a charge says how much was used")
+
+
+def cost(rows):
+    """What rows of cost and usage come to, in the unit of amounts."""
+    return int(sum(decimal.Decimal(row["BilledCost"]) for row in rows) * 10000)
+
+
+def try_focus(books, period, centres):
+    """The cost and usage of a period, as a tool of finance reads it."""
+    text = "".join(line + "\n" for line in books.focus(period))
+    rows = list(csv.DictReader(io.StringIO(text, newline="")))
+    for row in rows:
+        try_focus_row(row)
+    holds(cost(rows) == office.owed(*books.parts(period)), "cost and usage is what the office is owed")
+    for centre in centres:
+        of_centre = [row for row in rows if row["SubAccountId"] == centre]
+        holds(cost(of_centre) == office.owed(*books.parts(period, centre)), "cost and usage is what a centre owes")
+    charges, corrections = ([row for row in rows if bool(row["ChargeClass"]) == is_so] for is_so in (False, True))
+    holds(cost(charges) == sum(sums[3] for _, sums in books.rows(period)), "charges cost what the statement says")
+    holds(cost(corrections) == sum(sign * one.amount for sign, one in books.lines(period)),
+          "corrections cost what the adjustments say")
+
+
+def try_coverage(books, period):
+    """The coverage of a period, as a list and as a table."""
+    text = "".join(line + "\n" for line in books.coverage_table(period))
+    rows = list(csv.DictReader(io.StringIO(text, newline="")))
+    counts = [int(row["count"]) for row in rows]
+    holds(sum(counts) == sum(sums[0] for _, sums in books.rows(period)), "coverage counts what the statement counts")
+    holds(list(books.coverage(period))[-1] == "GAPS %d" % counts.count(0), "gaps are the rows without a record")
+    days = [datetime.date.fromisoformat(row["day"]) for row in rows]
+    systems = [row["system"] for row in rows if row["day"] == rows[0]["day"]]
+    wanted = [(min(days) + datetime.timedelta(at), system)
+              for at in range((max(days) - min(days)).days + 1 if days else 0) for system in systems]
+    holds(list(zip(days, (row["system"] for row in rows))) == wanted, "each system stands once on each day, in order")
+    if rows and period > 1:
+        holds(days[0] == books.before(period) + datetime.timedelta(1), "a period begins after the close before")
+    if rows and period < books.open:
+        holds(days[-1] == books.closes[period - 1], "a closed period ends with its close")
+
+
 def try_disputes(books, numbers, centres):
     """Ends each dispute by some choice."""
     after = copy.copy(books)
@@ -89,6 +161,11 @@ class Tried(history.History):
         self.calls, self.stands = calls, {}
         self.adopted_at = None if first % 3 == 0 else self.numbers.below(calls)
 
+    def name_dump(self, name, words):
+        """Names a dump. Each third step that is new ran on system SYS1, which stands behind SYSA."""
+        is_new = words.startswith("sample 72:")
+        super().name_dump(name, words + " 14:E2E8E2F1" * (is_new and len(self.steps) % 3 == 0))
+
     def centres(self):
         """All centres that some record is of, and one that none is of."""
         return sorted({one.centre for one in self.books.held.values()}) + ["NOBODY"]
@@ -98,9 +175,12 @@ class Tried(history.History):
         books, centres = self.books, self.centres()
         for period in range(1, books.open + 1):
             try_period(books, period, centres)
+            try_focus(books, period, centres)
+            try_coverage(books, period)
             if period < books.open:
                 for centre in [None, *centres]:
                     texts = [*books.bill(period, centre), *books.bill_table(period, centre)]
+                    texts += [*books.focus(period), *books.coverage(period)] * (centre is None)
                     holds(self.stands.setdefault((period, centre), texts) == texts, "a closed period's bill stays")
         try_disputes(books, self.numbers, centres)
 
@@ -112,12 +192,18 @@ class Tried(history.History):
                 self.ask("bill " + place, self.books.of_period(self.books.bill, period, centre))
                 self.ask("bill-table " + place, self.books.of_period(self.books.bill_table, period, centre))
 
+    def ask_of_all_periods(self):
+        """Each bill, each table of cost and usage, and each coverage."""
+        self.ask_bills_of_all()
+        for period in range(1, self.books.open + 2):
+            self.ask_of_office(period)
+
     def play_all(self):
         for turn in range(self.calls):
             words = "adopt 2" if turn == self.adopted_at else self.words(turn)
             self.ask(words, self.answer(words))
             self.try_all()
-        self.ask_bills_of_all()
+        self.ask_of_all_periods()
 
 
 def main(histories, calls, script=None):

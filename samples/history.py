@@ -369,9 +369,16 @@ class History:
         for centre, _ in books.billed(period) if 0 < period <= books.open else ():
             self.ask("bill-table %d %s" % (period, centre), books.of_period(books.bill_table, period, centre))
 
+    def ask_of_office(self, period):
+        """Asks for the table of cost and usage of a period, and for its coverage."""
+        books = self.books
+        self.ask("focus %d" % period, books.of_period(books.focus, period))
+        self.ask("coverage %d" % period, books.of_period(books.coverage, period))
+        self.ask("coverage-table %d" % period, books.of_period(books.coverage_table, period))
+
     def ask_more(self, turn):
-        """Asks for a table, and of periods that are not there; what some would have cost; and for the details of one, and
-        its bills."""
+        """Asks for a table, and of periods that are not there; what some would have cost; and for the details of one, its
+        bills, its cost and usage, and its coverage."""
         books, later = self.books, self.books.open + 1
         for period in (max(1, books.open - 1), 0, later):
             self.ask("table %d" % period, books.of_period(books.table, period))
@@ -382,6 +389,7 @@ class History:
         period = 1 + turn // 10 % books.open
         self.ask("details %d" % period, books.of_period(books.details, period))
         self.ask_bills(period)
+        self.ask_of_office(period)
 
     def ask_trail(self, turn):
         """Asks for the trail of one of the steps that were named so far, whether or not it is held."""
@@ -428,6 +436,7 @@ class History:
         if turn == TURNS - 1:
             for period in range(1, self.books.open + 2):
                 self.ask_bills(period)
+                self.ask_of_office(period)
 
 
 def history(sample):

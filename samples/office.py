@@ -8,6 +8,7 @@ import collections
 import copy
 import datetime
 import hashlib
+import json
 import re
 import struct
 import tomllib
@@ -19,9 +20,18 @@ STATEMENT_COLUMNS = "period,day,centre,shift,count,cpu,blocks,"
 DETAIL_COLUMNS = "period,day,centre,shift,time,job,program,jobid,step,cpu,blocks,amount,name"
 BILL_COLUMNS = "period,day,centre,shift,kind,count,cpu,blocks,amount,of_period,name,job"
 OFFICE_BILL_COLUMNS = "period,centre,steps,jobs,late,reversed,owed"
+COVERAGE_COLUMNS = "period,day,system,count,first,last"
+# The columns of FOCUS 1.0 that have something to say of a period, by their public names.
+FOCUS_COLUMNS = (
+    "BillingAccountId,BillingAccountName,InvoiceIssuerName,ProviderName,PublisherName,BillingCurrency,BillingPeriodStart,"
+    "BillingPeriodEnd,ServiceCategory,ServiceName,SubAccountId,SubAccountName,ChargePeriodStart,ChargePeriodEnd,"
+    "ChargeCategory,ChargeClass,ChargeFrequency,ChargeDescription,ConsumedQuantity,ConsumedUnit,PricingQuantity,"
+    "PricingUnit,BilledCost,EffectiveCost,ContractedCost,ListCost,Tags")
 DISPUTE_COLUMNS = ("dispute,system,job,reader,initiation,subtype,step,name,day,cpu,blocks,amount,completion,jobid,"
                    "program")
 EPOCH = datetime.date(1970, 1, 1)
+# The last day that books know, and how far it is to the next one.
+LAST_DAY, A_DAY = datetime.date(2099, 12, 31), datetime.timedelta(1)
 RATES = ["%s_%s" % (kind, unit) for kind in ("step", "job") for unit in ("cpu", "excp", "record")]
 MEMORY, FULL = 1, 4
 (TARIFF_DATE, TARIFF_EXISTS, _, WRONG_PERIOD, NOT_LATER, NO_SUCH_PERIOD, NO_SUCH_RECORD, NOT_DISPUTED,
@@ -102,12 +112,22 @@ def time_of_day(hundredths):
         hundredths // 360000, hundredths // 6000 % 60, hundredths // 100 % 60, hundredths % 100)
 
 
+def ends(times):
+    """The first and the last of some times of day, if there are any."""
+    return (time_of_day(min(times)), time_of_day(max(times))) if times else ("-", "-")
+
+
 def clock(field):
     """A time and a date as people write them; where there is no such time or day, in digits."""
     hundredths, day = int.from_bytes(field[:4], "big"), packed_day(field[4:])
     if hundredths >= 8640000 or day is None:
         return "%s %s" % (field[:4].hex().upper(), field[4:].hex().upper())
     return "%s %s" % (day, time_of_day(hundredths))
+
+
+def midnight(day, later=0):
+    """The moment at which a day begins, or one that is so many days later."""
+    return "%sT00:00:00Z" % (day + later * A_DAY)
 
 
 def comma_line(*fields):
@@ -201,13 +221,11 @@ class Tariff:
         prices = [decimals(price, 4) for subtype in (b"\0\4", b"\0\5") for price in self.prices(subtype)]
         return "TARIFF %s STEP CPU %s BLOCKS %s RECORD %s JOB CPU %s BLOCKS %s RECORD %s" % (self.effective, *prices)
 
-    def letterhead(self):
-        """The lines that say whose bills are made by it, and of which money: of its keys for these each that is a text
-        of 1 to 40 characters of printable ASCII."""
-        for key in ("office", "currency"):
-            shown = self.terms.get(key)
-            if isinstance(shown, str) and re.fullmatch("[ -~]{1,40}", shown):
-                yield "%s %s" % (key.upper(), shown)
+    def letterhead(self, key):
+        """Whose bills are made by it, for the key `office`, or of which money, for `currency`: where that is a text of 1 to 40
+        characters of printable ASCII, or else an empty one."""
+        shown = self.terms.get(key)
+        return shown if isinstance(shown, str) and re.fullmatch("[ -~]{1,40}", shown) else ""
 
     def reckoning(self, data):
         """Which rules decide about a record, by their numbers, and the lines of its price: the formula with its numbers."""
@@ -676,7 +694,8 @@ class Books:
         tariffs = self.tariffs_in(period)
         yield self.title("BILL", period, centre)
         for last in tariffs[-1:]:
-            yield from last.letterhead()
+            shown = ((key, last.letterhead(key)) for key in ("office", "currency"))
+            yield from ("%s %s" % (key.upper(), said) for key, said in shown if said)
         for tariff in tariffs:
             yield tariff.rates()
 
@@ -741,6 +760,72 @@ class Books:
             yield comma_line(period, one.day, one.centre, one.shift, ACTIONS[sign], "", "", "",
                              decimals(sign * one.amount, 4), self.of_which(period, sign, one), one.name, one.job)
 
+    def billing_period(self, period):
+        """The midnights with which a period begins and ends. The first begins with its first tariff, each other after the
+        close before. An open one ends after its newest charge row or, without one, after the day that it begins on."""
+        rows, tariffs = self.rows(period), self.tariffs_in(period)
+        begins = self.before(period) + A_DAY if period > 1 else tariffs[0].effective
+        if period < self.open:
+            last = self.closes[period - 1]
+        else:
+            last = datetime.date.fromisoformat(rows[-1][0][0]) if rows else min(begins, LAST_DAY)
+        return midnight(begins), midnight(last, 1)
+
+    def focus_head(self, period):
+        """What stands first in each row of a period: who bills, in which money, for which days, and what for."""
+        last = self.tariffs_in(period)[-1]
+        return (*5 * (last.letterhead("office"),), last.letterhead("currency"), *self.billing_period(period), "Compute",
+                "Batch processing")
+
+    def focus_rows(self, period):
+        """Its charge rows and then its adjustment lines, as FOCUS has them: the centre, the day, the class, the description, how
+        much was used, what it costs, the shift, and what kind of line it is."""
+        for (day, centre, shift), (count, cpu, _, amount) in self.rows(period):
+            used = 2 * (decimals(cpu, 2), "CPU-Seconds")
+            yield centre, datetime.date.fromisoformat(day), "", "Records: %d" % count, used, amount, shift, "CHARGE"
+        for sign, one in self.lines(period):
+            yield (one.centre, one.day, "Correction", "Record: " + one.name, 4 * ("",), sign * one.amount, one.shift,
+                   ACTIONS[sign])
+
+    def focus(self, period):
+        """A period by FOCUS 1.0, of the FinOps Foundation: cost and usage in columns that finance knows from elsewhere."""
+        yield FOCUS_COLUMNS
+        rows = list(self.focus_rows(period))
+        head = self.focus_head(period) if rows else ()
+        for centre, day, correction, description, used, amount, shift, kind in rows:
+            tags = json.dumps({"Shift": shift, "Line": kind}, separators=(",", ":"))
+            yield comma_line(*head, centre, centre, midnight(day), midnight(day, 1), "Usage", correction, "Usage-Based",
+                             description, *used, *4 * (decimals(amount, 4),), tags)
+
+    def coverage_rows(self, period):
+        """By day and system, in the order of the bytes of its name, the times of the records that a period counts: a system
+        stands on each day of the period, also where it has no record. The first period begins with its first record, each
+        other after the close before; an open one ends with its newest record."""
+        times = collections.defaultdict(list)
+        for name in self.counted(period):
+            times[self.held[name].day, self.data[name][10:14]].append(self.held[name].time)
+        days, systems = [day for day, _ in times], sorted({system for _, system in times})
+        if not days:
+            return
+        day = self.before(period) + A_DAY if period > 1 else min(days)
+        last = self.closes[period - 1] if period < self.open else max(days)
+        while day <= last:
+            yield from ((day, text(system), times.get((day, system), [])) for system in systems)
+            day += A_DAY
+
+    def coverage(self, period):
+        """How many records a period counts, by day and system, and their first and last time."""
+        rows = list(self.coverage_rows(period))
+        yield self.title("COVERAGE", period, None)
+        for day, system, times in rows:
+            yield "%s %-4s %9d %-11s %s" % (day, system, len(times), *ends(times))
+        yield "GAPS %d" % sum(not times for _, _, times in rows)
+
+    def coverage_table(self, period):
+        yield COVERAGE_COLUMNS
+        for day, system, times in self.coverage_rows(period):
+            yield comma_line(period, day, system, len(times), *ends(times))
+
     def periods(self):
         yield "PERIODS %d" % self.open
         for period in range(1, self.open + 1):
@@ -763,7 +848,9 @@ class Books:
 
     def of_period(self, report, period, centre=None):
         """A report of a period, if there is such a period: of all centres, or of one."""
-        return list(report(period, centre)) if 0 < period <= self.open else refused(NO_SUCH_PERIOD)
+        if not 0 < period <= self.open:
+            return refused(NO_SUCH_PERIOD)
+        return list(report(period) if centre is None else report(period, centre))
 
     def disputed(self):
         """The identities in dispute in their order, each with its records."""

@@ -165,6 +165,9 @@ DETAILS = {"details": 2, "details-table": 2}
 # The bills of a period.
 BILLS = {"bill": "bill", "bill-table": "bill_table"}
 
+# What is of a period of the whole office alone: its table of cost and usage, and its coverage.
+OF_OFFICE = {"focus": "focus", "coverage": "coverage", "coverage-table": "coverage_table"}
+
 # The pages: of the office, and of a period.
 PAGES = "office-page page".split()
 
@@ -175,7 +178,8 @@ WHAT_IFS = {"what-if": 3, "what-if-table": 2}
 # The report of a path, and the form of its text.
 PATHS = {"statement": ("statement", "plain"), "statement-csv": ("table", "csv"),
          "adjustments": ("adjustments", "plain"), "adjustments-csv": ("adjustment_table", "csv"),
-         "details": ("details", "plain"), "details-csv": ("details-table", "csv"),
+         "details": ("details", "plain"), "details-csv": ("details-table", "csv"), "focus": ("focus", "csv"),
+         "coverage": ("coverage", "plain"), "coverage-csv": ("coverage-table", "csv"),
          "disputes": ("disputes", "plain"), "disputes-csv": ("dispute_table", "csv"),
          "periods": ("periods", "plain"), "rulings": ("rulings", "plain")}
 
@@ -183,6 +187,9 @@ PATHS = {"statement": ("statement", "plain"), "statement-csv": ("table", "csv"),
 DIGITS = re.compile("[0-9A-Fa-f]{64}")
 
 OF_PERIODS = "statement table adjustments adjustment_table".split()
+
+# A period in a path.
+NUMBER = re.compile("[1-9][0-9]{0,3}")
 
 # The paths at which a tariff is handed in: of what form the answer is, and of which period, and which centre, if of one.
 WHAT_IF_PATH = re.compile(r"/what-if(-csv)?/([1-9][0-9]{0,3}(?:/[A-Z0-9-]{1,16})?)")
@@ -300,6 +307,22 @@ class Rows:
             return office.refused(office.MEMORY)
         return self.books.of_period(getattr(self.books, BILLS[verb]), int(period), centre)
 
+    def office_asks(self, verb, period):
+        """How often such a text asks the books. FOCUS: for the days of the closes; for the tariffs, which is for the days, for
+        each tariff, and for the end; for the rows, which is all where there is no such period, and for the lines. Coverage: for
+        the days of the close before and of its own; for each record and for its trail, and for the end."""
+        books = self.books
+        is_there = 0 < period <= books.open
+        if verb == "focus":
+            return 1 + 2 + len(books.tariffs) + 1 + is_there
+        return 2 + 2 * (len(books.counted(period)) if is_there else 0) + 1
+
+    def of_office(self, verb, period):
+        """A table of cost and usage or a coverage, or why there is none."""
+        if any(self.is_refused() for _ in range(self.office_asks(verb, int(period)))):
+            return office.refused(office.MEMORY)
+        return self.books.of_period(getattr(self.books, OF_OFFICE[verb]), int(period))
+
     def page_asks(self, period):
         """How often a page asks the books. For the days of the closes, for the rows and the lines of the period, or of each
         one, and of one period for the disputes. Where there is no such period the days are all."""
@@ -314,7 +337,7 @@ class Rows:
             return office.refused(office.MEMORY)
         if period is None:
             return pages.office_page(self.books).splitlines()
-        return self.books.of_period(lambda period, _: pages.period_page(self.books, period).splitlines(), period)
+        return self.books.of_period(lambda period: pages.period_page(self.books, period).splitlines(), period)
 
     def trail(self, name):
         """The trail of a record, or why there is none. It is one call of the books."""
@@ -385,10 +408,14 @@ class Rows:
         if name not in PATHS:
             return served(404, [])
         verb, form = PATHS[name]
-        has_period = verb in OF_PERIODS or verb in DETAILS
-        if bool(words) != has_period or len(words) > 2 or not all(map(office.is_name, words[1:])):
+        has_period = verb in OF_PERIODS or verb in DETAILS or verb in OF_OFFICE
+        most = 1 if verb in OF_OFFICE else 2
+        if bool(words) != has_period or len(words) > most or not all(map(office.is_name, words[1:])):
             return served(404, [])
-        text = self.details(verb, *words) if verb in DETAILS else self.report(verb, words)
+        if has_period and not NUMBER.fullmatch(words[0]):
+            return served(404, [])
+        found = self.details if verb in DETAILS else self.of_office if verb in OF_OFFICE else None
+        text = found(verb, *words) if found else self.report(verb, words)
         if text == office.refused(office.MEMORY):
             return served(503, [])
         if text == office.refused(office.NO_SUCH_PERIOD):
@@ -468,6 +495,8 @@ class Rows:
             return self.details(verb, *words)
         if verb in BILLS:
             return self.bill(verb, *words)
+        if verb in OF_OFFICE:
+            return self.of_office(verb, *words)
         if verb in PAGES:
             return self.page(*words)
         if verb == "record":
@@ -616,6 +645,8 @@ class Rows:
                 "statement": statement,
                 "details": lambda period, *_: of_period(books.details, books.details_table, period),
                 "bill": lambda period, *_: of_period(books.bill, books.bill_table, period),
+                "focus": lambda period: self.of_office("focus", period),
+                "coverage": lambda period, *_: self.of_office("coverage-table" if "--csv" in given else "coverage", period),
                 "page": self.page,
                 "adjustments": lambda period, *_: of_period(books.adjustments, books.adjustment_table, period)
                 }.get(verb, lambda *words: self.command(verb, words))(*words)
