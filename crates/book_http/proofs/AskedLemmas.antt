@@ -1,17 +1,32 @@
 -- What a head asks, by what was found in it.
-use Rattle.std.proofs.Common.{◌≡◌, ◌∙◌, ℕ, ap, Option}
+use Rattle.std.proofs.Common.{◌≡◌, ◌∙◌, ℕ, ap, Option, refl}
 use Rattle.httparse.specs.Grammar.{RequestHead}
+use Rattle.book_reports.specs.declared.what_if.StatementForm.{StatementForm}
+use Rattle.report_rows.specs.Abouts.{report_about}
+use Rattle.report_rows.specs.ReportRows.{kind_in, row_of}
+use Rattle.report_rows.specs.declared.about.About.{About}
+use Rattle.report_rows.specs.declared.report_row.ReportName.{ReportName}
+use Rattle.report_rows.specs.declared.report_row.ReportName.TheVariants as report
 use Rattle.book_http.specs.declared.asked.Asked.{Asked}
+use Rattle.book_http.specs.declared.endpoint.Endpoint.{Endpoint}
 use Rattle.book_http.specs.declared.request.Request.{Request}
-use Rattle.book_http.specs.declared.route.Route.{Route}
 use Rattle.book_http.specs.Asked as spec
-use Rattle.book_http.specs.Asked.{asked_framed}
+use Rattle.book_http.specs.Asked.{asked_framed, report_of, whole_report}
 use Rattle.book_http.specs.Framing.{framing}
 use Rattle.book_http.specs.Hosts.{is_foreign}
 use Rattle.book_http.specs.Requests.{DescribesHead}
 use Rattle.book_http.specs.Routes.{path_of, route}
 
-pub asked_by : (head : RequestHead) (request : Request) (found : Option Route) (asked : Asked ℕ)
+-- any report but details is made whole
+pub made_whole : (name : ReportName) (form : StatementForm) (thing : About)
+    → (name ≡ report.Details → ⊥)
+    → report_of name form thing
+    ≡ whole_report (kind_in (row_of name) form) (report_about name form thing)
+made_whole report.Details form thing other = absurd (other refl)
+made_whole name form thing other = refl
+
+pub asked_by : (head : RequestHead) (request : Request) (found : Option (Endpoint × About))
+    (asked : Asked ℕ)
     → DescribesHead head request → found ≡ route (path_of request.target.now)
     → asked
     ≡ asked_framed request.framing request.is_foreign found request.method.now request.has_origin

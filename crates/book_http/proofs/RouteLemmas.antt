@@ -1,61 +1,43 @@
--- What a path is found to be for is what has that path, and what has it is found.
+-- What a path is found to lead to is what has that path, and what has it is found.
 use Rattle.std.proofs.Common.{◌≡◌, ◌∙◌, List, ◌++◌, refl, ap, ℕ, Option, Some, None, IfSome, subst}
 use Rattle.std.specs.Option.{option_and_then}
 use Rattle.std.specs.Prelude.{option_map}
-use Rattle.report_rows.specs.Abouts.{report_about}
-use Rattle.report_rows.specs.ReportRows.{kind_in, row_of}
 use Rattle.report_rows.specs.declared.about.About.{About}
-use Rattle.report_rows.specs.declared.report_row.ReportName.{ReportName}
-use Rattle.report_rows.specs.declared.report_row.ReportName.TheVariants as report
-use Rattle.book_reports.specs.declared.what_if.StatementForm.{StatementForm}
 use Rattle.book_http.specs.declared.endpoint.Endpoint.{Endpoint}
-use Rattle.book_http.specs.declared.route.Route.{Route}
-use Rattle.book_http.specs.Paths.{IsPathOf, Names, asked_of, front_of, report_of, shape_of}
-use Rattle.book_http.specs.Paths.{whole_report}
+use Rattle.book_http.specs.Paths.{IsPathOf, Names, front_of, shape_of}
 use Rattle.book_http.specs.Routes.{asked_behind, asked_in, endpoint_of, path_rest, route, route_at}
 use Rattle.book_http.specs.Routes.{route_on, thing_in}
 use Rattle.book_http.proofs.FrontLemmas.{place_found}
 use Rattle.book_http.proofs.PeriodLemmas.{rest_found, rest_named}
 use Rattle.book_http.proofs.ThingLemmas.{thing_found, thing_named}
 
--- any report but details is made whole
-pub made_whole : (name : ReportName) (form : StatementForm) (thing : About)
-    → (name ≡ report.Details → ⊥)
-    → report_of name form thing
-    ≡ whole_report (kind_in (row_of name) form) (report_about name form thing)
-made_whole report.Details form thing other = absurd (other refl)
-made_whole name form thing other = refl
-
 -- ---- what is found is served
 
--- what holds of each that may be found holds of what is found, and of what is found by that
-each : {A : Type 0} (found : Option A) (F : A → Type 0) → ((it : A) → found ≡ Some it → F it)
-    → IfSome found F
-each None F so = tt
-each (Some it) F so = so it refl
-
+-- what holds of what follows from each that may be found holds of what follows from what is found
 each_by : {A B : Type 0} (f : A → Option B) (found : Option A) (F : B → Type 0)
     → ((it : A) → found ≡ Some it → IfSome (f it) F) → IfSome (option_and_then f found) F
 each_by f None F so = tt
 each_by f (Some it) F so = so it refl
+
+each_as : {A B : Type 0} (f : A → B) (found : Option A) (F : B → Type 0)
+    → ((it : A) → found ≡ Some it → F (f it)) → IfSome (option_map f found) F
+each_as f None F so = tt
+each_as f (Some it) F so = so it refl
 
 place_served : (place : Endpoint) (path : List ℕ) → IfSome (route_at place path) (IsPathOf path)
 unfolding route_at
 place_served place path =
     each_by (λ front. asked_behind place front path) (front_of place) (IsPathOf path)
     (λ front served. each_by (asked_in place) (path_rest front path) (IsPathOf path)
-    (λ rest left. each_by (asked_of place) (thing_in (shape_of place) rest) (IsPathOf path)
-    (λ thing read. each (asked_of place thing) (IsPathOf path) (λ asked asks. record {
-      place = place;
+    (λ rest left. each_as (λ (thing : About). (place, thing)) (thing_in (shape_of place) rest)
+    (IsPathOf path) (λ thing read. record {
       front = front;
       rest = rest;
-      thing = thing;
       served = served;
       is = subst (λ found. IfSome found (λ rest. path ≡ front ++ rest)) left (rest_named front path);
       names = subst (λ found. IfSome found (Names (shape_of place) rest)) read
           (thing_named (shape_of place) rest);
-      asks = asks;
-    }))))
+    })))
 
 pub route_found : (path : List ℕ) → IfSome (route path) (IsPathOf path)
 route_found path = by (endpoint_of path)
@@ -66,16 +48,16 @@ route_found path = by (endpoint_of path)
 
 -- ---- what is served is found
 
-pub path_found : (path : List ℕ) (asked : Route) → IsPathOf path asked → route path ≡ Some asked
+pub path_found : (path : List ℕ) (asked : Endpoint × About) → IsPathOf path asked
+    → route path ≡ Some asked
 unfolding route_at
-path_found path asked it =
-    let place = it.place in
+path_found path (place, thing) it =
     let front = it.front in
     let rest = it.rest in
     ap route it.is
-    ∙ ap (λ found. route_on found (front ++ rest))
-    (place_found place front rest it.thing it.served it.names)
-    ∙ ap (option_and_then (λ front. asked_behind place front (it.front ++ rest))) it.served
+    ∙ ap (λ (found : Option Endpoint). route_on found (front ++ rest))
+    (place_found place front rest thing it.served it.names)
+    ∙ ap (option_and_then (λ (found : List ℕ). asked_behind place found (front ++ rest))) it.served
     ∙ ap (option_and_then (asked_in place)) (rest_found front rest)
-    ∙ ap (option_and_then (asked_of place)) (thing_found (shape_of place) rest it.thing it.names)
-    ∙ it.asks
+    ∙ ap (option_map (λ (thing : About). (place, thing)))
+    (thing_found (shape_of place) rest thing it.names)

@@ -24,7 +24,6 @@ use Rattle.book_http.specs.Requested.{WantsDetails, WantsImport, WantsWhatIf, Wh
 use Rattle.book_http.specs.Requested.{headed, headless, request_seen, wanted_by}
 use Rattle.book_http.specs.Served.{AnswersLong, AsksDetails, IsReplied, IsSent, IsServed}
 use Rattle.book_http.specs.Served.{IsStreamed, SendsAsRead, SendsReplyAsRead, ServesAsked}
-use Rattle.book_http.specs.Served.{ServesDetails}
 use Rattle.book_http.specs.Served.{is_unanswered}
 use Rattle.book_http.proofs.LawLemmas.{request_done, sent_done}
 
@@ -192,17 +191,6 @@ stream_served books taken ended output served.Closed begun it = absurd (true≢f
 stream_served books taken ended output served.ReadFault begun it = absurd (true≢false begun)
 stream_served books taken ended output what begun it = inr it
 
-pub details_served : (books : Books) (taken : List ℕ) (ended : Bool) (output : Output)
-    (details : DetailReport) (what : Served) → IsAsking ended taken (asks.Details details)
-    → is_unanswered what ≡ false → ServesDetails books details output what
-    → IsServed books taken ended output what
-details_served books taken ended output details what asking begun (inl refused) =
-    request_served books taken ended output (asks.Details details) refused.reply what asking
-    refused.answer refused.sent
-details_served books taken ended output details what asking begun (inr sends) =
-    stream_served books taken ended output what begun
-    (details_streamed books taken ended output details what asking sends)
-
 -- whatever was asked
 pub asked_served : (books : Books) (taken : List ℕ) (ended : Bool) (output : Output)
     (request : WholeRequest) (what : Served) → IsAsking ended taken request
@@ -210,6 +198,7 @@ pub asked_served : (books : Books) (taken : List ℕ) (ended : Bool) (output : O
     → IsServed books taken ended output what
 asked_served books taken ended output request what asking begun (inl (reply, made, sent)) =
     request_served books taken ended output request reply what asking made sent
-asked_served books taken ended output request what asking begun (inr (details, same, it)) =
-    details_served books taken ended output details what
-    (subst (λ request. IsAsking ended taken request) same asking) begun it
+asked_served books taken ended output request what asking begun (inr (details, same, sends)) =
+    stream_served books taken ended output what begun
+    (details_streamed books taken ended output details what
+    (subst (λ request. IsAsking ended taken request) same asking) sends)

@@ -1,29 +1,20 @@
 -- The paths that are served: a front, and behind it what names a period, a day or a record.
 use Rattle.std.specs.Prelude.{◌≡◌, ℕ, ◌≤◌, List, [], ◌++◌, codes, decimal}
-use Rattle.std.specs.Prelude.{Option, Some, None, IfSome, option_map}
+use Rattle.std.specs.Prelude.{Option, Some, None, IfSome}
 use Rattle.smf_frames.specs.declared.dump.Layout.{Layout}
 use Rattle.smf_frames.specs.declared.dump.Layout.TheVariants.{Rdw, Bdw}
 use Rattle.book_model.specs.Words.{IsDay, IsName, day_text_of}
 use Rattle.book_reports.specs.RecordNames.{name_in}
-use Rattle.book_reports.specs.declared.report.Report.{Report}
-use Rattle.book_reports.specs.declared.report.Report.TheVariants as made
 use Rattle.book_reports.specs.declared.what_if.StatementForm.{StatementForm}
 use Rattle.book_reports.specs.declared.what_if.StatementForm.TheVariants as shown_as
-use Rattle.report_rows.specs.Abouts.{report_about}
-use Rattle.report_rows.specs.ReportRows.{kind_in, path_in, row_of}
+use Rattle.report_rows.specs.ReportRows.{path_in, row_of}
 use Rattle.report_rows.specs.declared.about.About.{About}
 use Rattle.report_rows.specs.declared.about.About.TheVariants as about
-use Rattle.report_rows.specs.declared.report_row.BodyKind.{BodyKind}
-use Rattle.report_rows.specs.declared.report_row.BodyKind.TheVariants.{Page}
-use Rattle.report_rows.specs.declared.report_row.ReportName.{ReportName}
-use Rattle.report_rows.specs.declared.report_row.ReportName.TheVariants as report
 use Rattle.report_rows.specs.declared.report_row.Shape.{Shape}
 use Rattle.report_rows.specs.declared.report_row.Shape.TheVariants.{OfCentre, OfDay, OfOffice}
 use Rattle.report_rows.specs.declared.report_row.Shape.TheVariants.{OfPeriod, OfRecord}
 use Rattle.book_http.specs.declared.endpoint.Endpoint.{Endpoint}
 use Rattle.book_http.specs.declared.endpoint.Endpoint.TheVariants as endpoint
-use Rattle.book_http.specs.declared.route.Route.{Route}
-use Rattle.book_http.specs.declared.route.Route.TheVariants as route_to
 
 -- where it is served what a period would have cost by a tariff that is submitted
 abbrev pub what_if_path : StatementForm → List ℕ
@@ -68,41 +59,10 @@ Names OfDay text (about.OfDay day) = (text ≡ day_text_of day) × IsDay day
 Names OfRecord text (about.OfRecord name) = name_in text ≡ Some name
 Names shape text thing = ⊥
 
--- the details of a period, which are written while they are read
-abbrev pub details_of : StatementForm → About → Option Route
-details_of form (about.OfCentre n centre) =
-    Some (route_to.Details (record { form = form; period = n; centre = centre }))
-details_of form thing = None
-
--- what a period would have cost
-abbrev pub what_if_of : StatementForm → About → Option Route
-what_if_of form (about.OfCentre n centre) =
-    Some (route_to.WhatIf (record { form = form; period = n; centre = centre }))
-what_if_of form thing = None
-
--- any other report is made whole, as a body of this kind
-abbrev pub whole_report : BodyKind → Option Report → Option Route
-whole_report kind found = option_map (λ asked. route_to.Report asked kind) found
-
-abbrev pub report_of : ReportName → StatementForm → About → Option Route
-report_of report.Details form thing = details_of form thing
-report_of name form thing =
-    whole_report (kind_in (row_of name) form) (report_about name form thing)
-
--- what is asked at an endpoint of what a path names
-abbrev pub asked_of : Endpoint → About → Option Route
-asked_of (endpoint.Report name form) thing = report_of name form thing
-asked_of endpoint.Office thing = Some (route_to.Report made.OfficePage Page)
-asked_of (endpoint.WhatIf form) thing = what_if_of form thing
-asked_of (endpoint.Import layout) thing = Some (route_to.Import layout)
-
--- What a path is for: it is what is asked at an endpoint of what the path names behind the front of that.
-pub record IsPathOf (path : List ℕ) (asked : Route) : Type 0 where
-  pub place : Endpoint
+-- What a path leads to: an endpoint, and what the path names behind the front of that.
+pub record IsPathOf (path : List ℕ) (asked : Endpoint × About) : Type 0 where
   pub front : List ℕ
   pub rest : List ℕ
-  pub thing : About
-  pub served : front_of place ≡ Some front
+  pub served : front_of asked.0 ≡ Some front
   pub is : path ≡ front ++ rest
-  pub names : Names (shape_of place) rest thing
-  pub asks : asked_of place thing ≡ Some asked
+  pub names : Names (shape_of asked.0) rest asked.1

@@ -1,6 +1,6 @@
--- How what a path asks for is found: its endpoint by matchit's reading of the routes, which are made of the
--- fronts, and then what it names behind its front. That this finds what Paths says, and nothing else, is a
--- clause of the function that looks it up.
+-- How it is found what a path leads to: its endpoint by matchit's reading of the routes, which are made of
+-- the fronts, and then what it names behind its front. That this finds what Paths says, and nothing else,
+-- is a clause of the function that looks it up.
 use Rattle.std.specs.Prelude.{ℕ, Bool, true, false, if◌then◌else◌, List, [], ◌∷◌, ◌==◌, ◌++◌, codes}
 use Rattle.std.specs.Prelude.{length, drop, nat_eq}
 use Rattle.std.specs.Prelude.{Option, Some, None, option_and_then, option_map, Result, Ok, Err}
@@ -25,9 +25,8 @@ use Rattle.report_rows.specs.declared.report_row.Shape.TheVariants.{OfCentre, Of
 use Rattle.report_rows.specs.declared.report_row.Shape.TheVariants.{OfPeriod, OfRecord}
 use Rattle.book_http.specs.declared.endpoint.Endpoint.{Endpoint}
 use Rattle.book_http.specs.declared.endpoint.Endpoint.TheVariants as endpoint
-use Rattle.book_http.specs.declared.route.Route.{Route}
 use Rattle.book_http.specs.Numbers.{decimal_value}
-use Rattle.book_http.specs.Paths.{asked_of, front_of, shape_of}
+use Rattle.book_http.specs.Paths.{front_of, shape_of}
 
 -- a target up to a question mark; nothing is decoded
 abbrev pub path_of : List ℕ → List ℕ
@@ -96,23 +95,23 @@ thing_in OfOffice text = office_in text
 thing_in OfDay text = day_in text
 thing_in OfRecord text = record_in text
 
--- ---- what an endpoint is for
+-- ---- what a path leads to at an endpoint
 
 -- what a path has after its prefix
 unfoldable pub path_rest : List ℕ → List ℕ → Option (List ℕ)
 path_rest prefix path =
     if starts_with nat_eq path prefix then Some (drop (length prefix) path) else None
 
--- what is asked by what a path has behind its front
-abbrev pub asked_in : Endpoint → List ℕ → Option Route
-asked_in place rest = option_and_then (asked_of place) (thing_in (shape_of place) rest)
+-- by what a path has behind its front
+abbrev pub asked_in : Endpoint → List ℕ → Option (Endpoint × About)
+asked_in place rest = option_map (λ thing. (place, thing)) (thing_in (shape_of place) rest)
 
 -- by a path with this front
-abbrev pub asked_behind : Endpoint → List ℕ → List ℕ → Option Route
+abbrev pub asked_behind : Endpoint → List ℕ → List ℕ → Option (Endpoint × About)
 asked_behind place front path = option_and_then (asked_in place) (path_rest front path)
 
 -- by a path of this endpoint
-unfoldable pub route_at : Endpoint → List ℕ → Option Route
+unfoldable pub route_at : Endpoint → List ℕ → Option (Endpoint × About)
 route_at place path = option_and_then (λ front. asked_behind place front path) (front_of place)
 
 -- ---- the router
@@ -175,10 +174,10 @@ route_rows = rows_with reports
 unfoldable pub endpoint_of : List ℕ → Option Endpoint
 endpoint_of path = option_map (λ row. row.value) (first route_rows path)
 
--- what a path is for
-abbrev pub route_on : Option Endpoint → List ℕ → Option Route
+-- what a path leads to
+abbrev pub route_on : Option Endpoint → List ℕ → Option (Endpoint × About)
 route_on None path = None
 route_on (Some found) path = route_at found path
 
-abbrev pub route : List ℕ → Option Route
+abbrev pub route : List ℕ → Option (Endpoint × About)
 route path = route_on (endpoint_of path) path

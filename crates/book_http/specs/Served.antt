@@ -152,39 +152,31 @@ abbrev pub AnswersLong : (Reply → Transition) → Reply → Transition
 AnswersLong Answering reply = λ was before events is.
     Answering reply was before events is × (most_gathered < length reply.body)
 
--- the details were gathered, or the ledger answered why there are none; and that was sent
-pub record SendsGathered (books : Books) (wanted : DetailReport) (output : Output) (served : Served)
-    : Type 0 where
-  pub reply : Reply
-  pub answer : IsTransition books.old books.new (AnswersDetails books.old.naming wanted reply)
-  pub sent : IsSent reply output.old.holds output.new.holds served
-
--- details were served: refused or gathered so, or long ones sent while they were read
-abbrev pub ServesDetails : Books → DetailReport → Output → Served → Type 0
-ServesDetails books wanted output served =
-    SendsGathered books wanted output served
-    ⊎ IsTransition books.old books.new
-    (SendsReplyAsRead (AnswersLong (AnswersDetails books.old.naming wanted))
-    output.old.holds output.new.holds served)
-
 -- ---- a request as a whole
 
--- what is asked was answered at once; or it is details, which are asked for otherwise, and nothing was done
-abbrev pub AsksOffice : {L : Type 0} → (L → Seen) → L → L → WholeRequest → Result Answer DetailReport
-    → Type 0
-AsksOffice seen old new asked (Ok answer) =
-    IsTransition (seen old) (seen new)
-    (AnswersRequest (seen old).naming (request_seen asked) (reply_of answer))
-AsksOffice seen old new asked (Err details) = (asked ≡ asks.Details details) × (new ≡ old)
+-- details are asked for, whose text has so many bytes, more than are gathered
+pub record IsLong (old new : Seen) (asked : WholeRequest) (details : DetailReport) (size : ℕ) : Type 0
+  where
+    pub is : asked ≡ asks.Details details
+    pub long : most_gathered < size
+    pub measured : IsMeasured old new details size
 
--- what is asked was answered, and the answer was sent; or it is details, and they were served
+-- what is asked was answered; or so many bytes of details are to be sent while they are read
+abbrev pub AsksOffice : Seen → Seen → WholeRequest → Result Answer (DetailReport × ℕ) → Type 0
+AsksOffice old new asked (Ok answer) =
+    IsTransition old new (AnswersRequest old.naming (request_seen asked) (reply_of answer))
+AsksOffice old new asked (Err long) = IsLong old new asked long.0 long.1
+
+-- what is asked was answered, and the answer was sent; or it is long details, sent while they were read
 abbrev pub ServesAsked : Books → WholeRequest → Output → Served → Type 0
 ServesAsked books asked output served =
     ((reply : Reply)
     × IsTransition books.old books.new (AnswersRequest books.old.naming (request_seen asked) reply)
     × IsSent reply output.old.holds output.new.holds served)
     ⊎ ((details : DetailReport) × (asked ≡ asks.Details details)
-    × ServesDetails books details output served)
+    × IsTransition books.old books.new
+    (SendsReplyAsRead (AnswersLong (AnswersDetails books.old.naming details))
+    output.old.holds output.new.holds served))
 
 -- the bytes begin with a head that asks for these details
 pub record AsksDetails (bytes : List ℕ) (details : DetailReport) : Type 0 where

@@ -28,10 +28,10 @@ pub use asked::Asked;
 pub use laws::{
     answers_are_one, request_twice_is_once, requests_are_mended, requests_make_history,
 };
-pub use office_answers::{ask_details, ask_office};
+pub use office_answers::ask_office;
 pub use requested::read_request;
 pub use routes::Routes;
 pub use sending::{send, send_details};
-pub use serve::{serve_details, serve_one};
+pub use serve::serve_one;
 pub use served::{Served, Unanswered};
 pub use status::Status;

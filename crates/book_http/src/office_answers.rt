@@ -105,7 +105,7 @@ fn gather_details<L: Ledger>(alloc: Global, ledger: &mut L, details: &DetailRepo
 
 /// Answers details by their text, or by why there is none; a text of more bytes than are gathered is
 /// only measured, and is to be sent while it is read.
-pub fn ask_details<L: Ledger>(
+fn ask_details<L: Ledger>(
     alloc: Global,
     ledger: &mut L,
     details: &DetailReport,
@@ -152,18 +152,22 @@ fn answer_import<L: Ledger>(alloc: Global, ledger: &mut L, layout: Layout, body:
     answer_of(BodyKind::Text, ask_without_reader(alloc, ledger, &asked))
 }
 
-/// Asks the office once, but for details, which `ask_details` asks for: of those nothing is done.
+/// Asks the office once. Details of more bytes than are gathered are only measured, and are to be sent
+/// while they are read.
 pub fn ask_office<L: Ledger>(
     alloc: Global,
     ledger: &mut L,
     asked: Asked<Vec<u8>>,
-) -> Result<Answer, DetailReport>
-    ensures { AsksOffice L.seen ledger.old ledger.new asked result }
+) -> Result<Answer, (DetailReport, usize)>
+    ensures { AsksOffice (L.seen ledger.old) (L.seen ledger.new) asked result }
 {
     match asked {
         Asked::Settled(answer) => Ok(answer),
         Asked::Report(report, kind) => Ok(answer_report(alloc, ledger, report, kind)),
-        Asked::Details(details) => Err(details),
+        Asked::Details(details) => match ask_details(alloc, ledger, &details) {
+            Ok(size) => Err((details, size)),
+            Err(answer) => Ok(answer),
+        },
         Asked::WhatIf(what_if, body) => Ok(answer_what_if(alloc, ledger, what_if, body)),
         Asked::Import(layout, body) => Ok(answer_import(alloc, ledger, layout, body)),
     }

@@ -1,34 +1,20 @@
 //! What a path asks for.
 
 ghost use Rattle.std.specs.Prelude.{◌≡◌, IfOk, IfSome, IsUtf8, Some, option_map};
-ghost use Rattle.book_http.specs.Paths as paths;
+ghost use Rattle.report_rows.specs.declared.about.About.{About};
+ghost use Rattle.book_http.specs.declared.endpoint.Endpoint.{Endpoint};
 ghost use Rattle.book_http.specs.Paths.{IsPathOf};
-ghost use Rattle.book_http.specs.declared.route.Route.{Route};
 ghost use Rattle.book_http.specs.Routes as spec;
 
 use crate::decimal_value::decimal_value;
 use crate::endpoint::{Endpoint, front_of, shape_of};
 use crate::routes::Routes;
-use book_reports::{DetailReport, name_of_text};
-use office::{Report, StatementForm, WhatIf, centre_named};
-use report_rows::{About, BodyKind, ReportName, Shape, report_about, row_of};
-use smf_frames::Layout;
+use book_reports::name_of_text;
+use office::centre_named;
+use report_rows::{About, Shape};
 use smf_text::{Name, day_of_text};
 use std::alloc::AllocError;
 use std::str;
-
-/// What a path is for.
-#[derive(Clone, Copy)]
-pub enum Route {
-    /// A report is read there, and what kind of body it is.
-    Report(Report, BodyKind),
-    /// The details of a period are read there.
-    Details(DetailReport),
-    /// A tariff is submitted there: what a period would have cost by it is read.
-    WhatIf(WhatIf),
-    /// A dump in this layout is submitted there.
-    Import(Layout),
-}
 
 /// The most digits of a period.
 const PERIOD_DIGITS: usize = 4;
@@ -141,83 +127,25 @@ fn thing_in(shape: Shape, text: &str) -> Option<About>
     }
 }
 
-/// The details of a period.
-fn details_of(form: StatementForm, thing: About) -> Option<Route>
-    ensures { result ≡ paths.details_of form thing }
-{
-    match thing {
-        About::OfCentre { period, centre } => Some(Route::Details(DetailReport {
-            form,
-            period,
-            centre,
-        })),
-        _ => None,
-    }
-}
-
-/// What a period would have cost.
-fn what_if_of(form: StatementForm, thing: About) -> Option<Route>
-    ensures { result ≡ paths.what_if_of form thing }
-{
-    match thing {
-        About::OfCentre { period, centre } => Some(Route::WhatIf(WhatIf {
-            form,
-            period,
-            centre,
-        })),
-        _ => None,
-    }
-}
-
-/// A report that is made whole, if there is one.
-fn whole_report(kind: BodyKind, report: Option<Report>) -> Option<Route>
-    ensures { result ≡ paths.whole_report kind report }
-{
-    let report = report?;
-    Some(Route::Report(report, kind))
-}
-
-/// A report of what a path names. Details are written while they are read.
-fn report_of(name: ReportName, form: StatementForm, thing: About) -> Option<Route>
-    ensures { result ≡ paths.report_of name form thing }
-{
-    match name {
-        ReportName::Details => details_of(form, thing),
-        _ => whole_report(row_of(name).kind_in(form), report_about(name, form, thing)),
-    }
-}
-
-/// What is asked at an endpoint of what a path names.
-fn asked_of(place: Endpoint, thing: About) -> Option<Route>
-    ensures { result ≡ paths.asked_of place thing }
-{
-    match place {
-        Endpoint::Report(name, form) => report_of(name, form, thing),
-        Endpoint::Office => Some(Route::Report(Report::OfficePage, BodyKind::Page)),
-        Endpoint::WhatIf(form) => what_if_of(form, thing),
-        Endpoint::Import(layout) => Some(Route::Import(layout)),
-    }
-}
-
-/// What is asked at an endpoint by what a path has behind its front.
-fn asked_in(place: Endpoint, rest: &str) -> Option<Route>
+/// An endpoint, and what a path names behind its front.
+fn asked_in(place: Endpoint, rest: &str) -> Option<(Endpoint, About)>
     ensures { result ≡ spec.asked_in place rest.now }
 {
     let thing = thing_in(shape_of(place), rest)?;
-    asked_of(place, thing)
+    Some((place, thing))
 }
 
-/// What is asked at an endpoint with this front by a path.
-fn asked_behind(place: Endpoint, front: &str, path: &str) -> Option<Route>
+/// What a path asks for at an endpoint with this front.
+fn asked_behind(place: Endpoint, front: &str, path: &str) -> Option<(Endpoint, About)>
     ensures { result ≡ spec.asked_behind place front.now path.now }
 {
     let rest = path_rest(front, path)?;
     asked_in(place, rest)
 }
 
-/// What is asked at an endpoint by a path.
+/// What a path asks for at an endpoint.
 #[tactic(auto, unfolding(crate::specs::Routes::route_at))]
-fn route_at(place: Endpoint, path: &str) -> Option<Route>
+fn route_at(place: Endpoint, path: &str) -> Option<(Endpoint, About)>
     ensures { result ≡ spec.route_at place path.now }
 {
     let front = front_of(place)?;
@@ -234,13 +162,17 @@ fn path_of(target: &str) -> &str
     }
 }
 
-/// What the path of a target is for, if anything. An error means that memory ran out.
-pub fn find_route(routes: &mut Routes, target: &[u8]) -> Result<Option<Route>, AllocError>
+/// The endpoint that the path of a target leads to, if it leads to one, and what it names there. An
+/// error means that memory ran out.
+pub fn find_route(
+    routes: &mut Routes,
+    target: &[u8],
+) -> Result<Option<(Endpoint, About)>, AllocError>
     requires { IsUtf8 target.now }
     ensures value { IfOk result (λ found. found ≡ spec.route (spec.path_of target.now)) }
     // What is found is served at that path, and what is served there is found.
     ensures served { IfOk result (λ found. IfSome found (IsPathOf (spec.path_of target.now))) }
-    ensures finds { IfOk result (λ found. (asked : Route)
+    ensures finds { IfOk result (λ found. (asked : Endpoint × About)
         → IsPathOf (spec.path_of target.now) asked → found ≡ Some asked) }
 {
     let Ok(target) = str::from_utf8(target) else {

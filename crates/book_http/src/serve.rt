@@ -9,41 +9,20 @@ ghost use Rattle.book_core.specs.Ledgers.{books};
 ghost use Rattle.book_http.specs.Bodies.{most_body_bytes};
 ghost use Rattle.book_http.specs.Head.{most_head_bytes};
 ghost use Rattle.book_http.specs.Reads.{ReadsRequest};
-ghost use Rattle.book_http.specs.Served.{IsServed, ServesAsked, ServesDetails};
+ghost use Rattle.book_http.specs.Served.{IsServed, ServesAsked};
 ghost use Rattle.book_http.specs.Served.{is_read_fault, is_unanswered, is_write_fault};
 
 use crate::asked::Asked;
-use crate::office_answers::{ask_details, ask_office};
+use crate::office_answers::ask_office;
 use crate::requested::read_request;
 use crate::routes::Routes;
 use crate::sending::{send, send_details};
 use crate::served::{Served, Unanswered};
 use book_core::{Ledger, Sink, Source};
-use book_reports::DetailReport;
 use std::alloc::Global;
 use streams::{Reader, Writer};
 
-/// Serves details: gathers their text and sends it, or sends a long one while it is read. Where the
-/// books have none, that is answered.
-pub fn serve_details<L: Ledger, W: Writer + Drop>(
-    alloc: Global,
-    ledger: &mut L,
-    details: DetailReport,
-    sink: &mut Sink<W>,
-) -> Served
-    requires { sinks.has_failed sink.old ≡ false }
-    ensures served { ServesDetails (books L.seen ledger.old ledger.new) details
-        (output W.contents sink.old sink.new) result }
-    ensures failed { sinks.has_failed sink.new ≡ is_write_fault result }
-    ensures answered { is_unanswered result ≡ false }
-{
-    match ask_details(alloc, ledger, &details) {
-        Ok(size) => send_details(alloc, ledger, details, size, sink),
-        Err(answer) => send(sink, &answer),
-    }
-}
-
-/// Serves what a request asks that was read whole.
+/// Serves what a request asks that was read whole. Long details are sent while they are read.
 fn serve_asked<L: Ledger, W: Writer + Drop>(
     alloc: Global,
     ledger: &mut L,
@@ -58,7 +37,7 @@ fn serve_asked<L: Ledger, W: Writer + Drop>(
 {
     match ask_office(alloc, ledger, asked) {
         Ok(answer) => send(sink, &answer),
-        Err(details) => serve_details(alloc, ledger, details, sink),
+        Err(long) => send_details(alloc, ledger, long.0, long.1, sink),
     }
 }
 

@@ -26,10 +26,6 @@ abbrev pub asks_books : WholeRequest → Bool
 asks_books (wants.Settled answer) = false
 asks_books request = true
 
--- a request for details
-abbrev pub asks_for : DetailReport → WholeRequest
-asks_for details = wants.Details details
-
 -- details are asked for: long ones are sent while they are read
 abbrev pub is_streamed : WholeRequest → Bool
 is_streamed (wants.Details details) = true

@@ -17,10 +17,8 @@ ghost use Rattle.chargectl.specs.ClientRequests.{asks_books};
 use crate::port::Peer;
 use book_core::{Ledger, Sink, Source};
 use book_http::{
-    Answer, Asked, Routes, Served, Status, Unanswered, ask_details, ask_office, read_request, send,
-    send_details,
+    Answer, Asked, Routes, Served, Status, Unanswered, ask_office, read_request, send, send_details,
 };
-use book_reports::DetailReport;
 use named_books::{Opened, Repository, RepositoryFault, Visit};
 use std::alloc::Global;
 use std::mem;
@@ -88,29 +86,10 @@ fn ask_open<L: Ledger, W: Peer + Drop>(
 {
     match ask_office(alloc, books, request) {
         Ok(answer) => (Err(answer), writer),
-        Err(details) => send_open(alloc, books, details, writer),
-    }
-}
-
-/// Asks open books for details, and sends long ones.
-fn send_open<L: Ledger, W: Peer + Drop>(
-    alloc: Global,
-    books: &mut L,
-    details: DetailReport,
-    writer: W,
-) -> (Result<Served, Answer>, W)
-    ensures done { IsTransition (L.seen books.old) (L.seen books.new)
-        (AsksOpen (L.seen books.old).naming (spec.asks_for details)
-        (W.contents writer) (W.contents result.1) result.0) }
-    ensures came { ComesOpen (spec.asks_for details) (W.contents writer) (W.contents result.1)
-        (∥ HasFailed W.Writer.may_answer result.1 ∥₁) result.0 }
-{
-    match ask_details(alloc, books, &details) {
-        Err(reply) => (Err(reply), writer),
-        Ok(size) => {
+        Err(long) => {
             writer.hurry();
             let mut sink = Sink::new(writer);
-            let what = send_details(alloc, books, details, size, &mut sink);
+            let what = send_details(alloc, books, long.0, long.1, &mut sink);
             (Ok(what), sink.into_inner())
         }
     }

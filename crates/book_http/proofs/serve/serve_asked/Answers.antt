@@ -1,24 +1,24 @@
-use Rattle.std.proofs.Common.{inl, inr, subst}
-use Rattle.streams.specs.InputOutput.{output}
-use Rattle.book_core.specs.Ledgers.{books}
+use Rattle.std.proofs.Common.{inl, inr}
+use Rattle.streams.specs.Sinks.{writer_of}
 use Rattle.book_http.specs.Replies.{reply_of}
-use Rattle.book_http.specs.Served.{ServesDetails}
+use Rattle.book_http.proofs.StreamLemmas.{measured_sent}
 use Rattle.book_http.proofs.serve.serve_asked.Goals as goal
 
 pub returns-in-Ok-clause-served : goal.returns-in-Ok-clause-served
 returns-in-Ok-clause-served g c =
     inl (reply_of c.in-Ok.answer, c.in-Ok.ensures, c.send.ensures.sent)
 
--- nothing was done before details are served
 pub returns-in-Err-clause-served : goal.returns-in-Err-clause-served
 returns-in-Err-clause-served g c =
-    let served = c.serve_details in
-    let out = output g.W.Write.contents c.args.sink.now served.new.sink in
+    let seen = g.L.Ledger.seen in
+    let held = g.W.Write.contents (writer_of c.args.sink.now) in
+    let holds = g.W.Write.contents (writer_of c.send_details.new.sink) in
+    let long = c.in-Err.long in
+    let it = c.in-Err.ensures in
     inr (
-      c.in-Err.details,
-      c.in-Err.ensures.0,
-      subst
-          (λ ledger. ServesDetails (books g.L.Ledger.seen ledger served.new.ledger) c.in-Err.details
-          out served.result)
-          c.in-Err.ensures.1 served.ensures.served,
+      long.0,
+      it.is,
+      measured_sent (seen c.args.ledger.now) (seen c.ask_office.new.ledger)
+          (seen c.send_details.new.ledger) long.0 long.1 held holds c.send_details.result it.long
+          it.measured c.send_details.ensures.sent,
     )

@@ -1,33 +1,49 @@
-use Rattle.std.proofs.Common.{subst, sym}
-use Rattle.streams.specs.Failures.{HasFailed}
+use Rattle.std.proofs.Common.{◌∙◌, Ok, ap, subst, sym}
+use Rattle.streams.specs.Sinks.{writer_of}
 use Rattle.book_core.specs.Transition.{IsTransition}
-use Rattle.chargectl.specs.ClientRequests.{AsksOpen, ComesOpen}
+use Rattle.book_http.specs.declared.asked.Asked.TheVariants as wants
+use Rattle.book_http.proofs.StreamLemmas.{sized_sent}
+use Rattle.chargectl.specs.ClientRequests.{SendsLong, SendsOpen, StreamsAnswer}
+use Rattle.chargectl.proofs.ClientLemmas.{details_open, written_so}
 use Rattle.chargectl.proofs.client_requests.ask_open.Goals as goal
 
--- details are asked for of books that were left as they were
 pub returns-in-Err-clause-done : goal.returns-in-Err-clause-done
 returns-in-Err-clause-done g c =
+    let contents = g.W.Write.contents in
     let seen = g.L.Ledger.seen in
-    let held = g.W.Write.contents c.args.writer in
-    let sent = c.send_open in
-    let holds = g.W.Write.contents sent.result.1 in
-    let asked = c.ask_office.new.ledger in
-    let new = seen sent.new.books in
-    subst
-    (λ old. IsTransition (seen old) new
-    (AsksOpen (seen old).naming c.args.request held holds sent.result.0))
-    c.in-Err.ensures.1
-    (subst
-    (λ request. IsTransition (seen asked) new
-    (AsksOpen (seen asked).naming request held holds sent.result.0))
-    (sym c.in-Err.ensures.0) sent.ensures.done)
+    let asked = c.in-Err.ensures in
+    let details = c.in-Err.long.0 in
+    let size = c.in-Err.long.1 in
+    let sent = c.send_details-what in
+    let old = seen c.args.books.now in
+    let new = seen sent.new.ledger in
+    let held = contents (writer_of c.new-sink.result) in
+    let holds = contents (writer_of sent.new.sink) in
+    rw asked.is
+    (written_so
+    (λ held holds. IsTransition old new
+    (StreamsAnswer old.naming (wants.Details details) held holds sent.result))
+    _ _ _ _ (ap contents c.new-sink.ensures.writer) (ap contents c.into_inner.ensures.writer)
+    (details_open old new details size held holds sent.result asked.long
+    (sized_sent old (seen c.ask_office.new.ledger) new details size held holds sent.result
+    asked.measured sent.ensures.sent)))
 
 pub returns-in-Err-clause-came : goal.returns-in-Err-clause-came
 returns-in-Err-clause-came g c =
-    let held = g.W.Write.contents c.args.writer in
-    let sent = c.send_open in
-    let holds = g.W.Write.contents sent.result.1 in
-    subst
-    (λ request. ComesOpen request held holds
-    (∥ HasFailed g.W.Writer.may_answer sent.result.1 ∥₁) sent.result.0)
-    (sym c.in-Err.ensures.0) sent.ensures.came
+    let contents = g.W.Write.contents in
+    let details = c.in-Err.long.0 in
+    let sent = c.send_details-what in
+    let sends = written_so (λ held holds. SendsLong details held holds sent.result)
+    _ _ _ _ (ap contents c.new-sink.ensures.writer) (ap contents c.into_inner.ensures.writer)
+    (record {
+      size = c.in-Err.long.1;
+      long = c.in-Err.ensures.long;
+      some = sent.ensures.some;
+      begun = sent.ensures.answered;
+    }) in
+    record {
+      sends = subst
+          (λ request. SendsOpen request (contents c.args.writer) (contents c.into_inner.result)
+          (Ok sent.result)) (sym c.in-Err.ensures.is) sends;
+      failed = λ told. c.into_inner.ensures.cause (sent.ensures.failed ∙ told);
+    }
