@@ -10,7 +10,7 @@ use Rattle.book_core.specs.Calls.{IsCall}
 use Rattle.book_lists.specs.Cursors.{Folds, IsNext, last_of}
 use Rattle.book_lists.specs.Shown.{shown_by}
 use Rattle.book_lists.proofs.FrontLemmas.{IsFront, front_all, front_taken}
-use Rattle.book_lists.proofs.ReadingLemmas.{by_names, call_failed}
+use Rattle.book_lists.proofs.ReadingLemmas.{by_names, call_failed, fault_alike, fault_tells, read_as}
 use Rattle.book_lists.proofs.ShownLemmas.{Shows, answers, answers_none, refused_next, shown}
 use Rattle.book_lists.proofs.ShownLemmas.{shown_as, then_shown}
 use Rattle.book_lists.proofs.WritingLemmas.{same_value}
@@ -208,6 +208,22 @@ module _ {I X : Type 0} (view : I → X) (all : Naming → Book → Result (List
                 (ap (option_map view) is) it.far call);
             has = adds it.read it.has;
           }
+
+-- ---- what is made of them by a definition over the whole list
+
+-- the fold answers what the list of the book comes to
+pub folded : {S I X A : Type 0} {view : I → X} {old new : Seen}
+    {all : Book → Result (List X) LedgerFault} {Has : S → List I → Type 0}
+    {result : Result S LedgerFault} (show : S → A) (sum : List X → A)
+    → Folds view old new all Has result
+    → ((state : S) (items : List I) → Has state items → show state ≡ sum (map view items))
+    → IsCall show old new result (λ book. no_event (shown_by sum (all book)))
+folded {result = Ok state} show sum it makes =
+    read_as (λ book. refl) (λ book. refl) (record { reopen = refl; store = refl })
+    (λ book said. ap (shown_by sum) said ∙ ap Ok (sym (makes state it.items it.has))) it.read
+folded {view = view} {result = Err fault} show sum it makes =
+    read_as (λ book. refl) (λ book. refl) (fault_alike fault)
+    (λ book. fault_tells (λ state. map view it.items) show fault (ap (shown_by sum))) it.read
 
 -- ---- items that the definitions see as they are
 

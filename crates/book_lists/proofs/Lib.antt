@@ -3,6 +3,7 @@ pub mod ReadingLemmas
 pub mod ShownLemmas
 pub mod FrontLemmas
 pub mod CursorLemmas
+pub mod DisputeCursorLemmas
 pub mod StreamedLemmas
 pub mod StreamingLemmas
 pub mod AnsweringLemmas

@@ -55,6 +55,26 @@ shown {view = view} {outcome = outcome} {old = old} {new = new} {value = value} 
   at_work = sym call.reopens.reopen;
 }
 
+-- an open ledger of which nothing was asked
+pub nothing_shown : (seen : Seen) → seen.must_reopen ≡ false → Shows seen seen (λ book. Unit {0})
+nothing_shown seen at_work = record {
+  work = record {
+    naming = refl;
+    honest = λ honest. honest;
+    books = λ honest books. books;
+    moves = λ honest books book stands. record {
+      before = book;
+      events = [];
+      stood = stands;
+      made = record { none = refl; known = tt; stays = refl; at_work = at_work };
+      leads = refl;
+    };
+    alone = λ reopen. record { reopen = reopen; left = λ book left. left };
+  };
+  stays = refl;
+  at_work = at_work;
+}
+
 -- what is known tells something else
 pub shown_as : {Known Other : Book → Type 0} {old new : Seen}
     → ((book : Book) → Known book → Other book) → Shows old new Known → Shows old new Other

@@ -4,6 +4,7 @@
 pub mod Shown
 pub mod Cursors
 pub mod DetailsInTurn
+pub mod DisputesInTurn
 pub mod Faults
 pub mod Writing
 pub mod Streamed

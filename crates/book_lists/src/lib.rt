@@ -4,6 +4,7 @@
 
 mod cursors;
 mod detail_cursors;
+mod dispute_cursors;
 mod fault;
 mod folds;
 mod output;
@@ -13,6 +14,7 @@ mod written_lists;
 
 pub use cursors::Cursor;
 pub use detail_cursors::DetailCursor;
+pub use dispute_cursors::DisputeCursor;
 pub use fault::ReportFault;
 pub use folds::{Step, fold};
 pub use output::{write_bytes, write_text};

@@ -15,7 +15,6 @@ pub mod RecordNameLemmas
 pub mod DetailSums
 pub mod WorkLemmas
 pub mod BillLineLemmas
-pub mod HeldLemmas
 pub mod KeptTariffLemmas
 pub mod BillLemmas
 pub mod PageLemmas

@@ -42,7 +42,7 @@ fn gathered<L: Ledger>(
 {
     let work = period_work(alloc, ledger, period, centre)?;
     let lines = billed_lines(alloc, ledger, period, centre)?;
-    let held = held_back(ledger, period, centre)?;
+    let held = held_back(alloc, ledger, period, centre)?;
     let kept = billed_tariffs(alloc, ledger, period)?;
     Ok(PeriodBill {
         through: work.through,

@@ -153,8 +153,8 @@ fn figures_with<L: Ledger>(
         TriedRuling::Close { .. } => {
             figures_and(rows, &lines, count_of_period(alloc, ledger, period + 1))
         }
-        TriedRuling::Choose(_) => figures_and(rows, &lines, count_disputes(ledger)),
-        TriedRuling::Adopt => figures_and(rows, &lines, count_disputes(ledger)),
+        TriedRuling::Choose(_) => figures_and(rows, &lines, count_disputes(alloc, ledger)),
+        TriedRuling::Adopt => figures_and(rows, &lines, count_disputes(alloc, ledger)),
     }
 }
 

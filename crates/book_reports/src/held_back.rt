@@ -10,10 +10,11 @@ ghost use Rattle.book_reports.specs.HeldBack as spec;
 ghost use Rattle.book_reports.specs.HeldBack.{AllDisputes};
 
 use crate::period_days::{is_closed, period_days};
-use crate::streamed_disputes::{MOST_DISPUTES, bytes_after};
 use book_core::{Dispute, Ledger, LedgerFault, Variant};
+use book_lists::{DisputeCursor, Step, fold};
 use book_model::HeldBack;
 use smf_text::Name;
+use std::alloc::{AllocError, Global};
 use tariff_rules::Priced;
 
 /// What no disputes hold back.
@@ -112,31 +113,58 @@ fn with_dispute(held: HeldBack, centre: &Option<Name>, dispute: &Dispute) -> Opt
     Some(more)
 }
 
-/// What all disputes hold back, for the centre that is named or for the whole office.
-fn held_in_all<L: Ledger>(ledger: &mut L, centre: &Option<Name>) -> Result<HeldBack, LedgerFault>
+/// Adds up what disputes hold back, for the centre that is named or for the whole office.
+#[derive(Drop)]
+struct HeldStep {
+    centre: Option<Name>,
+}
+
+impl Step<Dispute> for HeldStep {
+    ghost use Rattle.std.specs.Prelude.{◌≡◌, map};
+    ghost use Rattle.book_model.specs.Words.{dispute_shown, held_back_in};
+
+    type State = HeldBack;
+
+    ghost Takes = { λ step dispute. Unit {0} };
+
+    ghost Has = { λ step held disputes.
+        held ≡ held_back_in step.centre (map dispute_shown disputes) };
+
+    fn begin(&self, _alloc: Global) -> Result<HeldBack, AllocError> {
+        Ok(NOTHING)
+    }
+
+    fn add(
+        &self,
+        _alloc: Global,
+        held: &mut HeldBack,
+        dispute: &Dispute,
+    ) -> Result<(), LedgerFault> {
+        let Some(more) = with_dispute(*held, &self.centre, dispute) else {
+            return Err(LedgerFault::Memory);
+        };
+        *held = more;
+        Ok(())
+    }
+}
+
+/// What all disputes hold back.
+fn held_in_all<L: Ledger>(
+    alloc: Global,
+    ledger: &mut L,
+    centre: &Option<Name>,
+) -> Result<HeldBack, LedgerFault>
     ensures { IsCall (λ held. held) (L.seen ledger.old) (L.seen ledger.new) result
         (spec.held_in_outcome (L.seen ledger.old).naming centre.now) }
 {
-    let mut held = NOTHING;
-    let mut next = ledger.dispute_from(&[])?;
-    'disputes: for _ in 0..MOST_DISPUTES {
-        let Some(dispute) = next else {
-            return Ok(held);
-        };
-        let Some(more) = with_dispute(held, centre, &dispute) else {
-            return Err(LedgerFault::Memory);
-        };
-        held = more;
-        let from = bytes_after(dispute)?;
-        next = ledger.dispute_from(&from)?;
-    }
-    // Only a ledger that lies has more.
-    Err(LedgerFault::Memory)
+    let step = HeldStep { centre: *centre };
+    fold(alloc, ledger, &DisputeCursor, &step)
 }
 
 /// What is held back of a period. A closed one holds nothing back: what is decided after its close
 /// comes late in the period that is open then, so its bill is final.
 pub(crate) fn held_back<L: Ledger>(
+    alloc: Global,
     ledger: &mut L,
     period: u16,
     centre: &Option<Name>,
@@ -148,6 +176,6 @@ pub(crate) fn held_back<L: Ledger>(
     if is_closed(days) {
         return Ok(None);
     }
-    let held = held_in_all(ledger, centre)?;
+    let held = held_in_all(alloc, ledger, centre)?;
     Ok(Some(held))
 }

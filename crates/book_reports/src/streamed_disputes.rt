@@ -13,7 +13,7 @@ ghost use Rattle.book_reports.specs.StreamedDisputes.{dispute_count_outcome, dis
 ghost use Rattle.book_reports.specs.StreamedDisputes.{disputes_part};
 
 use book_core::{Dispute, Ledger, LedgerFault, Sink};
-use book_lists::{ReportFault, flush, push_lines};
+use book_lists::{DisputeCursor, ReportFault, Step, flush, fold, push_lines};
 use report_texts::{dispute_list_head, dispute_rows, dispute_table_head, push_dispute};
 use std::alloc::{AllocError, Global};
 use streams::Writer;
@@ -26,9 +26,6 @@ pub enum DisputeForm {
     /// A table of comma-separated values.
     Table,
 }
-
-/// More disputes than any books have.
-pub(crate) const MOST_DISPUTES: u64 = 1 << 32;
 
 /// What stands above so many disputes.
 fn head_of(alloc: Global, form: DisputeForm, count: u64) -> Result<Vec<u8>, AllocError>
@@ -62,7 +59,7 @@ fn part_of(
 }
 
 /// The bytes from which the dispute after this one is the first: a zero byte behind its identity.
-pub(crate) fn bytes_after(dispute: Dispute) -> Result<Vec<u8>, AllocError>
+fn bytes_after(dispute: Dispute) -> Result<Vec<u8>, AllocError>
     ensures { IfOk result (λ bytes. bytes.items ≡ dispute.identity.items ++ 0 ∷ []) }
 {
     let mut bytes = dispute.identity;
@@ -70,20 +67,45 @@ pub(crate) fn bytes_after(dispute: Dispute) -> Result<Vec<u8>, AllocError>
     Ok(bytes)
 }
 
+/// Counts disputes.
+struct CountStep;
+
+impl Step<Dispute> for CountStep {
+    ghost use Rattle.std.specs.Prelude.{◌≡◌, length};
+
+    type State = u64;
+
+    ghost Takes = { λ step dispute. Unit {0} };
+
+    ghost Has = { λ step count disputes. count ≡ length disputes };
+
+    fn begin(&self, _alloc: Global) -> Result<u64, AllocError> {
+        Ok(0)
+    }
+
+    fn add(
+        &self,
+        _alloc: Global,
+        count: &mut u64,
+        _dispute: &Dispute,
+    ) -> Result<(), LedgerFault> {
+        let Some(more) = count.checked_add(1) else {
+            return Err(LedgerFault::Memory);
+        };
+        *count = more;
+        Ok(())
+    }
+}
+
 /// How many disputes there are. Each is read for it, one at a time.
-pub(crate) fn count_disputes<L: Ledger>(ledger: &mut L) -> Result<u64, LedgerFault>
+pub(crate) fn count_disputes<L: Ledger>(
+    alloc: Global,
+    ledger: &mut L,
+) -> Result<u64, LedgerFault>
     ensures { IsCall (λ count. count) (L.seen ledger.old) (L.seen ledger.new) result
         (dispute_count_outcome (L.seen ledger.old).naming) }
 {
-    let mut next = ledger.dispute_from(&[])?;
-    for before in 0..MOST_DISPUTES {
-        let Some(dispute) = next else {
-            return Ok(before);
-        };
-        let from = bytes_after(dispute)?;
-        next = ledger.dispute_from(&from)?;
-    }
-    Err(LedgerFault::Memory)
+    fold(alloc, ledger, &DisputeCursor, &CountStep)
 }
 
 /// Writes the disputes: all of them, or, before a fault, a prefix of their text that is not the
@@ -105,7 +127,7 @@ pub fn write_disputes<L: Ledger, W: Writer + Drop>(
         (W.contents (writer_of sink.old)) (W.contents (writer_of sink.new)) result }
     ensures failed { has_failed sink.old ≡ false → has_failed sink.new ≡ is_write_fault result }
 {
-    let count = count_disputes(ledger)?;
+    let count = count_disputes(alloc, ledger)?;
     if sink.failed() {
         return Err(ReportFault::Write);
     }
