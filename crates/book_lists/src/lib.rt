@@ -19,5 +19,4 @@ pub use fault::ReportFault;
 pub use folds::{Step, fold};
 pub use output::{write_bytes, write_text};
 pub use ruling_cursors::RulingCursor;
-pub use waiting::flush;
-pub use written_lists::{Lines, push_lines, write_list};
+pub use written_lists::{Lines, write_list};

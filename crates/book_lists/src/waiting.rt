@@ -15,7 +15,7 @@ use streams::Writer;
 const MOST_WAITING: usize = 65_536;
 
 /// Writes what waits.
-pub fn flush<W: Writer + Drop>(
+pub(crate) fn flush<W: Writer + Drop>(
     waiting: &mut Vec<u8>,
     sink: &mut Sink<W>,
 ) -> Result<(), ReportFault>

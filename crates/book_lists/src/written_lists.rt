@@ -47,7 +47,7 @@ pub trait Lines<Item>: Step<Item> {
 
 /// Adds a part to what waits, which is written before where it is much. A part without bytes changes
 /// nothing.
-pub fn push_lines<W: Writer + Drop>(
+fn push_lines<W: Writer + Drop>(
     waiting: &mut Vec<u8>,
     lines: &[u8],
     sink: &mut Sink<W>,

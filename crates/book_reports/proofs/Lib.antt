@@ -4,7 +4,6 @@ pub mod MadeLemmas
 pub mod ReportLemmas
 pub mod RulingReading
 pub mod RulingLemmas
-pub mod DisputeReading
 pub mod DisputeLemmas
 pub mod DetailLemmas
 pub mod DetailLengths

@@ -1,5 +1,7 @@
 -- The disputes of a ledger, as a list or as a table, which are written while they are read.
-use Rattle.std.specs.Prelude.{ℕ, List, Option, Result, Ok}
+use Rattle.std.specs.Prelude.{ℕ, zero, suc, ◌+◌, ◌-◌, ◌<◌, List, [], ◌∷◌, ◌++◌, length, Option}
+use Rattle.std.specs.Prelude.{Result, Ok}
+use Rattle.std.proofs.Common.{arith, length-append}
 use Rattle.book_model.specs.Words.{Book, Disputed, Naming, Outcome, disputes_in, no_event}
 use Rattle.book_core.specs.Transition.{Transition}
 use Rattle.report_texts.specs.DisputeLists.{dispute_lines, dispute_list_head, dispute_list_text}
@@ -30,6 +32,37 @@ disputes_head form.Table count = member_heading
 abbrev pub disputes_part : DisputeForm → ℕ → Disputed → List ℕ
 disputes_part form.List number dispute = dispute_lines dispute
 disputes_part form.Table number dispute = dispute_rows number dispute
+
+-- the lines of disputes; the first has this number
+abbrev pub lines_from : DisputeForm → ℕ → List Disputed → List ℕ
+lines_from form number [] = []
+lines_from form number (dispute ∷ others) =
+    disputes_part form number dispute ++ lines_from form (number + 1) others
+
+-- so many disputes: the first of these, and blank ones where these are fewer
+abbrev pub filled : ℕ → List Disputed → List Disputed
+filled zero disputes = []
+filled (suc more) [] = record { identity = []; members = [] } ∷ filled more []
+filled (suc more) (dispute ∷ others) = dispute ∷ filled more others
+
+-- the lines of a dispute after so many others, where so many are left with it: none where none are
+abbrev pub part_left : DisputeForm → ℕ → ℕ → Disputed → List ℕ
+part_left form zero number dispute = []
+part_left form (suc more) number dispute = disputes_part form (number + 1) dispute
+
+-- the same where there are so many in all
+abbrev pub counted_part : DisputeForm → ℕ → ℕ → Disputed → List ℕ
+counted_part form total number dispute = part_left form (total - number) number dispute
+
+-- the lines that are missing below so many disputes, where there are so many in all
+abbrev pub missing_lines : DisputeForm → ℕ → ℕ → List ℕ
+missing_lines form total number = lines_from form (number + 1) (filled (total - number) [])
+
+-- something stands above them
+pub some_above_disputes : (form : DisputeForm) (count : ℕ) → 0 < length (disputes_head form count)
+unfolding dispute_list_head member_heading
+some_above_disputes form.List count = simp length-append (omega arith)
+some_above_disputes form.Table count = simp length-append (omega arith)
 
 -- the text of a book's disputes
 abbrev pub dispute_report : DisputeForm → Naming → Book → List ℕ

@@ -157,8 +157,7 @@ fn held_in_all<L: Ledger>(
     ensures { IsCall (λ held. held) (L.seen ledger.old) (L.seen ledger.new) result
         (spec.held_in_outcome (L.seen ledger.old).naming centre.now) }
 {
-    let step = HeldStep { centre: *centre };
-    fold(alloc, ledger, &DisputeCursor, &step)
+    fold(alloc, ledger, &DisputeCursor, &HeldStep { centre: *centre })
 }
 
 /// What is held back of a period. A closed one holds nothing back: what is decided after its close
