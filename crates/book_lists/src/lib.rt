@@ -9,6 +9,7 @@ mod fault;
 mod folds;
 mod output;
 mod ruling_cursors;
+mod tariff_cursors;
 mod waiting;
 mod written_lists;
 
@@ -19,4 +20,5 @@ pub use fault::ReportFault;
 pub use folds::{Step, fold};
 pub use output::{write_bytes, write_text};
 pub use ruling_cursors::RulingCursor;
+pub use tariff_cursors::{ListedTariff, TariffCursor};
 pub use written_lists::{Lines, write_list};

@@ -1,9 +1,8 @@
 -- The tariffs in force on the days of a period, which are kept of all tariffs as they are read.
-use Rattle.std.proofs.Common.{◌≡◌, ◌∙◌, ◌||◌, ℕ, zero, suc, ◌+◌, ℤ, Bool, true, false, cond, List, []}
-use Rattle.std.proofs.Common.{◌∷◌, ◌++◌, not, take, append-nil, refl, sym, ap, subst, true≢false}
-use Rattle.std.proofs.Common.{Option, Some, None, Ok, Err}
-use Rattle.std.specs.Prelude.{◌+ℤ◌, All, if◌then◌else◌, int_lt, option_and_then, option_map}
-use Rattle.std.specs.Prelude.{pos, slice_get}
+use Rattle.std.proofs.Common.{◌≡◌, ◌∙◌, ◌||◌, ℤ, Bool, true, false, cond, List, [], ◌∷◌, ◌++◌, not}
+use Rattle.std.proofs.Common.{append-nil, refl, sym, ap, subst, true≢false, Option, Some, None}
+use Rattle.std.proofs.Common.{ℕ, Result, Ok, Err}
+use Rattle.std.specs.Prelude.{◌+ℤ◌, All, IfOk, if◌then◌else◌, int_lt, option_map, pos}
 use Rattle.std.specs.List.{cons_option, list_any}
 use Rattle.std.specs.Option.{option_map_or}
 use Rattle.std.specs.Result.{result_ok}
@@ -11,26 +10,14 @@ use Rattle.std.proofs.lemmas.List.Elements.{All-push, filter-append, filter_map-
 use Rattle.std.proofs.lemmas.List.Folds.{list_any-append}
 use Rattle.book_model.specs.declared.bill.BilledTariff.{BilledTariff}
 use Rattle.book_model.specs.declared.fault.LedgerFault.{LedgerFault}
-use Rattle.book_model.specs.declared.fault.LedgerFault.TheVariants.{Memory}
-use Rattle.book_model.specs.declared.listed_ruling.ListedRuling.{ListedRuling}
-use Rattle.book_model.specs.Words.{Choice, IsDay, Naming, RulingSeen, Rulings}
-use Rattle.book_model.specs.Words.{TariffSeen, Terms, adoption_seen, begins_by, billed_tariff}
-use Rattle.book_model.specs.Words.{choices_seen, closes_seen, in_force_from, letterhead_by}
-use Rattle.book_model.specs.Words.{letterhead_in, letterhead_shown, no_letterhead, ruling_outcome}
-use Rattle.book_model.specs.Words.{ruling_shown, rulings_listed, tariff_by, tariffs_from, tariffs_seen}
-use Rattle.book_model.specs.Words.{tariffs_through, terms_in, text_on}
-use Rattle.book_model.proofs.ListedLemmas.{in_turn}
-use Rattle.book_core.specs.Calls.{IsCall}
-use Rattle.book_core.specs.Ledgers.{Seen}
-use Rattle.book_lists.proofs.ReadingLemmas.{by_names}
-use Rattle.book_lists.proofs.ShownLemmas.{answers, answers_none, refused_next}
+use Rattle.book_model.specs.Words.{IsDay, RulingSeen, TariffSeen, Terms, begins_by, billed_tariff}
+use Rattle.book_model.specs.Words.{in_force_from, letterhead_by, letterhead_in, letterhead_shown}
+use Rattle.book_model.specs.Words.{no_letterhead, tariff_by, tariffs_from, tariffs_through, terms_in}
 use Rattle.book_reports.specs.declared.bill_tariffs.KeptTariffs.{KeptTariffs}
 use Rattle.book_reports.specs.declared.period_days.PeriodDays.{PeriodDays}
 use Rattle.book_reports.specs.BillTariffs.{HasKept, has_begun_after, kept_of, left_by, tariffs_billed}
-use Rattle.book_reports.specs.BillTariffs.{tariffs_on_outcome, tariffs_shown}
+use Rattle.book_reports.specs.BillTariffs.{tariffs_shown}
 use Rattle.book_reports.proofs.BillLineLemmas.{last_push}
-use Rattle.book_reports.proofs.RulingReading.{HasRead, first_read, one_more_read}
-use Rattle.book_reports.proofs.TariffLemmas.{AreTariffs, IsTariff, are_tariffs, no_tariff}
 
 -- ---- one more tariff
 
@@ -144,95 +131,15 @@ kept_push {kept} {more} {read} day text found is_day is joined head are = record
 }
 
 -- what was kept is what is shown
-kept_shown : {kept : KeptTariffs} {read : List RulingSeen} → HasKept kept read
+pub kept_shown : {kept : KeptTariffs} {read : List RulingSeen} → HasKept kept read
     → tariffs_billed read ≡ tariffs_shown kept
 kept_shown are = λ i. record {
   tariffs = sym are.tariffs i;
   letterhead = sym are.letterhead i;
 }
 
--- ---- all tariffs are read
-
--- none of these is a tariff
-abbrev HasNoTariffs : List RulingSeen → Type 0
-HasNoTariffs [] = Unit {0}
-HasNoTariffs (ruling ∷ later) = (IsTariff ruling → ⊥) × HasNoTariffs later
-
-none_append : (some others : List RulingSeen) → HasNoTariffs some → HasNoTariffs others
-    → HasNoTariffs (some ++ others)
-none_append [] others none later = later
-none_append (ruling ∷ some) others none later = (none.0, none_append some others none.1 later)
-
-none_in_closes : (period : ℕ) (closes : List ℤ) → HasNoTariffs (closes_seen period closes)
-none_in_closes period [] = tt
-none_in_closes period (through ∷ later) = (λ is. is, none_in_closes (suc period) later)
-
-none_in_choices : (naming : Naming) (number : ℕ) (choices : List Choice)
-    → HasNoTariffs (choices_seen naming number choices)
-none_in_choices naming number [] = tt
-none_in_choices naming number (choice ∷ later) =
-    (λ is. is, none_in_choices naming (suc number) later)
-
-none_in_adoption : (adopted : Option ℕ) → HasNoTariffs (adoption_seen adopted)
-none_in_adoption None = tt
-none_in_adoption (Some period) = (λ is. is, tt)
-
--- of such rulings no first ones are tariffs
-no_front : (rulings : List RulingSeen) (count : ℕ) → HasNoTariffs rulings
-    → AreTariffs (take count rulings) → take count rulings ≡ []
-no_front rulings zero none are = refl
-no_front [] (suc count) none are = refl
-no_front (ruling ∷ later) (suc count) none are = absurd (none.0 are.0)
-
--- tariffs were read, and the next ruling is none: these are all
-front_tariffs : (tariffs rest : List RulingSeen) (count : ℕ) → AreTariffs tariffs
-    → HasNoTariffs rest → AreTariffs (take count (tariffs ++ rest))
-    → ((found : RulingSeen) → slice_get (tariffs ++ rest) count ≡ Some found → IsTariff found → ⊥)
-    → take count (tariffs ++ rest) ≡ tariffs
-front_tariffs [] rest count all none are other = no_front rest count none are
-front_tariffs (tariff ∷ later) rest zero all none are other = absurd (other tariff refl all.0)
-front_tariffs (tariff ∷ later) rest (suc count) all none are other =
-    ap (λ tariffs. tariff ∷ tariffs) (front_tariffs later rest count all.1 none are.1 other)
-
-all_tariffs : (naming : Naming) (rulings : Rulings) (count : ℕ) (read : List RulingSeen)
-    (next : Option RulingSeen) → take count (rulings_listed naming rulings) ≡ read
-    → AreTariffs read → slice_get (rulings_listed naming rulings) count ≡ next
-    → ((day : ℤ) → option_and_then (text_on day) next ≡ None) → read ≡ tariffs_seen rulings.tariffs
-all_tariffs naming rulings count read next front are there other =
-    let tariffs = tariffs_seen rulings.tariffs in
-    let closes = closes_seen 1 rulings.closes in
-    let choices = choices_seen naming 1 rulings.choices in
-    let rest = closes ++ (choices ++ adoption_seen rulings.adopted) in
-    let parts : rulings_listed naming rulings ≡ tariffs ++ rest = in_turn naming rulings in
-    let those : take count (tariffs ++ rest) ≡ read = ap (take count) (sym parts) ∙ front in
-    sym those
-    ∙ front_tariffs tariffs rest count (are_tariffs rulings.tariffs)
-    (none_append closes (choices ++ adoption_seen rulings.adopted)
-    (none_in_closes 1 rulings.closes)
-    (none_append choices (adoption_seen rulings.adopted) (none_in_choices naming 1 rulings.choices)
-    (none_in_adoption rulings.adopted)))
-    (subst AreTariffs (sym those) are)
-    (λ found is. no_tariff found (λ day.
-    ap (option_and_then (text_on day))
-    (sym is ∙ ap (λ rulings. slice_get rulings count) (sym parts) ∙ there) ∙ other day))
-
--- ---- tariffs in turn
-
-are_more : (read : List RulingSeen) (day : ℤ) (text : List ℕ) → AreTariffs read
-    → AreTariffs (read ++ TariffSeen day text ∷ [])
-are_more [] day text are = (tt, tt)
-are_more (tariff ∷ later) day text are = (are.0, are_more later day text are.1)
-
--- so many tariffs were read, and these are kept of them
-pub record KeepsSoFar (days : PeriodDays) (old new : Seen) (count : ℕ) (next : Option ListedRuling)
-    (kept : KeptTariffs) : Type 0 where
-  pub read : List RulingSeen
-  pub far : HasRead old new count read next
-  pub are : AreTariffs read
-  pub has : HasKept kept (kept_of days read)
-
 -- of none these are none
-kept_none : (days : PeriodDays) → [] ≡ kept_of days []
+pub kept_none : (days : PeriodDays) → [] ≡ kept_of days []
 kept_none days = by days.before days.through
   where
     by : (before through : Option ℤ)
@@ -242,54 +149,9 @@ kept_none days = by days.before days.through
     by (Some close) None = refl
     by (Some close) (Some through) = refl
 
-pub keep_begun : (days : PeriodDays) (old new : Seen) (next : Option ListedRuling) (kept : KeptTariffs)
-    → HasKept kept []
-    → IsCall (option_map ruling_shown) old new (Ok next) (ruling_outcome old.naming 0)
-    → KeepsSoFar days old new 0 next kept
-keep_begun days old new next kept none call = record {
-  read = [];
-  far = first_read old new next call;
-  are = tt;
-  has = subst (HasKept kept) (kept_none days) none;
-}
-
-module _ {days : PeriodDays} {old mid : Seen} {count : ℕ} {next : Option ListedRuling}
-    {kept : KeptTariffs} (it : KeepsSoFar days old mid count next kept)
-  where
-    -- there is no further tariff
-    pub keep_ended : ((day : ℤ) → option_and_then (text_on day) (option_map ruling_shown next) ≡ None)
-        → IsCall tariffs_shown old mid (Ok kept) (tariffs_on_outcome days)
-    keep_ended other =
-        answers kept (λ book. refl)
-        (λ book known. ap (λ tariffs. Ok (tariffs_billed (kept_of days tariffs)))
-        (sym (all_tariffs old.naming book.rulings count it.read (option_map ruling_shown next)
-        known.front it.are known.there other))
-        ∙ ap Ok (kept_shown it.has))
-        it.far.shows
-
-    -- there was no memory
-    pub keep_stopped : IsCall tariffs_shown old mid (Err Memory) (tariffs_on_outcome days)
-    keep_stopped = answers_none (λ book. refl) it.far.shows
-
-    -- the ledger refused the next call
-    pub keep_refused : (new : Seen) (fault : LedgerFault)
-        → IsCall (option_map ruling_shown) mid new (Err fault) (ruling_outcome mid.naming (count + 1))
-        → IsCall tariffs_shown old new (Err fault) (tariffs_on_outcome days)
-    keep_refused new fault call =
-        refused_next (Err fault) refl (λ book. refl) (λ book. refl) (λ book known is. cc is)
-        it.far.shows
-        (by_names (λ naming. ruling_outcome naming (count + 1)) it.far.shows.work.naming call)
-
-    -- or it goes on
-    pub keep_more : (new : Seen) (day : ℤ) (text : List ℕ) (after : Option ListedRuling)
-        (more : KeptTariffs) → option_map ruling_shown next ≡ Some (TariffSeen day text)
-        → ((read : List RulingSeen) → HasKept kept (kept_of days read)
-        → HasKept more (kept_of days (read ++ TariffSeen day text ∷ [])))
-        → IsCall (option_map ruling_shown) mid new (Ok after) (ruling_outcome mid.naming (count + 1))
-        → KeepsSoFar days old new (count + 1) after more
-    keep_more new day text after more is joins call = record {
-      read = it.read ++ TariffSeen day text ∷ [];
-      far = one_more_read old mid new count it.read (TariffSeen day text) next after is it.far call;
-      are = are_more it.read day text it.are;
-      has = joins it.read it.has;
-    }
+-- tariffs that were kept have days
+pub kept_dated : {result : Result KeptTariffs LedgerFault} {read : List RulingSeen}
+    → IfOk result (λ kept. HasKept kept read)
+    → IfOk result (λ kept. All (λ (tariff : BilledTariff). IsDay tariff.day) kept.tariffs.items)
+kept_dated {result = Ok kept} has = has.days
+kept_dated {result = Err fault} has = tt

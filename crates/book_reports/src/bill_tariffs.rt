@@ -9,9 +9,8 @@ ghost use Rattle.book_core.specs.Calls.{IsCall};
 ghost use Rattle.book_reports.specs.BillTariffs as spec;
 
 use crate::period_days::{PeriodDays, period_days};
-use crate::ruling_texts::tariff_in;
-use crate::streamed_rulings::MOST_RULINGS;
 use book_core::{Ledger, LedgerFault, Tariff, is_through};
+use book_lists::{ListedTariff, Step, TariffCursor, fold};
 use book_model::BilledTariff;
 use std::alloc::{AllocError, Global};
 use tariff_rules::{Letterhead, TariffFault};
@@ -138,7 +137,40 @@ impl KeptTariffs {
     }
 }
 
-/// The tariffs in force on some of the days. The tariffs come before all other rulings.
+/// Keeps the tariffs in force on some of the days.
+#[derive(Drop)]
+struct KeptStep {
+    days: PeriodDays,
+}
+
+impl Step<ListedTariff> for KeptStep {
+    ghost use Rattle.std.specs.Prelude.{map};
+    ghost use Rattle.book_model.specs.Words.{IsDay};
+    ghost use Rattle.book_lists.specs.TariffsInTurn.{tariff_shown};
+    ghost use Rattle.book_reports.specs.BillTariffs.{HasKept, kept_of};
+
+    type State = KeptTariffs;
+
+    ghost Takes = { λ step tariff. IsDay tariff.day };
+
+    ghost Has = { λ step kept tariffs.
+        HasKept kept (kept_of step.days (map tariff_shown tariffs)) };
+
+    fn begin(&self, alloc: Global) -> Result<KeptTariffs, AllocError> {
+        Ok(KeptTariffs::new(alloc))
+    }
+
+    fn add(
+        &self,
+        alloc: Global,
+        kept: &mut KeptTariffs,
+        tariff: &ListedTariff,
+    ) -> Result<(), LedgerFault> {
+        kept.join(alloc, self.days, tariff.day, tariff.text.as_str())
+    }
+}
+
+/// The tariffs in force on some of the days.
 fn tariffs_on<L: Ledger>(
     alloc: Global,
     ledger: &mut L,
@@ -148,16 +180,7 @@ fn tariffs_on<L: Ledger>(
         (spec.tariffs_on_outcome days) }
     ensures days { IfOk result (λ kept. All (λ tariff. IsDay tariff.day) kept.tariffs.items) }
 {
-    let mut kept = KeptTariffs::new(alloc);
-    let mut next = ledger.ruling(0)?;
-    for before in 0..MOST_RULINGS {
-        let Some((day, text)) = tariff_in(next) else {
-            return Ok(kept);
-        };
-        kept.join(alloc, days, day, text.as_str())?;
-        next = ledger.ruling(before + 1)?;
-    }
-    Err(LedgerFault::Memory)
+    fold(alloc, ledger, &TariffCursor, &KeptStep { days })
 }
 
 /// The tariffs in force on some of the days of a period.
