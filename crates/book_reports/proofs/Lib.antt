@@ -2,7 +2,6 @@ pub mod NumberLemmas
 pub mod BookLemmas
 pub mod MadeLemmas
 pub mod ReportLemmas
-pub mod RulingReading
 pub mod RulingLemmas
 pub mod DisputeLemmas
 pub mod DetailLemmas

@@ -18,9 +18,6 @@ use report_texts::{push_ruling_line, ruling_list_head};
 use std::alloc::{AllocError, Global};
 use streams::Writer;
 
-/// More rulings than any books have.
-pub(crate) const MOST_RULINGS: u64 = 1 << 32;
-
 /// A line for each ruling.
 pub(crate) struct RulingLines;
 
