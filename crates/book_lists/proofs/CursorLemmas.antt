@@ -1,7 +1,7 @@
 -- Lists that are read one item at a time: all calls show one book.
 use Rattle.std.proofs.Common.{◌≡◌, ◌∙◌, ℕ, ◌+◌, List, [], ◌∷◌, ◌++◌, map, take, refl, sym, ap, subst}
-use Rattle.std.proofs.Common.{Option, Some, None, Result, Ok, Err, false}
-use Rattle.std.specs.Prelude.{IfOk, option_map, slice_get}
+use Rattle.std.proofs.Common.{Option, Some, None, Result, Ok, Err}
+use Rattle.std.specs.Prelude.{option_map, slice_get}
 use Rattle.book_model.specs.declared.fault.LedgerFault.{LedgerFault}
 use Rattle.book_model.specs.declared.fault.LedgerFault.TheVariants.{Memory}
 use Rattle.book_model.specs.Words.{Book, Naming, Outcome, no_event}
@@ -49,12 +49,6 @@ pub record Reads {X : Type 0} (answer : Result (List X) LedgerFault) (count : �
 pub record HasRead {X : Type 0} (all : Naming → Book → Result (List X) LedgerFault) (old new : Seen)
     (count : ℕ) (read : List X) (next : Option X) : Type 0 where
   pub shows : Shows old new (λ book. Reads (all old.naming book) count read next)
-
--- the ledger is open then
-pub still_open : {X : Type 0} {all : Naming → Book → Result (List X) LedgerFault} {old new : Seen}
-    {count : ℕ} {read : List X} {next : Option X} → HasRead all old new count read next
-    → new.must_reopen ≡ false
-still_open far = far.shows.stays ∙ far.shows.at_work
 
 -- the next one is the last that was read, when it was
 read_last : {X : Type 0} {answer : Result (List X) LedgerFault} {count : ℕ} {read : List X}

@@ -7,7 +7,7 @@ use book_core::{Ledger, LedgerFault, ListedRuling};
 pub struct RulingCursor;
 
 impl<L: Ledger> Cursor<L> for RulingCursor {
-    ghost use Rattle.std.specs.Prelude.{◌≡◌, ◌<◌, IfOk, IfSome, Ok, false, option_map, refl, slice_get};
+    ghost use Rattle.std.specs.Prelude.{◌≡◌, ◌<◌, IfOk, IfSome, Ok, false, option_map, refl};
     ghost use Rattle.book_model.specs.Words.{HasDays, RulingSeen, ruling_outcome, ruling_shown};
     ghost use Rattle.book_model.specs.Words.{rulings_listed};
     ghost use Rattle.book_core.specs.Calls.{IsCall};

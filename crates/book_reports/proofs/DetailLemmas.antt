@@ -1,13 +1,10 @@
 -- The text of details, which is written as they are read.
-use Rattle.std.proofs.Common.{◌≡◌, ◌∙◌, ℕ, ◌+◌, ◌<◌, ℤ, List, [], ◌∷◌, ◌++◌, length, refl, sym, ap}
-use Rattle.std.proofs.Common.{subst}
-use Rattle.std.proofs.Common.{append-nil, length-append, Option, Some, None, Result, Ok, Err, inl, inr}
+use Rattle.std.proofs.Common.{◌≡◌, ◌∙◌, ℕ, ◌<◌, ℤ, List, ◌++◌, length, refl, sym, ap, subst}
+use Rattle.std.proofs.Common.{append-nil, Option, Result, Ok, Err, inl, inr}
 use Rattle.std.specs.Prelude.{flat_map}
-use Rattle.std.proofs.KnownBytes.{Appends-nil}
-use Rattle.std.proofs.lemmas.List.Sums.{sum_by_push}
 use Rattle.book_model.specs.declared.detail.Detail.{Detail}
 use Rattle.book_model.specs.declared.fault.LedgerFault.{LedgerFault}
-use Rattle.book_model.specs.Words.{Book, Naming, details_outcome}
+use Rattle.book_model.specs.Words.{Book, details_outcome}
 use Rattle.book_core.specs.Ledgers.{Seen}
 use Rattle.book_core.specs.Calls.{IsCall}
 use Rattle.book_core.specs.Transition.{IsTransition}
@@ -15,31 +12,20 @@ use Rattle.report_texts.specs.DetailTables.{detail_row, details_heading}
 use Rattle.book_lists.specs.declared.fault.ReportFault.{ReportFault}
 use Rattle.book_lists.specs.Faults.{report_fault_of}
 use Rattle.book_lists.specs.Streamed.{WritesAnswerUntil}
-use Rattle.book_lists.specs.WrittenLists.{list_answer, list_text, parts_from}
+use Rattle.book_lists.specs.WrittenLists.{list_answer, list_text}
 use Rattle.book_lists.proofs.AnsweringLemmas.{answer_unread}
 use Rattle.book_lists.proofs.CursorLemmas.{shown_back}
 use Rattle.book_lists.proofs.ShownLemmas.{shown}
 use Rattle.book_lists.proofs.WritingLemmas.{same_value}
 use Rattle.book_lists.proofs.WrittenListLemmas.{parts_each, text_some, then_written}
 use Rattle.book_reports.specs.declared.streamed_details.DetailReport.{DetailReport}
-use Rattle.book_reports.specs.declared.streamed_details.Sums.{Sums}
 use Rattle.book_reports.specs.declared.what_if.StatementForm.{StatementForm}
 use Rattle.book_reports.specs.declared.what_if.StatementForm.TheVariants as form
 use Rattle.book_reports.specs.BookTexts.{closed_through, closed_through_outcome, shown_by}
 use Rattle.book_reports.specs.StreamedDetails.{WritesDetails, detail_answer}
 use Rattle.book_reports.specs.StreamedDetails.{details_end, details_head, details_part}
 use Rattle.book_reports.specs.StreamedDetails.{details_text, end_in, head_in, part_in, sums_of}
-use Rattle.book_reports.specs.StreamedDetails.{some_above_details, text_in, with_detail}
-
--- what the sums of details are with one more
-pub sums_more : (read : List Detail) (detail : Detail)
-    → with_detail (sums_of read) detail ≡ sums_of (read ++ detail ∷ [])
-sums_more read detail = λ i. record {
-  count = sym (length-append read (detail ∷ [])) i;
-  cpu = sym (sum_by_push (λ (one : Detail). one.priced.cpu) read detail) i;
-  blocks = sym (sum_by_push (λ (one : Detail). one.priced.excp) read detail) i;
-  amount = sym (sum_by_push (λ (one : Detail). one.priced.amount) read detail) i;
-}
+use Rattle.book_reports.specs.StreamedDetails.{some_above_details, text_in}
 
 -- the parts are the text
 whole_in : (shape : StatementForm) (report : DetailReport) (through : Option ℤ)

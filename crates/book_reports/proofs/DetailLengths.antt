@@ -1,8 +1,7 @@
 -- How many bytes the text of details has, by those that were counted.
-use Rattle.std.proofs.Common.{◌≡◌, ◌∙◌, ℕ, ◌+◌, ℤ, List, [], ◌∷◌, ◌++◌, length, map, refl, sym, ap, subst}
-use Rattle.std.proofs.Common.{append-nil, length-append, Option, Result, Ok, Err}
+use Rattle.std.proofs.Common.{◌≡◌, ◌∙◌, ℕ, ◌+◌, ℤ, List, ◌++◌, length, map, refl, sym, ap, subst}
+use Rattle.std.proofs.Common.{length-append, Option, Result, Ok, Err}
 use Rattle.std.specs.Prelude.{IfErr, IfOk, flat_map}
-use Rattle.std.proofs.lemmas.Grind.{flat_map-append}
 use Rattle.book_model.specs.declared.detail.Detail.{Detail}
 use Rattle.book_model.specs.declared.fault.LedgerFault.{LedgerFault}
 use Rattle.book_model.specs.declared.fault.LedgerFault.TheVariants.{Memory}
@@ -20,8 +19,8 @@ use Rattle.book_reports.specs.declared.streamed_details.DetailReport.{DetailRepo
 use Rattle.book_reports.specs.BookTexts.{closed_through, closed_through_outcome, shown_by}
 use Rattle.book_reports.specs.DetailLengths.{AreCounted}
 use Rattle.book_reports.specs.StreamedDetails.{detail_length_outcome, details_end, details_head}
-use Rattle.book_reports.specs.StreamedDetails.{details_part, details_text, sums_of, with_detail}
-use Rattle.book_reports.proofs.DetailLemmas.{sums_more, whole_text}
+use Rattle.book_reports.specs.StreamedDetails.{details_part, details_text, sums_of}
+use Rattle.book_reports.proofs.DetailLemmas.{whole_text}
 
 -- with what stands above and below these are the bytes of the text
 whole_size : (report : DetailReport) (through : Option ℤ) (counted : Counted) (details : List Detail)

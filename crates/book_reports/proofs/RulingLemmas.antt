@@ -1,6 +1,6 @@
 -- The list of rulings.
 use Rattle.std.proofs.Common.{◌≡◌, ◌∙◌, ℕ, Bool, true, List, [], ◌++◌, map, refl, sym, ap, append-nil}
-use Rattle.std.proofs.Common.{Option, Some, Result, Ok, Err, Vec, Global, inl}
+use Rattle.std.proofs.Common.{Some, Result, Ok, Err, Vec, Global, inl}
 use Rattle.book_model.specs.declared.fault.LedgerFault.{LedgerFault}
 use Rattle.book_model.specs.declared.fault.LedgerFault.TheVariants as ledger
 use Rattle.book_model.specs.declared.listed_ruling.ListedRuling.{ListedRuling}

@@ -1,6 +1,6 @@
 -- What was worked in a period: the rows of its steps and of its jobs, of details that are read one
 -- after another.
-use Rattle.std.proofs.Common.{◌≡◌, ◌∙◌, ℕ, ◌+◌, ◌<◌, ◌^◌, ℤ, Bool, List, [], ◌∷◌, ◌++◌}
+use Rattle.std.proofs.Common.{◌≡◌, ◌∙◌, ℕ, ◌+◌, ◌<◌, ◌^◌, ℤ, Bool, List}
 use Rattle.std.proofs.Common.{length, map, not, refl, sym, ap, subst, arith}
 use Rattle.std.proofs.Common.{Option, Result, Ok, Err}
 use Rattle.std.specs.Prelude.{All, IfOk, filter, sum_by}

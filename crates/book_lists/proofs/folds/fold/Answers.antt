@@ -1,4 +1,3 @@
-use Rattle.std.proofs.Common.{refl}
 use Rattle.book_lists.proofs.ReadingLemmas.{passed_on}
 use Rattle.book_lists.proofs.CursorLemmas.{first_read, fold_begun, fold_ended, fold_more}
 use Rattle.book_lists.proofs.CursorLemmas.{fold_refused, fold_stopped, fold_unbegun, fold_unread}

@@ -1,4 +1,3 @@
-use Rattle.std.proofs.Common.{◌≡◌, false}
 use Rattle.std.specs.Prelude.{IfSome}
 use Rattle.book_lists.proofs.CursorLemmas.{FoldsSoFar}
 use Rattle.book_lists.proofs.folds.fold.Given as goal
