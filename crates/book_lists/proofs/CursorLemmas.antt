@@ -154,54 +154,58 @@ module _ {I X : Type 0} (view : I → X) (all : Naming → Book → Result (List
           → HasRead all old new count read next → Folds view old new (all old.naming) Has (Err Memory)
       fold_unbegun far = record { items = []; read = answers_none (λ book. refl) far.shows; has = tt }
 
-      module _ {old mid : Seen} {count : ℕ} {next : Option I} {state : S}
-          (it : FoldsSoFar old mid count next state)
-        where
-          -- there are no more
-          pub fold_ended : next ≡ None → Folds view old mid (all old.naming) Has (Ok state)
-          fold_ended last = record {
-            items = it.read;
-            read = answers state (λ book. refl)
-                (λ book known. known.answered
-                ∙ ap Ok (sym (front_all known.those (ap (option_map view) last))))
-                it.far.shows;
-            has = it.has;
-          }
+module _ {I X S : Type 0} {view : I → X} {all : Naming → Book → Result (List X) LedgerFault}
+    {asked : Naming → ℕ → Option X → Book → Result (Option X) LedgerFault}
+    {in_turn : (naming : Naming) (book : Book) (count : ℕ) (last : Option X)
+    → IsNext (all naming book) count last (asked naming count last book)}
+    {Has : S → List I → Type 0} {old mid : Seen} {count : ℕ} {next : Option I} {state : S}
+    (it : FoldsSoFar view all asked in_turn Has old mid count next state)
+  where
+    -- there are no more
+    pub fold_ended : next ≡ None → Folds view old mid (all old.naming) Has (Ok state)
+    fold_ended last = record {
+      items = it.read;
+      read = answers state (λ book. refl)
+          (λ book known. known.answered
+          ∙ ap Ok (sym (front_all known.those (ap (option_map view) last))))
+          it.far.shows;
+      has = it.has;
+    }
 
-          -- memory ran out
-          pub fold_stopped : Folds view old mid (all old.naming) Has (Err Memory)
-          fold_stopped = fold_unbegun it.far
+    -- memory ran out
+    pub fold_stopped : Folds view old mid (all old.naming) Has (Err Memory)
+    fold_stopped = fold_unbegun view all asked in_turn Has it.far
 
-          -- the ledger refused the next call
-          pub fold_refused : (new : Seen) (item : I) (fault : LedgerFault) → next ≡ Some item
-              → IsCall (option_map view) mid new (Err fault)
-              (λ book. no_event (asked mid.naming (count + 1) (Some (view item)) book))
-              → Folds view old new (all old.naming) Has (Err fault)
-          fold_refused new item fault is call = record {
-            items = [];
-            read = refused_next (Err fault) refl (λ book. refl) (λ book. refl)
-                (λ book known. next_refused old.naming book (view item) fault
-                (ap (option_map view) is) known)
-                it.far.shows
-                (by_names (λ naming book. no_event (asked naming (count + 1) (Some (view item)) book))
-                it.far.shows.work.naming call);
-            has = tt;
-          }
+    -- the ledger refused the next call
+    pub fold_refused : (new : Seen) (item : I) (fault : LedgerFault) → next ≡ Some item
+        → IsCall (option_map view) mid new (Err fault)
+        (λ book. no_event (asked mid.naming (count + 1) (Some (view item)) book))
+        → Folds view old new (all old.naming) Has (Err fault)
+    fold_refused new item fault is call = record {
+      items = [];
+      read = refused_next (Err fault) refl (λ book. refl) (λ book. refl)
+          (λ book known. next_refused view all asked in_turn old.naming book (view item) fault
+          (ap (option_map view) is) known)
+          it.far.shows
+          (by_names (λ naming book. no_event (asked naming (count + 1) (Some (view item)) book))
+          it.far.shows.work.naming call);
+      has = tt;
+    }
 
-          -- or it goes on
-          pub fold_more : (new : Seen) (item : I) (after : Option I) (more : S) → next ≡ Some item
-              → ((items : List I) → Has state items → Has more (items ++ item ∷ []))
-              → IsCall (option_map view) mid new (Ok after)
-              (λ book. no_event (asked mid.naming (count + 1) (Some (view item)) book))
-              → FoldsSoFar old new (count + 1) after more
-          fold_more new item after more is adds call = record {
-            read = it.read ++ item ∷ [];
-            far = subst (λ read. HasRead all old new (count + 1) read (option_map view after))
-                (map_push view it.read item)
-                (one_more_read old mid new count (map view it.read) (view item) (option_map view next) after
-                (ap (option_map view) is) it.far call);
-            has = adds it.read it.has;
-          }
+    -- or it goes on
+    pub fold_more : (new : Seen) (item : I) (after : Option I) (more : S) → next ≡ Some item
+        → ((items : List I) → Has state items → Has more (items ++ item ∷ []))
+        → IsCall (option_map view) mid new (Ok after)
+        (λ book. no_event (asked mid.naming (count + 1) (Some (view item)) book))
+        → FoldsSoFar view all asked in_turn Has old new (count + 1) after more
+    fold_more new item after more is adds call = record {
+      read = it.read ++ item ∷ [];
+      far = subst (λ read. HasRead all old new (count + 1) read (option_map view after))
+          (map_push view it.read item)
+          (one_more_read view all asked in_turn old mid new count (map view it.read) (view item)
+          (option_map view next) after (ap (option_map view) is) it.far call);
+      has = adds it.read it.has;
+    }
 
 -- ---- what is made of them by a definition over the whole list
 

@@ -210,143 +210,152 @@ module _ {I X : Type 0} (view : I → X) (all : Naming → Book → Result (List
         some = subst (λ text. 0 < length text) (sym is) high;
       }
 
-      module _ {old mid : Seen} {count : ℕ} {next : Option I} {state : S} {waits : List ℕ}
-          {held had : Option (List ℕ)} (it : WritesSoFar old mid count next state waits held had)
-        where
-          -- by the definitions the same was written
-          lines_as : (part_of : ℕ → X → List ℕ) (below_of : List X → List ℕ)
-              → IsWrittenAs view part below part_of below_of → (read : List I) (left : List ℕ)
-              (has : Option (List ℕ)) → WritesFirst (so_far above part below read) left held has
-              → WritesFirst (so_far above part_of below_of (map view read)) left held has
-          lines_as part_of below_of same read left has written =
-              written_as (so_far above part below read) (so_far above part_of below_of (map view read))
-              left held has (ap (λ parts. above ++ parts) (parts_as view part part_of same.parts 0 read))
-              written
+module _ {I X S : Type 0} {view : I → X} {all : Naming → Book → Result (List X) LedgerFault}
+    {asked : Naming → ℕ → Option X → Book → Result (Option X) LedgerFault}
+    {in_turn : (naming : Naming) (book : Book) (count : ℕ) (last : Option X)
+    → IsNext (all naming book) count last (asked naming count last book)}
+    {above : List ℕ} {part : ℕ → I → List ℕ} {below : List I → List ℕ} {high : 0 < length above}
+    {Has : S → List I → Type 0} {old mid : Seen} {count : ℕ} {next : Option I} {state : S}
+    {waits : List ℕ} {held had : Option (List ℕ)}
+    (it : WritesSoFar view all asked in_turn above part below high Has old mid count next state waits
+    held had)
+  where
+    -- by the definitions the same was written
+    lines_as : (part_of : ℕ → X → List ℕ) (below_of : List X → List ℕ)
+        → IsWrittenAs view part below part_of below_of → (read : List I) (left : List ℕ)
+        (has : Option (List ℕ)) → WritesFirst (so_far above part below read) left held has
+        → WritesFirst (so_far above part_of below_of (map view read)) left held has
+    lines_as part_of below_of same read left has written =
+        written_as (so_far above part below read) (so_far above part_of below_of (map view read))
+        left held has (ap (λ parts. above ++ parts) (parts_as view part part_of same.parts 0 read))
+        written
 
-          -- it went no further
-          pub list_stopped : (fault : ReportFault) → is_write_or_memory fault ≡ true
-              → WritesList view above part below all old mid held had (Err fault)
-          list_stopped fault plain part_of below_of same =
-              answer_written it.far.shows (list_answer above part_of below_of all) held had (Err fault)
-              plain
-              (λ book known. (
-                list_text above part_of below_of known.items,
-                ap (shown_by (list_text above part_of below_of)) known.answered,
-                cut_before above part_of below_of known.items count (map view it.read) waits held had
-                    known.those.front (lines_as part_of below_of same it.read waits had it.lines)
-                    it.some,
-              ))
+    -- it went no further
+    pub list_stopped : (fault : ReportFault) → is_write_or_memory fault ≡ true
+        → WritesList view above part below all old mid held had (Err fault)
+    list_stopped fault plain part_of below_of same =
+        answer_written it.far.shows (list_answer above part_of below_of all) held had (Err fault)
+        plain
+        (λ book known. (
+          list_text above part_of below_of known.items,
+          ap (shown_by (list_text above part_of below_of)) known.answered,
+          cut_before above part_of below_of known.items count (map view it.read) waits held had
+              known.those.front (lines_as part_of below_of same it.read waits had it.lines)
+              it.some,
+        ))
 
-          pub some_stopped : (fault : ReportFault)
-              → WritesSome (list_text above part below) held had (Err fault)
-          some_stopped fault = (it.read, cut_some above part below it.read waits held had it.lines)
+    pub some_stopped : (fault : ReportFault)
+        → WritesSome (list_text above part below) held had (Err fault)
+    some_stopped fault = (it.read, cut_some above part below it.read waits held had it.lines)
 
-          -- it has ended, and what waits and what stands below was written, or a prefix of that
-          pub list_ended : (has : Option (List ℕ)) (result : Result (Unit {0}) ReportFault)
-              → next ≡ None → IfErr result (λ fault. is_write_or_memory fault ≡ true)
-              → ((items : List I) → Has state items → 0 < length waits
-              → WritesUntil (waits ++ below items) had has result)
-              → WritesList view above part below all old mid held has result
-          list_ended has result last plain flushed part_of below_of same =
-              answer_written it.far.shows (list_answer above part_of below_of all) held has result plain
-              (λ book known. (
-                list_text above part_of below_of known.items,
-                ap (shown_by (list_text above part_of below_of)) known.answered,
-                subst (λ items. WritesUntil (list_text above part_of below_of items) held has result)
-                    (front_all known.those (ap (option_map view) last))
-                    (ended_until above part_of below_of (map view it.read) waits held had has result
-                    (lines_as part_of below_of same it.read waits had it.lines)
-                    (subst (λ end. WritesUntil (waits ++ end) had has result) (same.ends it.read)
-                    (flushed it.read it.has it.some))),
-              ))
+    -- it has ended, and what waits and what stands below was written, or a prefix of that
+    pub list_ended : (has : Option (List ℕ)) (result : Result (Unit {0}) ReportFault)
+        → next ≡ None → IfErr result (λ fault. is_write_or_memory fault ≡ true)
+        → ((items : List I) → Has state items → 0 < length waits
+        → WritesUntil (waits ++ below items) had has result)
+        → WritesList view above part below all old mid held has result
+    list_ended has result last plain flushed part_of below_of same =
+        answer_written it.far.shows (list_answer above part_of below_of all) held has result plain
+        (λ book known. (
+          list_text above part_of below_of known.items,
+          ap (shown_by (list_text above part_of below_of)) known.answered,
+          subst (λ items. WritesUntil (list_text above part_of below_of items) held has result)
+              (front_all known.those (ap (option_map view) last))
+              (ended_until above part_of below_of (map view it.read) waits held had has result
+              (lines_as part_of below_of same it.read waits had it.lines)
+              (subst (λ end. WritesUntil (waits ++ end) had has result) (same.ends it.read)
+              (flushed it.read it.has it.some))),
+        ))
 
-          pub some_ended : (has : Option (List ℕ)) (result : Result (Unit {0}) ReportFault)
-              → ((items : List I) → Has state items → WritesPrefix (waits ++ below items) had has result)
-              → WritesSome (list_text above part below) held has result
-          some_ended has result flushed = (
-            it.read,
-            ended above part below it.read waits held had has result it.lines (flushed it.read it.has),
-          )
+    pub some_ended : (has : Option (List ℕ)) (result : Result (Unit {0}) ReportFault)
+        → ((items : List I) → Has state items → WritesPrefix (waits ++ below items) had has result)
+        → WritesSome (list_text above part below) held has result
+    some_ended has result flushed = (
+      it.read,
+      ended above part below it.read waits held had has result it.lines (flushed it.read it.has),
+    )
 
-          module _ (item : I) (is : next ≡ Some item) (left : List ℕ) (has : Option (List ℕ))
-              (line : WritesFirst (waits ++ part count item) left had has) (some : 0 < length left)
-            where
-              abbrev more : List I
-              more = it.read ++ item ∷ []
+    module _ (item : I) (is : next ≡ Some item) (left : List ℕ) (has : Option (List ℕ))
+        (line : WritesFirst (waits ++ part count item) left had has) (some : 0 < length left)
+      where
+        abbrev more : List I
+        more = it.read ++ item ∷ []
 
-              more_lines : WritesFirst (so_far above part below more) left held has
-              more_lines =
-                  part_written (so_far above part below it.read) (part count item)
-                  (so_far above part below more) waits left held had has
-                  (ap (λ n. so_far above part below it.read ++ part n item) it.counted
-                  ∙ so_far_with above part below it.read item)
-                  it.lines line
+        more_lines : WritesFirst (so_far above part below more) left held has
+        more_lines =
+            part_written (so_far above part below it.read) (part count item)
+            (so_far above part below more) waits left held had has
+            (ap (λ n. so_far above part below it.read ++ part n item) it.counted
+            ∙ so_far_with above part below it.read item)
+            it.lines line
 
-              more_cut : (part_of : ℕ → X → List ℕ) (below_of : List X → List ℕ)
-                  → IsWrittenAs view part below part_of below_of → (items : List X)
-                  → IsFront items count (map view it.read) (option_map view next)
-                  → (prefix : ℕ) × (prefix < length (list_text above part_of below_of items))
-                  × Appends held has (take prefix (list_text above part_of below_of items))
-              more_cut part_of below_of same items those =
-                  cut_before above part_of below_of items (count + 1) (map view more) left held has
-                  (front_taken those (ap (option_map view) is) ∙ map_push view it.read item)
-                  (lines_as part_of below_of same more left has more_lines) some
+        more_cut : (part_of : ℕ → X → List ℕ) (below_of : List X → List ℕ)
+            → IsWrittenAs view part below part_of below_of → (items : List X)
+            → IsFront items count (map view it.read) (option_map view next)
+            → (prefix : ℕ) × (prefix < length (list_text above part_of below_of items))
+            × Appends held has (take prefix (list_text above part_of below_of items))
+        more_cut part_of below_of same items those =
+            cut_before above part_of below_of items (count + 1) (map view more) left held has
+            (front_taken those (ap (option_map view) is) ∙ map_push view it.read item)
+            (lines_as part_of below_of same more left has more_lines) some
 
-              -- a part was not written, or not whole
-              pub list_cut : (fault : ReportFault) → is_write_or_memory fault ≡ true
-                  → WritesList view above part below all old mid held has (Err fault)
-              list_cut fault plain part_of below_of same =
-                  answer_written it.far.shows (list_answer above part_of below_of all) held has
-                  (Err fault) plain
-                  (λ book known. (
-                    list_text above part_of below_of known.items,
-                    ap (shown_by (list_text above part_of below_of)) known.answered,
-                    more_cut part_of below_of same known.items known.those,
-                  ))
+        -- a part was not written, or not whole
+        pub list_cut : (fault : ReportFault) → is_write_or_memory fault ≡ true
+            → WritesList view above part below all old mid held has (Err fault)
+        list_cut fault plain part_of below_of same =
+            answer_written it.far.shows (list_answer above part_of below_of all) held has
+            (Err fault) plain
+            (λ book known. (
+              list_text above part_of below_of known.items,
+              ap (shown_by (list_text above part_of below_of)) known.answered,
+              more_cut part_of below_of same known.items known.those,
+            ))
 
-              pub some_cut : (fault : ReportFault)
-                  → WritesSome (list_text above part below) held has (Err fault)
-              some_cut fault = (more, cut_some above part below more left held has more_lines)
+        pub some_cut : (fault : ReportFault)
+            → WritesSome (list_text above part below) held has (Err fault)
+        some_cut fault = (more, cut_some above part below more left held has more_lines)
 
-              -- the ledger refused the next call
-              pub list_refused : (new : Seen) (fault : LedgerFault)
-                  → IsCall (option_map view) mid new (Err fault)
-                  (λ book. no_event (asked mid.naming (count + 1) (Some (view item)) book))
-                  → WritesList view above part below all old new held has
-                  (Err (report_fault_of fault))
-              list_refused new fault call part_of below_of same =
-                  answer_refused it.far.shows (λ book. refl) fault
-                  (by_names (λ naming book. no_event (asked naming (count + 1) (Some (view item)) book))
-                  it.far.shows.work.naming call)
-                  (list_answer above part_of below_of all) held has
-                  (λ book known said.
-                  cut_by (list_answer above part_of below_of all old.naming book)
-                  (list_text above part_of below_of known.items) fault held has
-                  (ap (shown_by (list_text above part_of below_of)) known.answered)
-                  (more_cut part_of below_of same known.items known.those)
-                  (refused_alike part_of below_of old.naming book
-                  (asked old.naming (count + 1) (Some (view item)) book) fault
-                  (next_refused view all asked in_turn old.naming book (view item) fault
-                  (ap (option_map view) is) known)
-                  said))
+        -- the ledger refused the next call
+        pub list_refused : (new : Seen) (fault : LedgerFault)
+            → IsCall (option_map view) mid new (Err fault)
+            (λ book. no_event (asked mid.naming (count + 1) (Some (view item)) book))
+            → WritesList view above part below all old new held has
+            (Err (report_fault_of fault))
+        list_refused new fault call part_of below_of same =
+            answer_refused it.far.shows (λ book. refl) fault
+            (by_names (λ naming book. no_event (asked naming (count + 1) (Some (view item)) book))
+            it.far.shows.work.naming call)
+            (list_answer above part_of below_of all) held has
+            (λ book known said.
+            cut_by (list_answer above part_of below_of all old.naming book)
+            (list_text above part_of below_of known.items) fault held has
+            (ap (shown_by (list_text above part_of below_of)) known.answered)
+            (more_cut part_of below_of same known.items known.those)
+            (refused_alike view all asked in_turn above part below high part_of below_of old.naming
+            book
+            (asked old.naming (count + 1) (Some (view item)) book) fault
+            (next_refused view all asked in_turn old.naming book (view item) fault
+            (ap (option_map view) is) known)
+            said))
 
-              -- or it goes on
-              pub list_more : (new : Seen) (after : Option I) (state_now : S)
-                  → ((items : List I) → Has state items → Has state_now (items ++ item ∷ []))
-                  → IsCall (option_map view) mid new (Ok after)
-                  (λ book. no_event (asked mid.naming (count + 1) (Some (view item)) book))
-                  → WritesSoFar old new (count + 1) after state_now left held has
-              list_more new after state_now adds call = record {
-                read = more;
-                counted = ap (λ n. n + 1) it.counted ∙ sym (length-append it.read (item ∷ []));
-                far = subst (λ read. HasRead all old new (count + 1) read (option_map view after))
-                    (map_push view it.read item)
-                    (one_more_read view all asked in_turn old mid new count (map view it.read)
-                    (view item) (option_map view next) after (ap (option_map view) is) it.far call);
-                has = adds it.read it.has;
-                lines = more_lines;
-                some = some;
-              }
+        -- or it goes on
+        pub list_more : (new : Seen) (after : Option I) (state_now : S)
+            → ((items : List I) → Has state items → Has state_now (items ++ item ∷ []))
+            → IsCall (option_map view) mid new (Ok after)
+            (λ book. no_event (asked mid.naming (count + 1) (Some (view item)) book))
+            → WritesSoFar view all asked in_turn above part below high Has old new (count + 1) after
+            state_now left held has
+        list_more new after state_now adds call = record {
+          read = more;
+          counted = ap (λ n. n + 1) it.counted ∙ sym (length-append it.read (item ∷ []));
+          far = subst (λ read. HasRead all old new (count + 1) read (option_map view after))
+              (map_push view it.read item)
+              (one_more_read view all asked in_turn old mid new count (map view it.read)
+              (view item) (option_map view next) after (ap (option_map view) is) it.far call);
+          has = adds it.read it.has;
+          lines = more_lines;
+          some = some;
+        }
 
 -- ---- what a list is by the definitions
 

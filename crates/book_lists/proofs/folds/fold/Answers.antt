@@ -33,10 +33,7 @@ items-init g c = record {
 
 -- there are no more
 pub returns-in_default : goal.returns-in_default
-returns-in_default g c =
-    fold_ended g.C.Cursor.shown (g.C.Cursor.all c.args.cursor.now) (g.C.Cursor.asked c.args.cursor.now)
-    (g.met.C.Cursor.in_turn c.args.cursor.now) (g.S.Step.Has c.args.step.now) c.items.invariant.far
-    c.in_default.is
+returns-in_default g c = fold_ended c.items.invariant.far c.in_default.is
 
 -- one does not fit
 pub returns-in_err-add : goal.returns-in_err-add
@@ -45,30 +42,22 @@ returns-in_err-add g c =
       passed_on c.from_residual-in_err-add.result c.from_residual-in_err-add.ensures.1,
       c.in_err-add.ensures.fault,
     )
-    (fold_stopped g.C.Cursor.shown (g.C.Cursor.all c.args.cursor.now)
-    (g.C.Cursor.asked c.args.cursor.now) (g.met.C.Cursor.in_turn c.args.cursor.now)
-    (g.S.Step.Has c.args.step.now) c.items.invariant.far)
+    (fold_stopped c.items.invariant.far)
 
 -- the next one is refused
 pub returns-in_err-next-2 : goal.returns-in_err-next-2
 returns-in_err-next-2 g c =
     rw (passed_on c.from_residual-in_err-next-2.result c.from_residual-in_err-next-2.ensures.1)
-    (fold_refused g.C.Cursor.shown (g.C.Cursor.all c.args.cursor.now)
-    (g.C.Cursor.asked c.args.cursor.now) (g.met.C.Cursor.in_turn c.args.cursor.now)
-    (g.S.Step.Has c.args.step.now) c.items.invariant.far _ c.in-Some.item c.in_err-next-2.field-0.0
-    c.in-Some.is c.in_err-next-2.ensures.item)
+    (fold_refused c.items.invariant.far _ c.in-Some.item c.in_err-next-2.field-0.0 c.in-Some.is
+    c.in_err-next-2.ensures.item)
 
 pub items-preserved : goal.items-preserved
 items-preserved g c = record {
   sound = c.in_ok-next-2.ensures.sound;
-  far = fold_more g.C.Cursor.shown (g.C.Cursor.all c.args.cursor.now)
-      (g.C.Cursor.asked c.args.cursor.now) (g.met.C.Cursor.in_turn c.args.cursor.now)
-      (g.S.Step.Has c.args.step.now) c.items.invariant.far _ c.in-Some.item c.in_ok-next-2.next
-      c.add.new.state c.in-Some.is c.in_ok-add.ensures.added c.in_ok-next-2.ensures.item;
+  far = fold_more c.items.invariant.far _ c.in-Some.item c.in_ok-next-2.next c.add.new.state
+      c.in-Some.is c.in_ok-add.ensures.added c.in_ok-next-2.ensures.item;
 }
 
 -- there are too many
 pub returns : goal.returns
-returns g c =
-    fold_stopped g.C.Cursor.shown (g.C.Cursor.all c.args.cursor.now) (g.C.Cursor.asked c.args.cursor.now)
-    (g.met.C.Cursor.in_turn c.args.cursor.now) (g.S.Step.Has c.args.step.now) c.items.invariant.far
+returns g c = fold_stopped c.items.invariant.far
