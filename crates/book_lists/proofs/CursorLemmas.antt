@@ -210,18 +210,18 @@ module _ {I X S : Type 0} {view : I → X} {all : Naming → Book → Result (Li
 -- ---- what is made of them by a definition over the whole list
 
 -- the fold answers what the list of the book comes to
-pub folded : {S I X A : Type 0} {shown : I → X} {old new : Seen}
+pub folded : {S I X A : Type 0} {view : I → X} {old new : Seen}
     {all : Book → Result (List X) LedgerFault} {Has : S → List I → Type 0}
-    {result : Result S LedgerFault} (view : S → A) (sum : List X → A)
-    → ((state : S) (items : List I) → Has state items → view state ≡ sum (map shown items))
-    → Folds shown old new all Has result
-    → IsCall view old new result (λ book. no_event (shown_by sum (all book)))
-folded {result = Ok state} view sum makes it =
+    {result : Result S LedgerFault} (show : S → A) (sum : List X → A)
+    → Folds view old new all Has result
+    → ((state : S) (items : List I) → Has state items → show state ≡ sum (map view items))
+    → IsCall show old new result (λ book. no_event (shown_by sum (all book)))
+folded {result = Ok state} show sum it makes =
     read_as (λ book. refl) (λ book. refl) (record { reopen = refl; store = refl })
     (λ book said. ap (shown_by sum) said ∙ ap Ok (sym (makes state it.items it.has))) it.read
-folded {shown = shown} {result = Err fault} view sum makes it =
+folded {view = view} {result = Err fault} show sum it makes =
     read_as (λ book. refl) (λ book. refl) (fault_alike fault)
-    (λ book. fault_tells (λ state. map shown it.items) view fault (ap (shown_by sum))) it.read
+    (λ book. fault_tells (λ state. map view it.items) show fault (ap (shown_by sum))) it.read
 
 -- ---- items that the definitions see as they are
 

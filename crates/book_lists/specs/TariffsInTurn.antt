@@ -69,11 +69,11 @@ none_at (ruling ∷ later) zero none = none.0
 none_at (ruling ∷ later) (suc count) none = none_at later count none.1
 
 -- so a tariff is found by its number where tariffs stand before all others
-tariff_at : (tariffs rest : List RulingSeen) (count : ℕ) → AreTariffs tariffs → HasNoTariffs rest
+found_at : (tariffs rest : List RulingSeen) (count : ℕ) → AreTariffs tariffs → HasNoTariffs rest
     → tariff_among (slice_get (tariffs ++ rest) count) ≡ slice_get tariffs count
-tariff_at [] rest count are none = none_at rest count none
-tariff_at (tariff ∷ later) rest zero are none = are.0
-tariff_at (tariff ∷ later) rest (suc count) are none = tariff_at later rest count are.1 none
+found_at [] rest count are none = none_at rest count none
+found_at (tariff ∷ later) rest zero are none = are.0
+found_at (tariff ∷ later) rest (suc count) are none = found_at later rest count are.1 none
 
 -- they come in turn
 pub tariffs_in_turn : (naming : Naming) (book : Book) (count : ℕ) (last : Option RulingSeen)
@@ -86,7 +86,7 @@ tariffs_in_turn naming book count last known =
     let adoption = adoption_seen rulings.adopted in
     ap Ok
     (ap (λ all. tariff_among (slice_get all count)) (in_turn naming rulings)
-    ∙ tariff_at (tariffs_seen rulings.tariffs) (closes ++ (choices ++ adoption)) count
+    ∙ found_at (tariffs_seen rulings.tariffs) (closes ++ (choices ++ adoption)) count
     (are_tariffs rulings.tariffs)
     (none_append closes (choices ++ adoption) (none_in_closes 1 rulings.closes)
     (none_append choices adoption (none_in_choices naming 1 rulings.choices)

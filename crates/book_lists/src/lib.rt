@@ -20,5 +20,5 @@ pub use fault::ReportFault;
 pub use folds::{Step, fold};
 pub use output::{write_bytes, write_text};
 pub use ruling_cursors::RulingCursor;
-pub use tariff_cursors::{ListedTariff, TariffCursor};
+pub use tariff_cursors::{ListedTariff, TariffCursor, tariff_at};
 pub use written_lists::{Lines, write_list};

@@ -1,8 +1,9 @@
 //! The tariffs that came as texts, read one at a time. They come before all other rulings.
 
-ghost use Rattle.std.specs.Prelude.{◌≡◌, IfSome, option_map};
+ghost use Rattle.std.specs.Prelude.{◌≡◌, IfOk, IfSome, option_map};
 ghost use Rattle.book_model.specs.Words.{IsDay, ShowsDays, ruling_shown};
-ghost use Rattle.book_lists.specs.TariffsInTurn.{tariff_among, tariff_shown};
+ghost use Rattle.book_core.specs.Calls.{IsCall};
+ghost use Rattle.book_lists.specs.TariffsInTurn.{tariff_among, tariff_outcome, tariff_shown};
 
 use crate::cursors::Cursor;
 use book_core::{Ledger, LedgerFault, ListedRuling};
@@ -26,6 +27,19 @@ fn tariff_in(ruling: Option<ListedRuling>) -> Option<ListedTariff>
         ListedRuling::Tariff { day, text } => Some(ListedTariff { day, text }),
         _ => None,
     }
+}
+
+/// The tariff of a number, from 0, in the order of their first days; `None` where there are no more.
+pub fn tariff_at<L: Ledger>(
+    ledger: &mut L,
+    number: u64,
+) -> Result<Option<ListedTariff>, LedgerFault>
+    ensures tariff { IsCall (option_map tariff_shown) (L.seen ledger.old) (L.seen ledger.new) result
+        (tariff_outcome (L.seen ledger.old).naming number) }
+    ensures day { IfOk result (λ found. IfSome found (λ tariff. IsDay tariff.day)) }
+{
+    let ruling = ledger.ruling(number)?;
+    Ok(tariff_in(ruling))
 }
 
 /// The tariffs of the books that came as texts, in the order of their first days.
@@ -60,8 +74,7 @@ impl<L: Ledger> Cursor<L> for TariffCursor {
             result (tariff_outcome (L.seen ledger.old).naming count) }
         ensures sound { IfOk result (λ found. IfSome found (λ tariff. IsDay tariff.day)) }
     {
-        let ruling = ledger.ruling(count)?;
-        Ok(tariff_in(ruling))
+        tariff_at(ledger, count)
     }
 
     ghost in_turn = { λ cursor naming book count last. tariffs_in_turn naming book count last };

@@ -119,22 +119,6 @@ fn counted_part(
     part_of(alloc, form, number + 1, dispute)
 }
 
-/// What stands below so many disputes, where so many were counted: nothing. Only a ledger that lies
-/// has fewer.
-fn end_of(
-    alloc: Global,
-    form: DisputeForm,
-    count: u64,
-    number: u64,
-) -> Result<Vec<u8>, AllocError>
-    ensures { IfOk result (λ end. end.items ≡ spec.missing_lines form count number) }
-{
-    if number < count {
-        return Err(AllocError);
-    }
-    Ok(Vec::new(alloc))
-}
-
 /// How disputes are shown, of which so many were counted.
 #[derive(Drop)]
 struct DisputeLines {
@@ -191,8 +175,14 @@ impl Lines<Dispute> for DisputeLines {
         counted_part(alloc, self.form, self.count, number, dispute)
     }
 
-    fn end(&self, alloc: Global, number: &u64) -> Result<Vec<u8>, AllocError> {
-        end_of(alloc, self.form, self.count, *number)
+    fn end(&self, alloc: Global, written: &u64) -> Result<Vec<u8>, AllocError> {
+        let number = *written;
+        let count = self.count;
+        if number < count {
+            // Only a ledger that lies has fewer.
+            return Err(AllocError);
+        }
+        Ok(Vec::new(alloc))
     }
 
     ghost some = { λ lines. some_above_disputes lines.form lines.count };

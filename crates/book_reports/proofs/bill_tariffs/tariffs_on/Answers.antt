@@ -7,7 +7,7 @@ use Rattle.book_reports.proofs.bill_tariffs.tariffs_on.Goals as goal
 pub returns-clause-tariffs : goal.returns-clause-tariffs
 returns-clause-tariffs g c =
     folded tariffs_shown (λ tariffs. tariffs_billed (kept_of c.args.days tariffs))
-    (λ kept tariffs has. sym (kept_shown has)) c.fold.ensures
+    c.fold.ensures (λ kept tariffs has. sym (kept_shown has))
 
 pub returns-clause-days : goal.returns-clause-days
 returns-clause-days g c = kept_dated c.fold.ensures.has

@@ -6,5 +6,5 @@ use Rattle.book_reports.proofs.streamed_disputes.count_disputes.Goals as goal
 
 pub returns : goal.returns
 returns g c =
-    folded (λ (count : ℕ). count) length
-    (λ count disputes is. is ∙ sym (length-map disputes dispute_shown)) c.fold.ensures
+    folded (λ (count : ℕ). count) length c.fold.ensures
+    (λ count disputes is. is ∙ sym (length-map disputes dispute_shown))
