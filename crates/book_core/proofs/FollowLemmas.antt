@@ -1,7 +1,7 @@
 -- Work on books that are those of a history continues it.
 use Rattle.std.proofs.Common.{◌≡◌, ◌∙◌, ℕ, Bool, true, false, List, [], ◌++◌, refl, sym, ap, subst}
 use Rattle.std.proofs.Common.{Result, Ok, Err, ◌⊎◌, inl, inr, append_assoc, eqb-true, ◌==◌}
-use Rattle.std.proofs.Common.{if◌then◌else◌, IfSome, Option, Some, None}
+use Rattle.std.proofs.Common.{if◌then◌else◌, IfSome, Option, Some, None, ◌∷◌}
 use Rattle.book_model.specs.declared.answer.Accepted.{Accepted}
 use Rattle.book_model.specs.declared.answer.Accepted.TheVariants.{Kept, Known, Unpriced}
 use Rattle.book_model.specs.declared.answer.Ruled.{Ruled}
