@@ -1,20 +1,21 @@
 -- Work on books that are those of a history continues it.
 use Rattle.std.proofs.Common.{◌≡◌, ◌∙◌, ℕ, Bool, true, false, List, [], ◌++◌, refl, sym, ap, subst}
-use Rattle.std.proofs.Common.{Result, Ok, Err, ◌⊎◌, inl, inr, append_assoc, eqb-true, ℤ, ◌==◌}
+use Rattle.std.proofs.Common.{Result, Ok, Err, ◌⊎◌, inl, inr, append_assoc, eqb-true, ◌==◌}
 use Rattle.std.proofs.Common.{if◌then◌else◌, IfSome, Option, Some, None}
 use Rattle.book_model.specs.declared.answer.Accepted.{Accepted}
 use Rattle.book_model.specs.declared.answer.Accepted.TheVariants.{Kept, Known, Unpriced}
 use Rattle.book_model.specs.declared.answer.Ruled.{Ruled}
 use Rattle.book_model.specs.declared.answer.Ruled.TheVariants.{Done, Already}
+use Rattle.book_model.specs.MadeByCalls.{AreMadeOf}
 use Rattle.book_model.specs.declared.fault.LedgerFault.{LedgerFault}
 use Rattle.book_model.specs.declared.fault.LedgerFault.TheVariants.{Memory, Store, Reopen, OldRule}
 use Rattle.book_model.specs.Words.{Terms, terms_in, Naming, Book, new_book, Event, PeriodClosed}
 use Rattle.book_model.specs.Words.{RulingGiven, SecondRuleAdopted, after_all, accept_answer}
 use Rattle.book_model.specs.Words.{tariff_answer, close_answer, Outcome, accept_event, if_done}
-use Rattle.book_model.specs.Words.{ruled_as, tariff_outcome, close_outcome, book_after, book_of}
-use Rattle.book_model.specs.Words.{IsAnswered, IsMadeByCalls, choose_answer, choose_outcome}
-use Rattle.book_model.specs.Words.{record_named, adopt_answer, adopt_outcome, rule_by, second_rule}
-use Rattle.book_model.specs.Words.{TariffFault}
+use Rattle.book_model.specs.Words.{ruled_as, rule_outcome, book_after, book_of, IsAnswered}
+use Rattle.book_model.specs.Words.{IsMadeByCalls, choose_answer, record_named, adopt_answer}
+use Rattle.book_model.specs.Words.{rule_by, second_rule, TariffFault, RulingAsked, TariffAsked}
+use Rattle.book_model.specs.Words.{CloseAsked, ChoiceAsked, AdoptionAsked}
 use Rattle.book_model.proofs.Lemmas.{books_follow_history, closed_open}
 use Rattle.book_core.specs.Words.{Seen, Transition, NoEvent, Then, IsTransition, Makes, Calls}
 use Rattle.book_core.specs.Words.{listed, MakesAnswered}
@@ -25,8 +26,30 @@ use Rattle.book_core.proofs.TransitionLemmas.{after_all-append}
 
 -- work without an event makes none
 pub none_answered : (naming : Naming) → MakesAnswered naming NoEvent
-none_answered naming = λ history was events is none answered.
-    subst (λ events. IsMadeByCalls naming (events ++ history)) (sym none.none) answered
+none_answered naming = λ book was events is none.
+    subst (AreMadeOf naming book) (sym none.none) tt
+
+-- what calls made of a book, and then of what that left, they made of the book
+pub made_more : (naming : Naming) (late early : List Event) (book : Book)
+    → AreMadeOf naming (after_all early book) late → AreMadeOf naming book early
+    → AreMadeOf naming book (late ++ early)
+made_more naming [] early book later first = first
+made_more naming (event ∷ late) early book later first = (
+  subst (λ (left : Book). IsAnswered naming event left) (sym (after_all-append late early book))
+      later.0,
+  made_more naming late early book later.1 first,
+)
+
+-- and so a history that they made goes on
+pub history_goes_on : (naming : Naming) (events history : List Event)
+    → AreMadeOf naming (book_after history) events → IsMadeByCalls naming history
+    → IsMadeByCalls naming (events ++ history)
+history_goes_on naming [] history made answered = answered
+history_goes_on naming (event ∷ older) history made answered = (
+  subst (λ (left : Book). IsAnswered naming event left)
+      (sym (after_all-append older history new_book)) made.0,
+  history_goes_on naming older history made.1 answered,
+)
 
 -- the book after events is that of the history with them
 pub after_all-book_of : (events history : List Event)
@@ -46,25 +69,21 @@ follows old new Made answers work honest books history of book stands =
     record {
       events = come.events;
       made = made;
-      answered = answers history old.must_reopen come.events new.must_reopen
+      answered = history_goes_on old.naming come.events history
+          (answers (book_after history) old.must_reopen come.events new.must_reopen
           (subst (λ before. Made old.must_reopen before come.events new.must_reopen)
-          (sym (books_follow_history history)) made);
+          (sym (books_follow_history history)) made));
       is = come.leads ∙ ap (after_all come.events) was ∙ after_all-book_of come.events history;
     }
 
 -- work, and then other work
 pub then_answered : (naming : Naming) (First Next : Transition) → MakesAnswered naming First
     → MakesAnswered naming Next → MakesAnswered naming (Then First Next)
-then_answered naming First Next first next history was events is both answered =
-    let early : IsMadeByCalls naming (both.early ++ history) =
-    first history was both.early both.between both.first answered in
-    let late : IsMadeByCalls naming (both.late ++ (both.early ++ history)) =
-    next (both.early ++ history) both.between both.late is
-    (subst (λ middle. Next both.between middle both.late is)
-    (sym (after_all-append both.early history new_book)) both.next) early in
-    subst (IsMadeByCalls naming)
-    (sym (append_assoc both.late both.early history)
-    ∙ ap (λ events. events ++ history) (sym both.all)) late
+then_answered naming First Next first next book was events is both =
+    subst (AreMadeOf naming book) (sym both.all)
+    (made_more naming both.late both.early book
+    (next (after_all both.early book) both.between both.late is both.next)
+    (first book was both.early both.between both.first))
 
 -- a call makes the event of its outcome, or none
 pub called_events : {V A : Type 0} (view : V → A) (outcome : Outcome A)
@@ -79,37 +98,31 @@ called_events view outcome (Err fault) events is = inl is.1
 -- a call that has its outcome's event answered
 pub calls_answered : {V A : Type 0} (naming : Naming) (view : V → A) (outcome : Book → Outcome A)
     (result : Result V LedgerFault)
-    → ((history : List Event) → IsMadeByCalls naming history
-    → IsMadeByCalls naming (listed (outcome (book_after history)).event ++ history))
+    → ((book : Book) → AreMadeOf naming book (listed (outcome book).event))
     → MakesAnswered naming (Calls view outcome result)
-calls_answered naming view outcome result answers history was events is called answered =
-    elim (called_events view (outcome (book_after history)) result events called.makes) [
-      | inl none ↦ subst (λ events. IsMadeByCalls naming (events ++ history)) (sym none) answered
-      | inr all ↦
-          subst (λ events. IsMadeByCalls naming (events ++ history)) (sym all)
-          (answers history answered)
+calls_answered naming view outcome result answers book was events is called =
+    elim (called_events view (outcome book) result events called.makes) [
+      | inl none ↦ subst (AreMadeOf naming book) (sym none) tt
+      | inr all ↦ subst (AreMadeOf naming book) (sym all) (answers book)
     ]
 
 -- the event of the answer to a record
-pub accept_event-answered : (naming : Naming) (bytes : List ℕ) (history : List Event)
-    (answer : Result Accepted LedgerFault)
-    → accept_answer naming (book_after history) bytes ≡ answer → IsMadeByCalls naming history
-    → IsMadeByCalls naming (listed (accept_event bytes answer) ++ history)
-accept_event-answered naming bytes history (Ok Kept) is answered = (is, answered)
-accept_event-answered naming bytes history (Ok Known) is answered = answered
-accept_event-answered naming bytes history (Ok Unpriced) is answered = answered
-accept_event-answered naming bytes history (Err fault) is answered = answered
+pub accept_event-answered : (naming : Naming) (bytes : List ℕ) (book : Book)
+    (answer : Result Accepted LedgerFault) → accept_answer naming book bytes ≡ answer
+    → AreMadeOf naming book (listed (accept_event bytes answer))
+accept_event-answered naming bytes book (Ok Kept) is = (is, tt)
+accept_event-answered naming bytes book (Ok Known) is = tt
+accept_event-answered naming bytes book (Ok Unpriced) is = tt
+accept_event-answered naming bytes book (Err fault) is = tt
 
 -- the event of a ruling is answered, where what was submitted is answered if it is done
-if_done-answered : (naming : Naming) (history : List Event) (submitted : Option Event)
+if_done-answered : (naming : Naming) (book : Book) (submitted : Option Event)
     (answer : Result Ruled LedgerFault)
-    → (answer ≡ Ok Done
-    → IfSome submitted (λ event. IsAnswered naming event (book_after history)))
-    → IsMadeByCalls naming history
-    → IsMadeByCalls naming (listed (if_done submitted answer) ++ history)
-if_done-answered naming history None (Ok Done) done answered = answered
-if_done-answered naming history (Some event) (Ok Done) done answered = (done refl, answered)
-if_done-answered naming history submitted answer done answered = answered
+    → (answer ≡ Ok Done → IfSome submitted (λ event. IsAnswered naming event book))
+    → AreMadeOf naming book (listed (if_done submitted answer))
+if_done-answered naming book None (Ok Done) done = tt
+if_done-answered naming book (Some event) (Ok Done) done = (done refl, tt)
+if_done-answered naming book submitted answer done = tt
 
 rulings_answered : {V : Type 0} (naming : Naming) (view : V → Ruled)
     (submitted : Book → Option Event) (answer : Book → Result Ruled LedgerFault)
@@ -119,9 +132,7 @@ rulings_answered : {V : Type 0} (naming : Naming) (view : V → Ruled)
     → MakesAnswered naming (Calls view (λ book. ruled_as (submitted book) (answer book)) result)
 rulings_answered naming view submitted answer result done =
     calls_answered naming view (λ book. ruled_as (submitted book) (answer book)) result
-    (λ history.
-    let book : Book = book_after history in
-    if_done-answered naming history (submitted book) (answer book) (done book))
+    (λ book. if_done-answered naming book (submitted book) (answer book) (done book))
 
 -- a tariff that a text says
 tariff_done : (naming : Naming) (text : List ℕ) (said : Result Terms TariffFault) (book : Book)
@@ -129,25 +140,6 @@ tariff_done : (naming : Naming) (text : List ℕ) (said : Result Terms TariffFau
     → IfSome (said_by text said) (λ event. IsAnswered naming event book)
 tariff_done naming text (Ok terms) book done = done
 tariff_done naming text (Err fault) book done = tt
-
--- a tariff that is submitted
-pub tariff_answered : {V : Type 0} (naming : Naming) (view : V → Ruled) (text : List ℕ)
-    (result : Result V LedgerFault)
-    → MakesAnswered naming (Calls view (tariff_outcome text) result)
-tariff_answered naming view text result =
-    rulings_answered naming view (λ book. said_by text (terms_in text))
-    (λ book. tariff_answer book text (terms_in text)) result
-    (tariff_done naming text (terms_in text))
-
--- a close
-pub close_answered : {V : Type 0} (naming : Naming) (view : V → Ruled) (number : ℕ) (day : ℤ)
-    (result : Result V LedgerFault)
-    → MakesAnswered naming (Calls view (close_outcome number day) result)
-close_answered naming view number day result =
-    rulings_answered naming view (λ book. Some (PeriodClosed day))
-    (λ book. close_answer book.rulings number day) result (λ book done.
-    subst (λ number. close_answer book.rulings number day ≡ Ok Done)
-    (closed_open book number day done) done)
 
 -- the choice of a record that is meant
 choice_done : (naming : Naming) (name : List ℕ) (book : Book) (meant : Option (List ℕ))
@@ -159,15 +151,6 @@ choice_done naming name book (Some bytes) found done =
       subst (λ name. choose_answer naming book name ≡ Ok Done) named done,
       subst (λ name. record_named naming book.held name ≡ Some bytes) named found,
     )
-
--- a choice
-pub choose_answered : {V : Type 0} (naming : Naming) (view : V → Ruled) (name : List ℕ)
-    (result : Result V LedgerFault)
-    → MakesAnswered naming (Calls view (choose_outcome naming name) result)
-choose_answered naming view name result =
-    rulings_answered naming view (λ book. meant_by (record_named naming book.held name))
-    (λ book. choose_answer naming book name) result
-    (λ book. choice_done naming name book (record_named naming book.held name) refl)
 
 -- a rule that is adopted is the second one
 second_done : (rule : ℕ) (book : Book) → adopt_answer book.rulings rule ≡ Ok Done
@@ -183,10 +166,23 @@ second_done rule book done =
     by_tests false true is done = eqb-true rule second_rule is
     by_tests false false is done = cc
 
--- an adoption
-pub adopt_answered : {V : Type 0} (naming : Naming) (view : V → Ruled) (rule : ℕ)
+-- a ruling makes only an event that the books answered
+pub ruling_answered : {V : Type 0} (naming : Naming) (view : V → Ruled) (ruling : RulingAsked)
     (result : Result V LedgerFault)
-    → MakesAnswered naming (Calls view (adopt_outcome rule) result)
-adopt_answered naming view rule result =
+    → MakesAnswered naming (Calls view (rule_outcome naming ruling) result)
+ruling_answered naming view (TariffAsked text) result =
+    rulings_answered naming view (λ book. said_by text (terms_in text))
+    (λ book. tariff_answer book text (terms_in text)) result
+    (tariff_done naming text (terms_in text))
+ruling_answered naming view (CloseAsked number day) result =
+    rulings_answered naming view (λ book. Some (PeriodClosed day))
+    (λ book. close_answer book.rulings number day) result (λ book done.
+    subst (λ number. close_answer book.rulings number day ≡ Ok Done)
+    (closed_open book number day done) done)
+ruling_answered naming view (ChoiceAsked name) result =
+    rulings_answered naming view (λ book. meant_by (record_named naming book.held name))
+    (λ book. choose_answer naming book name) result
+    (λ book. choice_done naming name book (record_named naming book.held name) refl)
+ruling_answered naming view (AdoptionAsked rule) result =
     rulings_answered naming view (λ book. Some (RulingGiven SecondRuleAdopted))
     (λ book. adopt_answer book.rulings rule) result (second_done rule)

@@ -12,7 +12,9 @@ use Rattle.book_model.specs.Words.{clashes, close_answer, costs_under, has, has_
 use Rattle.book_model.specs.Words.{is_closed, is_early, is_effective, is_full, is_later}
 use Rattle.book_model.specs.Words.{is_too_dear, is_unrivalled, last_period, most_choices, most_cost}
 use Rattle.book_model.specs.Words.{open_by, price_in, rule_by, second_rule, tariff_answer}
-use Rattle.book_model.specs.Words.{what_if_answer, with_tariff}
+use Rattle.book_model.specs.Words.{what_if_answer, with_tariff, AdoptionAsked, ChoiceAsked}
+use Rattle.book_model.specs.Words.{CloseAsked, RulingAsked, TariffAsked, record_named, rule_outcome}
+use Rattle.book_model.specs.Words.{terms_in}
 use Rattle.book_core.specs.Calls.{LeavesOpen, is_reopen, is_store}
 
 -- an answer leaves books open
@@ -64,7 +66,7 @@ terms_open rulings dear text terms =
     (opens_if (not (is_later terms.effective rulings)) (opens refl refl)
     (opens_if dear (opens refl refl) (opens refl refl))))
 
-pub tariff_open : (book : Book) (text : List ℕ) (said : Result Terms TariffFault)
+tariff_open : (book : Book) (text : List ℕ) (said : Result Terms TariffFault)
     → LeavesOpen (tariff_answer book text said)
 tariff_open book text (Err fault) = opens refl refl
 tariff_open book text (Ok terms) =
@@ -81,7 +83,7 @@ close_open rulings number day =
     (opens_if (number == last_period) (opens refl refl) (opens refl refl))))
 
 -- a choice
-pub choose_open : (book : Book) (meant : Option (List ℕ)) → LeavesOpen (chosen_answer book meant)
+choose_open : (book : Book) (meant : Option (List ℕ)) → LeavesOpen (chosen_answer book meant)
 choose_open book None = opens refl refl
 choose_open book (Some bytes) =
     opens_if (is_unrivalled book.rulings book.held bytes) (opens refl refl)
@@ -90,7 +92,16 @@ choose_open book (Some bytes) =
     (opens refl refl)))
 
 -- a rule of identity
-pub adopt_open : (rulings : Rulings) (rule : ℕ) → LeavesOpen (adopt_answer rulings rule)
+adopt_open : (rulings : Rulings) (rule : ℕ) → LeavesOpen (adopt_answer rulings rule)
 adopt_open rulings rule =
     opens_if (rule == rule_by rulings) (opens refl refl)
     (opens_if (rule == second_rule) (opens refl refl) (opens refl refl))
+
+-- any of these rulings
+pub ruling_open : (naming : Naming) (book : Book) (ruling : RulingAsked)
+    → LeavesOpen (rule_outcome naming ruling book).answer
+ruling_open naming book (TariffAsked text) = tariff_open book text (terms_in text)
+ruling_open naming book (CloseAsked number day) = close_open book.rulings number day
+ruling_open naming book (ChoiceAsked name) =
+    choose_open book (record_named naming book.held name)
+ruling_open naming book (AdoptionAsked rule) = adopt_open book.rulings rule

@@ -1,17 +1,21 @@
 -- Records that are submitted together.
 use Rattle.std.proofs.Common.{◌≡◌, ◌∙◌, ◌<◌, ℕ, Bool, true, false, List, [], ◌∷◌, ◌++◌, length}
 use Rattle.std.proofs.Common.{refl, sym, ap, subst, Result, Ok, Err, ◌⊎◌, inl, inr, Vec, Global}
-use Rattle.std.proofs.Common.{arith, drop, get_or, take, ◌||◌, true≢false, take-append-drop}
+use Rattle.std.proofs.Common.{arith, drop, get_or, take, ◌||◌, true≢false, take-append-drop, All}
 use Rattle.std.proofs.lemmas.List.{map-append}
+use Rattle.std.proofs.lemmas.List.Elements.{All-cons, All-nil}
 use Rattle.book_model.specs.declared.answer.Accepted.{Accepted}
 use Rattle.book_model.specs.declared.fault.LedgerFault.{LedgerFault}
-use Rattle.book_model.specs.declared.fault.LedgerFault.TheVariants.{Store}
+use Rattle.book_model.specs.declared.fault.LedgerFault.TheVariants.{Memory, Reopen, Store}
 use Rattle.book_model.specs.Words.{Book, Event, Naming, accept_outcome, accept_answer, accept_event}
-use Rattle.book_model.specs.Words.{after_all}
-use Rattle.book_core.specs.Calls.{Calls, listed}
+use Rattle.book_model.specs.Words.{IsUsageRecord, after_all}
+use Rattle.book_core.specs.Calls.{Calls, IsCall, Reopens, listed}
+use Rattle.book_core.specs.Ledgers.{Seen}
 use Rattle.book_core.specs.Submissions.{Accepts, KeepsFirst, Takes, first_of, records_in}
-use Rattle.book_core.proofs.ThenLemmas.{nothing_more}
+use Rattle.book_core.specs.Transition.{IsTransition}
+use Rattle.book_core.proofs.ThenLemmas.{nothing_more, then_nothing}
 use Rattle.book_core.proofs.TransitionLemmas.{Implies, wanting, failed, to_reopen, refused, fails}
+use Rattle.book_core.proofs.TransitionLemmas.{work_as}
 
 -- ---- the first of them
 
@@ -148,3 +152,94 @@ takes_part naming records count part result is_part some was before events is ta
     ∙ ap records_in (take-append-drop count records))
     (takes_further naming (records_in part) (records_in (drop count records)) result
     (some_in part some) was before events is takes)
+
+-- ---- a change that is handed one record alone
+
+-- there is one,
+pub alone_some : (records : List (Vec ℕ Global)) (bytes : List ℕ)
+    → records_in records ≡ bytes ∷ [] → 0 < length records
+alone_some [] bytes is = absurd (cc is)
+alone_some (one ∷ rest) bytes is = omega arith
+
+-- and that is it
+pub alone_usage : (records : List (Vec ℕ Global)) (bytes : List ℕ)
+    → records_in records ≡ bytes ∷ [] → IsUsageRecord bytes
+    → All (λ (one : Vec ℕ Global). IsUsageRecord one.items) records
+alone_usage [] bytes is usage = absurd (cc is)
+alone_usage (one ∷ []) bytes is usage =
+    let IsOne : Vec ℕ Global → Type 0 = λ one. IsUsageRecord one.items in
+    All-cons IsOne one [] (subst IsUsageRecord (sym (ap first_of is)) usage) (All-nil IsOne)
+alone_usage (one ∷ other ∷ rest) bytes is usage = absurd (cc is)
+
+-- what was answered to it was answered in a call of its own,
+accepts_alone : (naming : Naming) (bytes : List ℕ) (answer : Accepted) (later : List Accepted)
+    → Implies (Accepts naming (bytes ∷ []) (answer ∷ later))
+    (Calls (λ (accepted : Accepted). accepted) (accept_outcome naming bytes) (Ok answer))
+accepts_alone naming bytes answer [] was before events is accepts =
+    then_nothing
+    (Calls (λ (accepted : Accepted). accepted) (accept_outcome naming bytes) (Ok answer)) was before
+    events is accepts
+accepts_alone naming bytes answer (other ∷ later) was before events is accepts =
+    absurd accepts.next
+
+-- where the store failed, its event was made, or none,
+kept_alone : (naming : Naming) (bytes : List ℕ) (answers : List Accepted) (before : Book)
+    (events : List Event) → Accepts naming (bytes ∷ []) answers false before events false
+    → (events ≡ []) ⊎ (events ≡ listed (accept_outcome naming bytes before).event)
+kept_alone naming bytes [] before events accepts = inl accepts.none
+kept_alone naming bytes (answer ∷ later) before events accepts =
+    let called = accepts_alone naming bytes answer later false before events false accepts in
+    inr called.makes.1
+
+-- and what refused it refused that call
+refused_alone : (naming : Naming) (bytes : List ℕ) (fault : LedgerFault)
+    → Implies (Takes naming (bytes ∷ []) (Err fault))
+    (Calls (λ (accepted : Accepted). accepted) (accept_outcome naming bytes) (Err fault))
+refused_alone naming bytes Store was before events is keeps = record {
+  makes = kept_alone naming bytes keeps.answers before events keeps.kept;
+  reopens = record {
+    reopen = sym keeps.was_open;
+    store = keeps.closed ∙ ap (λ was. was || true) (sym keeps.was_open);
+  };
+}
+refused_alone naming bytes fault was before events is takes = takes
+
+-- a fault says the same of any call about whether books are to be reopened
+pub reopens_as : (V W : Type 0) (fault : LedgerFault) (was is : Bool)
+    → Reopens {V = V} (Err fault) was is → Reopens {V = W} (Err fault) was is
+reopens_as V W Memory was is reopens =
+    record { reopen = reopens.reopen; store = reopens.store }
+reopens_as V W Store was is reopens =
+    record { reopen = reopens.reopen; store = reopens.store }
+reopens_as V W Reopen was is reopens =
+    record { reopen = reopens.reopen; store = reopens.store }
+reopens_as V W fault was is reopens =
+    record { reopen = reopens.reopen; store = reopens.store }
+
+-- So a change that is handed one record alone is a call of its own.
+module _ {old new : Seen} (naming : Naming) (bytes : List ℕ) where
+  pub called_alone : (answers : Vec Accepted Global) (answer : Accepted) (later : List Accepted)
+      → answers.items ≡ answer ∷ later
+      → IsTransition old new (Takes naming (bytes ∷ []) (Ok answers))
+      → Reopens {V = Vec Accepted Global} (Ok answers) old.must_reopen new.must_reopen
+      → IsCall (λ (accepted : Accepted). accepted) old new (Ok answer)
+      (accept_outcome naming bytes)
+  called_alone answers answer later first work reopens = record {
+    work = work_as old new (Accepts naming (bytes ∷ []) (answer ∷ later))
+        (Calls (λ (accepted : Accepted). accepted) (accept_outcome naming bytes) (Ok answer))
+        (accepts_alone naming bytes answer later)
+        (subst (λ answers. IsTransition old new (Accepts naming (bytes ∷ []) answers)) first work);
+    reopens = record { reopen = reopens.reopen; store = reopens.store };
+  }
+
+  pub refusal_alone : (fault : LedgerFault)
+      → IsTransition old new (Takes naming (bytes ∷ []) (Err fault))
+      → Reopens {V = Vec Accepted Global} (Err fault) old.must_reopen new.must_reopen
+      → IsCall (λ (accepted : Accepted). accepted) old new (Err fault)
+      (accept_outcome naming bytes)
+  refusal_alone fault work reopens = record {
+    work = work_as old new (Takes naming (bytes ∷ []) (Err fault))
+        (Calls (λ (accepted : Accepted). accepted) (accept_outcome naming bytes) (Err fault))
+        (refused_alone naming bytes fault) work;
+    reopens = reopens_as (Vec Accepted Global) Accepted fault old.must_reopen new.must_reopen reopens;
+  }

@@ -1,6 +1,6 @@
 -- Work on a ledger with the books of a history.
 use Rattle.std.specs.Prelude.{◌≡◌, Bool, List, ◌++◌}
-use Rattle.book_model.specs.Words.{Book, Event, book_after, book_of, IsMadeByCalls, Naming}
+use Rattle.book_model.specs.Words.{AreMadeOf, Book, Event, book_of, IsMadeByCalls, Naming}
 use Rattle.book_core.specs.Ledgers.{Seen, MayHave}
 use Rattle.book_core.specs.Transition.{Transition}
 
@@ -17,12 +17,11 @@ pub record Continues (history : List Event) (old new : Seen) (Made : Transition)
   pub answered : IsMadeByCalls old.naming history → IsMadeByCalls old.naming (events ++ history)
   pub is : book ≡ book_of (events ++ history)
 
--- such work makes answered events of the book of any history that calls made
+-- such work makes of any book only what calls make of it
 abbrev pub MakesAnswered : Naming → Transition → Type 0
 MakesAnswered naming Made =
-    (history : List Event) (was : Bool) (events : List Event) (is : Bool)
-    → Made was (book_after history) events is
-    → IsMadeByCalls naming history → IsMadeByCalls naming (events ++ history)
+    (book : Book) (was : Bool) (events : List Event) (is : Bool) → Made was book events is
+    → AreMadeOf naming book events
 
 -- Where the books were those of a history, they are those of that history with the events of the
 -- work more, looked at as a whole.

@@ -4,6 +4,7 @@ ghost use Rattle.book_model.specs.Words.{dispute_shown, accept_outcome, close_ou
 ghost use Rattle.book_model.specs.Words.{tariff_outcome, adjustments_outcome, charges_outcome};
 ghost use Rattle.book_model.specs.Words.{choose_outcome, disputes_outcome, periods_outcome};
 ghost use Rattle.book_model.specs.Words.{adopt_outcome, ruling_outcome, ruling_shown, ShowsDays};
+ghost use Rattle.book_model.specs.Words.{HasDay, rule_outcome, ruling_asked};
 ghost use Rattle.book_model.specs.Words.{ShowsDispute, dispute_outcome, what_if_outcome};
 ghost use Rattle.book_model.specs.Words.{ShowsDetail, next_detail_outcome};
 ghost use Rattle.book_model.specs.Words.{IsTrail, trail_outcome, trail_shown};
@@ -13,7 +14,7 @@ ghost use Rattle.book_core.specs.Submissions.{Takes, records_in};
 ghost use Rattle.book_core.specs.Transition.{IsTransition};
 
 use book_model::{
-    Accepted, ChargeRow, Detail, Dispute, LedgerFault, Line, ListedRuling, Ruled, Trail,
+    Accepted, ChargeRow, Detail, Dispute, LedgerFault, Line, ListedRuling, Ruled, Ruling, Trail,
 };
 use smf_text::Name;
 use std::alloc::Global;
@@ -27,13 +28,22 @@ pub trait Ledger {
     /// What is seen of the books, and what a stop leaves of them.
     ghost seen: { Self → Seen };
 
+    /// Makes a ruling. The calls below say of each what it does, and what refuses it.
+    fn rule(&mut self, ruling: Ruling<'_>) -> Result<Ruled, LedgerFault>
+        requires { HasDay (ruling_asked ruling) }
+        ensures { IsCall (λ ruled. ruled) (seen self.old) (seen self.new) result
+            (rule_outcome (seen self.old).naming (ruling_asked ruling.entry)) };
+
     /// Submits a tariff file. Its tariff is in force from its first day on, where that day is
     /// later than the last close and every other tariff's; the records that are held and dated on
     /// it or after it are priced anew, where the books have room for what all of them cost then.
     /// Refused: `TariffRefused`, `TariffExists`, `TariffDate`, `Full`.
     fn tariff(&mut self, text: &str) -> Result<Ruled, LedgerFault>
         ensures { IsCall (λ ruled. ruled) (seen self.old) (seen self.new) result
-            (tariff_outcome text.now) };
+            (tariff_outcome text.now) }
+    {
+        self.rule(Ruling::Tariff(text))
+    }
 
     /// Closes the open period, which is to be this one, through a day later than the last close.
     /// The day is counted from 1970-01-01. Refused: `WrongPeriod` with the open one, `NotLater`,
@@ -41,14 +51,20 @@ pub trait Ledger {
     fn close(&mut self, period: u16, through: i32) -> Result<Ruled, LedgerFault>
         requires { IsDay through }
         ensures { IsCall (λ ruled. ruled) (seen self.old) (seen self.new) result
-            (close_outcome period through) };
+            (close_outcome period through) }
+    {
+        self.rule(Ruling::Close { period, through })
+    }
 
     /// Chooses a record that is held, by its name, among those of its identity: it counts as
     /// undisputed from now on, the others stay uncharged. The choice that came last counts.
     /// Refused: `NoSuchRecord`, `NotDisputed`, and `Full` where there is no room for a choice.
     fn choose(&mut self, name: [u8; 32]) -> Result<Ruled, LedgerFault>
         ensures { IsCall (λ ruled. ruled) (seen self.old) (seen self.new) result
-            (choose_outcome (seen self.old).naming name) };
+            (choose_outcome (seen self.old).naming name) }
+    {
+        self.rule(Ruling::Choose(name))
+    }
 
     /// Adopts a rule of identity, 1 or 2: by the second one two records measure the same work only
     /// where that began at the same moment. Books begin under the first rule, and adopt the second
@@ -56,7 +72,10 @@ pub trait Ledger {
     /// force, and for any number that is no rule.
     fn adopt_identity(&mut self, rule: u8) -> Result<Ruled, LedgerFault>
         ensures { IsCall (λ ruled. ruled) (seen self.old) (seen self.new) result
-            (adopt_outcome rule) };
+            (adopt_outcome rule) }
+    {
+        self.rule(Ruling::Adopt(rule))
+    }
 
     /// Submits a record, which is held from now on where it is new, a tariff is in force on its
     /// day, and there is room for it. Refused: `DigestClash`, `Full`.

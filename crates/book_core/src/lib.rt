@@ -16,7 +16,7 @@ mod rulings;
 
 pub use book_model::{
     Accepted, ChargeRow, Deed, Detail, Dispute, LedgerFault, Line, ListedRuling, NamedChoice,
-    Naming, RowKey, Ruled, ShaNames, Trail, Turn, Variant,
+    Naming, RowKey, Ruled, Ruling, ShaNames, Trail, Turn, Variant,
 };
 // What a ledger of another crate needs to keep the same books.
 pub use acceptance::{is_full, name_of};

@@ -5,13 +5,14 @@ use Rattle.std.specs.Str.{is_utf8}
 use Rattle.httparse.specs.Grammar.{RequestHead}
 use Rattle.smf_frames.specs.declared.dump.Layout.{Layout}
 use Rattle.book_model.specs.Words.{front, Book, Event, Outcome, after_all, book_after, Naming}
-use Rattle.book_model.specs.MadeByCalls as history
+use Rattle.book_model.specs.MadeByCalls.{AreMadeOf}
 use Rattle.book_model.proofs.StepLemmas.{books_follow_history}
 use Rattle.book_model.specs.declared.fault.LedgerFault.{LedgerFault}
 use Rattle.book_core.specs.Calls.{Calls, listed}
 use Rattle.book_core.specs.Ledgers.{Seen}
 use Rattle.book_core.specs.Transition.{IsTransition, Transition}
 use Rattle.book_core.proofs.FollowLemmas.{called_events, follows, after_all-book_of}
+use Rattle.book_core.proofs.FollowLemmas.{history_goes_on}
 use Rattle.book_core.specs.Follow.{MakesAnswered}
 use Rattle.book_import.specs.declared.receipt.Receipt.{Receipt}
 use Rattle.book_import.specs.Dumps.{stop_after}
@@ -193,66 +194,61 @@ request_twice_is_once naming before bytes once twice first second between is one
     two
 
 -- events that are none are answered
-none_answered : (naming : Naming) (past events : List Event) → events ≡ []
-    → history.IsMadeByCalls naming past → history.IsMadeByCalls naming (events ++ past)
-none_answered naming past events none answered =
-    subst (λ (events : List Event). history.IsMadeByCalls naming (events ++ past)) (sym none) answered
+none_answered : (naming : Naming) (book : Book) (events : List Event) → events ≡ []
+    → AreMadeOf naming book events
+none_answered naming book events none = subst (AreMadeOf naming book) (sym none) tt
 
 body_answered : (short : Bool) (naming : Naming) (layout : Layout) (body : List ℕ) (reply : Reply)
     → MakesAnswered naming (UnlessBad short (AnswersImport naming layout body reply) reply)
-body_answered true naming layout body reply past was events is made =
-    none_answered naming past events made.none.none
-body_answered false naming layout body reply past was events is made =
-    receives_answered naming (whole_dump layout body) made.told past was events is made.made
+body_answered true naming layout body reply book was events is made =
+    none_answered naming book events made.none.none
+body_answered false naming layout body reply book was events is made =
+    receives_answered naming (whole_dump layout body) made.told book was events is made.made
 
 asked_answered : (wanted : Asked ℕ) (naming : Naming) (behind : List ℕ) (reply : Reply)
     → MakesAnswered naming (AnswersAsked naming wanted behind reply)
-asked_answered (asks.Settled due) naming behind reply past was events is made =
-    none_answered naming past events made.none.none
-asked_answered (asks.Report report kind) naming behind reply past was events is made =
-    none_answered naming past events
-    (report_none naming report kind reply was (book_after past) events is made)
-asked_answered (asks.Details wanted) naming behind reply past was events is made =
-    none_answered naming past events
-    (details_none naming wanted reply was (book_after past) events is made)
-asked_answered (asks.WhatIf what_if size) naming behind reply past was events is made =
-    none_answered naming past events
-    (what_if_body_none what_if size behind reply was (book_after past) events is made)
-asked_answered (asks.Import layout size) naming behind reply past was events is made =
-    body_answered (ltb (length behind) size) naming layout (take size behind) reply past was events
+asked_answered (asks.Settled due) naming behind reply book was events is made =
+    none_answered naming book events made.none.none
+asked_answered (asks.Report report kind) naming behind reply book was events is made =
+    none_answered naming book events (report_none naming report kind reply was book events is made)
+asked_answered (asks.Details wanted) naming behind reply book was events is made =
+    none_answered naming book events (details_none naming wanted reply was book events is made)
+asked_answered (asks.WhatIf what_if size) naming behind reply book was events is made =
+    none_answered naming book events
+    (what_if_body_none what_if size behind reply was book events is made)
+asked_answered (asks.Import layout size) naming behind reply book was events is made =
+    body_answered (ltb (length behind) size) naming layout (take size behind) reply book was events
     is made
 
-request_answered : (naming : Naming) (bytes : List ℕ) (reply : Reply)
+pub request_answered : (naming : Naming) (bytes : List ℕ) (reply : Reply)
     → MakesAnswered naming (Answers naming bytes reply)
-request_answered naming bytes reply past was events is (no_head some never refused) =
-    none_answered naming past events refused.none.none
-request_answered naming bytes reply past was events is
+request_answered naming bytes reply book was events is (no_head some never refused) =
+    none_answered naming book events refused.none.none
+request_answered naming bytes reply book was events is
     (a_head head behind stands (no_memory refused)) =
-    none_answered naming past events refused.none.none
-request_answered naming bytes reply past was events is (a_head head behind stands (done made)) =
-    asked_answered (asked head) naming behind reply past was events is made
+    none_answered naming book events refused.none.none
+request_answered naming bytes reply book was events is (a_head head behind stands (done made)) =
+    asked_answered (asked head) naming behind reply book was events is made
 
 -- so does what was read of a request, whatever bytes asked it
 pub wanted_answered : (naming : Naming) (request : RequestSeen) (reply : Reply)
     → MakesAnswered naming (AnswersRequest naming request reply)
-wanted_answered naming (Settles due) reply past was events is made =
-    none_answered naming past events made.none.none
-wanted_answered naming (WantsReport report kind) reply past was events is made =
-    none_answered naming past events
-    (report_none naming report kind reply was (book_after past) events is made)
-wanted_answered naming (WantsDetails wanted) reply past was events is made =
-    none_answered naming past events
-    (details_none naming wanted reply was (book_after past) events is made)
-wanted_answered naming (WantsWhatIf what_if body) reply past was events is made =
-    none_answered naming past events
-    (what_if_none what_if body reply was (book_after past) events is made)
-wanted_answered naming (WantsImport layout body) reply past was events is made =
-    receives_answered naming (whole_dump layout body) made.told past was events is made.made
+wanted_answered naming (Settles due) reply book was events is made =
+    none_answered naming book events made.none.none
+wanted_answered naming (WantsReport report kind) reply book was events is made =
+    none_answered naming book events (report_none naming report kind reply was book events is made)
+wanted_answered naming (WantsDetails wanted) reply book was events is made =
+    none_answered naming book events (details_none naming wanted reply was book events is made)
+wanted_answered naming (WantsWhatIf what_if body) reply book was events is made =
+    none_answered naming book events (what_if_none what_if body reply was book events is made)
+wanted_answered naming (WantsImport layout body) reply book was events is made =
+    receives_answered naming (whole_dump layout body) made.told book was events is made.made
 
 -- the law of it
 pub requests_make_history : RequestsMakeHistory
 requests_make_history naming past bytes reply was events is answered made =
-    let goes_on = request_answered naming bytes reply past was events is made answered in
+    let goes_on = history_goes_on naming events past
+    (request_answered naming bytes reply (book_after past) was events is made) answered in
     record {
       answered = goes_on;
       is = ap (after_all events) (books_follow_history past) ∙ after_all-book_of events past;
@@ -277,7 +273,7 @@ sent_done old new bytes held holds served work = record {
   work = work;
   history =
       follows old new (SendsAsRead old.naming bytes held holds served)
-      (λ past was events is made.
-      request_answered old.naming bytes made.reply past was events was made.answer.0)
+      (λ book was events is made.
+      request_answered old.naming bytes made.reply book was events was made.answer.0)
       work;
 }

@@ -23,7 +23,7 @@ use Rattle.book_model.proofs.SamePriceLemmas.{same_lines}
 use Rattle.report_texts.specs.Centres.{lines_of_centre}
 use Rattle.table_model.proofs.TrailLemmas.{named_itself}
 use Rattle.book_laws.specs.BillLaws.{BooksKeepBills, ClosedBillsStay}
-use Rattle.book_laws.specs.LaterCalls.{AreMadeOf}
+use Rattle.book_model.specs.MadeByCalls.{AreMadeOf}
 use Rattle.book_laws.proofs.Words.{or-true, NoSuchPeriod, Line, through_at, held_in, AreReadOnce}
 use Rattle.book_laws.proofs.Words.{both_lines, IsClosed}
 use Rattle.book_laws.proofs.BillLemmas.{of_period}

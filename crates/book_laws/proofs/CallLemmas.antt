@@ -2,8 +2,9 @@
 use Rattle.std.proofs.Common.{false, ℕ, List, [], ◌∷◌, ◌++◌, Result, Ok, Err, map, refl, sym, subst}
 use Rattle.std.proofs.Common.{Vec, Global, option_map}
 use Rattle.book_model.specs.declared.answer.Accepted.{Accepted}
+use Rattle.book_model.specs.MadeByCalls.{AreMadeOf}
 use Rattle.book_model.specs.declared.fault.LedgerFault.TheVariants.{Store}
-use Rattle.book_model.specs.Words.{accept_answer, IsMadeByCalls, Book, new_book, dispute_shown}
+use Rattle.book_model.specs.Words.{accept_answer, Book, new_book, dispute_shown}
 use Rattle.book_model.specs.Words.{book_after, Outcome, accept_outcome, charges_outcome}
 use Rattle.book_model.specs.Words.{adjustments_outcome, disputes_outcome, periods_outcome, Naming}
 use Rattle.book_model.specs.Words.{dispute_outcome, next_detail_outcome, ruling_outcome}
@@ -11,8 +12,7 @@ use Rattle.book_model.specs.Words.{ruling_shown, trail_outcome, trail_shown, wha
 use Rattle.book_core.specs.Words.{Calls, listed, Seen, IsOpenAt, Accepts, Takes, first_of}
 use Rattle.book_core.specs.Words.{IsTransition, MakesAnswered}
 use Rattle.book_core.proofs.FollowLemmas.{then_answered, calls_answered, none_answered}
-use Rattle.book_core.proofs.FollowLemmas.{accept_event-answered, adopt_answered, choose_answered}
-use Rattle.book_core.proofs.FollowLemmas.{close_answered, tariff_answered}
+use Rattle.book_core.proofs.FollowLemmas.{accept_event-answered, ruling_answered}
 use Rattle.book_core.proofs.TransitionLemmas.{no_work, work_then}
 use Rattle.book_reports.proofs.ReadingLemmas.{IsReading}
 use Rattle.office.specs.Laws.{IsStillOpen}
@@ -20,11 +20,12 @@ use Rattle.office.proofs.ChoiceLemmas.{choices_answered}
 use Rattle.office.proofs.LawLemmas.{asks_answered}
 use Rattle.office.proofs.LeavingLemmas.{Leaves}
 use Rattle.office.proofs.RunLemmas.{runs_answered}
-use Rattle.book_http.proofs.LawLemmas.{requests_make_history}
+use Rattle.book_core.proofs.FollowLemmas.{history_goes_on}
+use Rattle.book_http.proofs.LawLemmas.{request_answered}
 use Rattle.book_laws.specs.CallLaws.{CallsFollowHistory}
 use Rattle.book_laws.specs.Calls.{Call, Request, RunRequests, AcceptRecord, ReadCharges}
-use Rattle.book_laws.specs.Calls.{AcceptRecords, AdoptRule, ChooseEach, ChooseRecord, ClosePeriod}
-use Rattle.book_laws.specs.Calls.{HttpDetails, SubmitTariff, HttpRequest, ReadAdjustments}
+use Rattle.book_laws.specs.Calls.{AcceptRecords, ChooseEach, MakeRuling, HttpDetails, HttpRequest}
+use Rattle.book_laws.specs.Calls.{ReadAdjustments}
 use Rattle.book_laws.specs.Calls.{ReadDisputes, ReadPeriods, ReadChargesUnder, ReadDetail}
 use Rattle.book_laws.specs.Calls.{ReadDispute, ReadRuling, ReadTrail, Step, AreDone, calls_of}
 use Rattle.book_laws.specs.Calls.{ledger_after_calls, work_of, works_of}
@@ -35,9 +36,8 @@ readings_answered : {V A : Type 0} (naming : Naming) (view : V → A) (outcome :
     (result : Result V LedgerFault) → IsReading outcome
     → MakesAnswered naming (Calls view outcome result)
 readings_answered naming view outcome result none =
-    calls_answered naming view outcome result (λ history answered.
-    subst (λ event. IsMadeByCalls naming (listed event ++ history))
-    (sym (none (book_after history))) answered)
+    calls_answered naming view outcome result (λ book.
+    subst (λ event. AreMadeOf naming book (listed event)) (sym (none book)) tt)
 
 -- a record makes only an event that the books answered
 record_answered : (naming : Naming) (bytes : List ℕ) (answer : Result Accepted LedgerFault)
@@ -45,15 +45,13 @@ record_answered : (naming : Naming) (bytes : List ℕ) (answer : Result Accepted
     (Calls (λ (accepted : Accepted). accepted) (accept_outcome naming bytes) answer)
 record_answered naming bytes answer =
     calls_answered naming (λ (accepted : Accepted). accepted) (accept_outcome naming bytes) answer
-    (λ history.
-    accept_event-answered naming bytes history (accept_answer naming (book_after history) bytes)
-    refl)
+    (λ book. accept_event-answered naming bytes book (accept_answer naming book bytes) refl)
 
 -- and so do records one after another,
 accepts_answered : (naming : Naming) (records : List (List ℕ)) (answers : List Accepted)
     → MakesAnswered naming (Accepts naming records answers)
 accepts_answered naming records [] = none_answered naming
-accepts_answered naming [] (answer ∷ later) = λ history was events is never. absurd never
+accepts_answered naming [] (answer ∷ later) = λ book was events is never. absurd never
 accepts_answered naming (bytes ∷ rest) (answer ∷ later) =
     then_answered naming
     (Calls (λ (accepted : Accepted). accepted) (accept_outcome naming bytes) (Ok answer))
@@ -65,8 +63,8 @@ takes_answered : (naming : Naming) (records : List (List ℕ))
     (answers : Result (Vec Accepted Global) LedgerFault)
     → MakesAnswered naming (Takes naming records answers)
 takes_answered naming records (Ok answers) = accepts_answered naming records answers.items
-takes_answered naming records (Err Store) = λ history was events is first answered.
-    accepts_answered naming records first.answers history false events false first.kept answered
+takes_answered naming records (Err Store) = λ book was events is first.
+    accepts_answered naming records first.answers book false events false first.kept
 takes_answered naming records (Err fault) = record_answered naming (first_of records) (Err fault)
 
 -- each call makes only events that the books answered
@@ -75,19 +73,11 @@ call_answered naming (Request asked dump told) = asks_answered naming asked dump
 call_answered naming (RunRequests requests answers) = runs_answered naming requests answers
 call_answered naming (ChooseEach names answers refusal) =
     choices_answered naming names answers refusal
-call_answered naming (HttpRequest bytes reply) = λ history was events is made answered.
-    (requests_make_history naming history bytes reply was events is answered made).answered
-call_answered naming (HttpDetails bytes held holds served) = λ history was events is made answered.
-    let goes_on = requests_make_history naming history bytes made.reply was events was answered
-    made.answer.0 in
-    goes_on.answered
-call_answered naming (SubmitTariff text answer) =
-    tariff_answered naming (λ ruled. ruled) text answer
-call_answered naming (ClosePeriod period through answer) =
-    close_answered naming (λ ruled. ruled) period through answer
-call_answered naming (ChooseRecord name answer) =
-    choose_answered naming (λ ruled. ruled) name answer
-call_answered naming (AdoptRule rule answer) = adopt_answered naming (λ ruled. ruled) rule answer
+call_answered naming (HttpRequest bytes reply) = request_answered naming bytes reply
+call_answered naming (HttpDetails bytes held holds served) = λ book was events is made.
+    request_answered naming bytes made.reply book was events was made.answer.0
+call_answered naming (MakeRuling ruling answer) =
+    ruling_answered naming (λ ruled. ruled) ruling answer
 call_answered naming (AcceptRecord bytes answer) = record_answered naming bytes answer
 call_answered naming (AcceptRecords records answers) = takes_answered naming records answers
 call_answered naming (ReadCharges period answer) =
@@ -157,8 +147,9 @@ calls_follow_history seen naming start before steps answered opened done still =
     record {
       events = left.events;
       made = left.made;
-      answered = calls_are_answered naming (calls_of steps) start false left.events false left.made
-          answered;
+      answered = history_goes_on naming left.events start
+          (calls_are_answered naming (calls_of steps) (book_after start) false left.events false
+          left.made) answered;
       left = subst (λ book. IsOpenAt naming book after)
           (sym (after_all-append left.events start new_book)) left.left;
     }

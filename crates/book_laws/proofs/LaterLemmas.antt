@@ -8,7 +8,7 @@ use Rattle.book_model.specs.Words.{give, name_of, new_book, open_number}
 use Rattle.book_model.proofs.Lemmas.{calls_go_forward, sound_after, steps_stay_sound}
 use Rattle.table_model.proofs.CloseOrder.{rise_behind}
 use Rattle.book_laws.proofs.Words.{after_all-append}
-use Rattle.book_laws.specs.LaterCalls.{AreMadeOf}
+use Rattle.book_model.specs.MadeByCalls.{AreMadeOf}
 
 -- a sound book is sound after an event that was answered so,
 event_sound : (naming : Naming) (event : Event) (book : Book) → IsAnswered naming event book

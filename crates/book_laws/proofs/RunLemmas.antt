@@ -12,6 +12,7 @@ use Rattle.book_laws.proofs.NetLemmas.{charged_once}
 use Rattle.book_laws.proofs.ReadLemmas.{conserved}
 use Rattle.book_reports.specs.BookTexts.{open_statement, report_answer}
 use Rattle.book_reports.specs.declared.report.Report.TheVariants.{OfPeriod}
+use Rattle.book_core.proofs.FollowLemmas.{history_goes_on}
 use Rattle.office.proofs.RunLemmas.{runs_answered}
 use Rattle.book_laws.specs.RunLaws.{RunsMakeHistory, RunsFollowHistory, ChargesOnce, RunsChargeOnce}
 use Rattle.book_laws.specs.RunLaws.{RunsConserve, RunOrderIsFree, ClosedStatementsStay}
@@ -28,8 +29,9 @@ left_after history run = sym (after_all-append run.events history new_book)
 next_answered : (naming : Naming) (history : List Event) (run : Run)
     → IsRunAfter naming history run → IsMadeByCalls naming (history_with history run)
 next_answered naming history run after =
-    runs_answered naming run.requests run.answers history after.was run.events after.is after.runs
-    after.answered
+    history_goes_on naming run.events history
+    (runs_answered naming run.requests run.answers (book_after history) after.was run.events
+    after.is after.runs) after.answered
 
 -- the law
 pub runs_make_history : RunsMakeHistory

@@ -18,7 +18,7 @@ use Rattle.book_laws.proofs.ClosedLemmas.{found_past, past_period, stays_alike}
 use Rattle.book_laws.proofs.LaterLemmas.{made_later, of_history, sound_before}
 use Rattle.book_laws.proofs.Words.{NoSuchPeriod, IsClosed}
 use Rattle.book_laws.specs.DetailStays.{BooksKeepDetails, DetailsStay, NextIsNext}
-use Rattle.book_laws.specs.LaterCalls.{AreMadeOf}
+use Rattle.book_model.specs.MadeByCalls.{AreMadeOf}
 
 -- one more close is none of those before a day that it is not before
 place_stays : (closes : List ℤ) (close day : ℤ) → int_lt close day ≡ false

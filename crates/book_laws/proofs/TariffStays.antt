@@ -16,7 +16,7 @@ use Rattle.book_model.proofs.CountedDays.{through_at}
 use Rattle.table_model.proofs.CloseOrder.{earlier as is_earlier, first_earlier}
 use Rattle.book_reports.proofs.KeptTariffLemmas.{in_force_push}
 use Rattle.book_laws.proofs.LaterLemmas.{rise_later}
-use Rattle.book_laws.specs.LaterCalls.{AreMadeOf}
+use Rattle.book_model.specs.MadeByCalls.{AreMadeOf}
 
 -- of rising days one that stands before another is earlier
 pub rise_at : (days : List ℤ) (j k : ℕ) (one other : ℤ) → IsStrictlySortedBy int_cmp days → j < k

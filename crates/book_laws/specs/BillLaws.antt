@@ -18,7 +18,7 @@ use Rattle.report_texts.specs.Charges.{all_charges, centres_of, charges_of_centr
 use Rattle.report_texts.specs.declared.charges.Charges.{Charges}
 use Rattle.table_model.specs.Readable.{IsReadable}
 use Rattle.book_laws.specs.ClosedPeriods.{IsClosed}
-use Rattle.book_laws.specs.LaterCalls.{AreMadeOf}
+use Rattle.book_model.specs.MadeByCalls.{AreMadeOf}
 
 -- of charge rows, those of the centre that is named, or all of them where none is
 abbrev pub rows_asked : Option (List ℕ) → List ChargeRow → List ChargeRow

@@ -13,7 +13,7 @@ use Rattle.book_reports.specs.BookTexts.{report_answer}
 use Rattle.book_reports.specs.StreamedDetails.{detail_answer}
 use Rattle.book_reports.specs.WhatIfTexts.{what_if_report}
 use Rattle.book_laws.specs.ClosedPeriods.{IsClosed}
-use Rattle.book_laws.specs.LaterCalls.{AreMadeOf}
+use Rattle.book_model.specs.MadeByCalls.{AreMadeOf}
 
 -- what books answer once a period is closed, they answer whatever calls follow
 abbrev pub IsFinal : Naming → ℕ → (Book → Result (List ℕ) LedgerFault) → Type 0

@@ -6,7 +6,7 @@ use Rattle.book_model.specs.Words.{book_after, details_asked, details_for, detai
 use Rattle.book_model.specs.Words.{first_detail, next_after}
 use Rattle.table_model.specs.Readable.{IsReadable}
 use Rattle.book_laws.specs.ClosedPeriods.{IsClosed}
-use Rattle.book_laws.specs.LaterCalls.{AreMadeOf}
+use Rattle.book_model.specs.MadeByCalls.{AreMadeOf}
 
 -- What is closed never changes: whatever calls follow, the details of a closed period are answered as
 -- they were, also after choices, the second rule of identity and tariffs that come late.

@@ -8,7 +8,7 @@ use Rattle.table_model.specs.Words.{IsSubmittedTo, IsReadable}
 use Rattle.book_laws.specs.NetCounts.{net_count, one_if, NamesOnce}
 use Rattle.book_laws.specs.PeriodLines.{AreReadOnce}
 use Rattle.book_laws.specs.ClosedPeriods.{IsClosed, IsReadAlike}
-use Rattle.book_laws.specs.LaterCalls.{AreMadeOf}
+use Rattle.book_model.specs.MadeByCalls.{AreMadeOf}
 use Rattle.book_laws.specs.PeriodAmounts.{rows_amount, plus_amount, minus_amount, added_cost}
 use Rattle.book_laws.specs.PeriodAmounts.{reversed_cost}
 

@@ -1,6 +1,6 @@
 -- Read in this order. Whole histories: how often periods charge a record; what their rows and lines
--- amount to; the lines of a period, each once; what is read of a closed period; what calls make of
--- any book; the laws; and wrong definitions of a period, which the laws refuse. What is charged for
+-- amount to; the lines of a period, each once; what is read of a closed period; the laws; and
+-- wrong definitions of a period, which the laws refuse. What is charged for
 -- one work. Runs: what a run is, and on which books; the statement of a period; and the laws. Then
 -- calls one after another and what they leave, the lists of all periods, how wide the lines of a
 -- statement are, the reports on single centres, details, what is kept of them and that they stay,
@@ -11,7 +11,6 @@ pub mod NetCounts
 pub mod PeriodAmounts
 pub mod PeriodLines
 pub mod ClosedPeriods
-pub mod LaterCalls
 pub mod HistoryLaws
 pub mod WrongPeriods
 pub mod WorkLaws

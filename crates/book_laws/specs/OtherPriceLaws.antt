@@ -9,7 +9,7 @@ use Rattle.book_model.specs.Words.{after_all, what_if_outcome}
 use Rattle.report_texts.specs.Centres.{rows_of_centre}
 use Rattle.table_model.specs.Readable.{IsReadable}
 use Rattle.book_laws.specs.ClosedPeriods.{IsClosed}
-use Rattle.book_laws.specs.LaterCalls.{AreMadeOf}
+use Rattle.book_model.specs.MadeByCalls.{AreMadeOf}
 
 -- Each record of a period costs what the tariff says. The rows are those of the same records at the
 -- prices of a trial by this tariff, which is then the only one and in force on every day; and the

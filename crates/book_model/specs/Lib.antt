@@ -1,11 +1,11 @@
 -- Read in this order: sets and records; days beside those of closes; what the office ruled, and what
 -- a record costs by it; which records are undisputed and charged; what a period is, and the rows,
 -- lines and disputes that are read, and the rows by another tariff; the book, which records it
--- counts, and the events that change it; what is answered to a record and to a ruling, how the
--- rulings are listed, and what each call is; the details of a period; the life of a record and its
--- trail; the bill of a period; what a whole history defines, which histories calls make, and how a
--- history is cut at its rulings; what is always true of a book; and laws. Then the answers and the
--- faults of a ledger.
+-- counts, and the events that change it; what is answered to a record and to a ruling, how rulings
+-- are listed, how books are asked for them, and what each call is; the details of a period; the life
+-- of a record and its trail; the bill of a period; what a whole history defines, which histories
+-- calls make, and how a history is cut at its rulings; what is always true of a book; and laws. Then
+-- the answers and the faults of a ledger.
 pub mod Sets
 pub mod Records
 pub mod Limits
@@ -23,6 +23,7 @@ pub mod Events
 pub mod Accept
 pub mod RulingAnswers
 pub mod RulingLists
+pub mod RulingsAsked
 pub mod Outcomes
 pub mod Details
 pub mod Lives

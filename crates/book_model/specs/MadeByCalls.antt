@@ -1,11 +1,11 @@
--- Histories that calls made: each event is the answer to one.
+-- Histories that calls made: each event is the answer to one. And what calls make of any book.
 use Rattle.std.specs.Prelude.{◌≡◌, List, [], ◌∷◌, Some, None, Ok}
 use Rattle.book_model.specs.declared.answer.Accepted.TheVariants.{Kept}
 use Rattle.book_model.specs.declared.answer.Ruled.TheVariants.{Done}
 use Rattle.book_model.specs.Records.{Naming, name_of}
 use Rattle.book_model.specs.Rulings.{TariffAccepted, RecordChosen, SecondRuleAdopted}
 use Rattle.book_model.specs.Books.{Book, new_book, open_number}
-use Rattle.book_model.specs.Events.{Event, RecordKept, PeriodClosed, RulingGiven}
+use Rattle.book_model.specs.Events.{Event, RecordKept, PeriodClosed, RulingGiven, after_all}
 use Rattle.book_model.specs.Accept.{accept_answer}
 use Rattle.book_model.specs.RulingAnswers.{terms_answer, close_answer, record_named, choose_answer}
 use Rattle.book_model.specs.RulingAnswers.{adopt_answer, second_rule}
@@ -31,3 +31,10 @@ abbrev pub IsMadeByCalls : Naming → List Event → Type 0
 IsMadeByCalls naming [] = Unit {0}
 IsMadeByCalls naming (event ∷ older) =
     IsAnswered naming event (book_after older) × IsMadeByCalls naming older
+
+-- Calls made these events of a book, wherever it came from, the newest first: each was answered so
+-- by the book that those before it left. A history that calls made is such a list, of new books.
+abbrev pub AreMadeOf : Naming → Book → List Event → Type 0
+AreMadeOf naming book [] = Unit {0}
+AreMadeOf naming book (event ∷ older) =
+    IsAnswered naming event (after_all older book) × AreMadeOf naming book older

@@ -72,13 +72,15 @@ pub use Rattle.book_model.specs.RulingLists.{HasDays, RulingSeen, TariffSeen, Cl
 pub use Rattle.book_model.specs.RulingLists.{AdoptionSeen, ShowsDays, ruling_shown, rulings_listed}
 pub use Rattle.book_model.specs.RulingLists.{adoption_seen, choice_seen, choices_seen, closes_seen}
 pub use Rattle.book_model.specs.RulingLists.{tariff_seen, tariff_text_on, tariffs_seen, text_on}
+pub use Rattle.book_model.specs.RulingsAsked.{RulingAsked, TariffAsked, CloseAsked, ChoiceAsked}
+pub use Rattle.book_model.specs.RulingsAsked.{AdoptionAsked, HasDay, ruling_asked}
 pub use Rattle.book_model.specs.Outcomes.{Outcome, accept_event, accept_outcome}
 pub use Rattle.book_model.specs.Outcomes.{adjustments_outcome, adopt_outcome}
 pub use Rattle.book_model.specs.Outcomes.{charges_outcome, choose_outcome}
 pub use Rattle.book_model.specs.Outcomes.{close_outcome, dispute_outcome}
 pub use Rattle.book_model.specs.Outcomes.{disputes_outcome, if_done}
 pub use Rattle.book_model.specs.Outcomes.{periods_outcome, no_event, ruled_as, ruling_outcome}
-pub use Rattle.book_model.specs.Outcomes.{tariff_outcome, what_if_outcome}
+pub use Rattle.book_model.specs.Outcomes.{rule_outcome, tariff_outcome, what_if_outcome}
 pub use Rattle.book_model.specs.OtherPrices.{costs_under, rows_if_room, what_if_answer}
 pub use Rattle.book_model.specs.Details.{by_detail, comes_after, detail_by, detail_of, detail_with}
 pub use Rattle.book_model.specs.Details.{details_asked, is_asked}
@@ -100,7 +102,7 @@ pub use Rattle.book_model.specs.Bills.{period_by_trail, period_of_line, steps_of
 pub use Rattle.book_model.specs.Bills.{tariffs_from, tariffs_in, tariffs_through, work_rows}
 pub use Rattle.book_model.specs.History.{book_after, book_of, charged_in, closes, day_of_close}
 pub use Rattle.book_model.specs.History.{held_before, period_after, periods, rulings}
-pub use Rattle.book_model.specs.MadeByCalls.{IsAnswered, IsMadeByCalls}
+pub use Rattle.book_model.specs.MadeByCalls.{AreMadeOf, IsAnswered, IsMadeByCalls}
 pub use Rattle.book_model.specs.RecordBatches.{rulings_in, record_batches}
 pub use Rattle.book_model.specs.Sound.{AreAllDatedThrough, AreAmong, AreDatedThrough, AreHeld}
 pub use Rattle.book_model.specs.Sound.{IsChoiceOf, IsSound}

@@ -5,10 +5,11 @@ use Rattle.std.proofs.Math.Logic.{∥∥₁_elim, ∥∥₁_map, ∥∥₁_prop}
 use Rattle.sqlite_trees.specs.Tree.{Trees}
 use Rattle.sqlite_trees.specs.View.{View, IsClean}
 use Rattle.sqlite_wal.specs.Recovery.{Image}
-use Rattle.book_model.specs.Words.{Book, Event, Naming, after_all, book_after, new_book}
+use Rattle.book_model.specs.Words.{AreMadeOf, Book, Event, Naming, after_all, book_after, new_book}
 use Rattle.book_core.specs.Ledgers.{Seen, IsOpenAt, may_have}
 use Rattle.book_core.specs.Transition.{Transition, NoEvent, IsTransition}
 use Rattle.book_core.specs.Follow.{MakesAnswered}
+use Rattle.book_core.proofs.FollowLemmas.{history_goes_on, made_more, none_answered}
 use Rattle.book_core.proofs.InTurnLemmas.{Adds, AllAdd, in_turn}
 use Rattle.book_core.proofs.OpenLemmas.{opened_leads}
 use Rattle.book_core.proofs.TransitionLemmas.{after_all-append}
@@ -82,6 +83,7 @@ still_held naming first left each = record {
     made = record { none = refl; same = refl };
     left = record { answered = held.answered; held = each (book_after history) held.held };
   }) ∣₁;
+  calls = none_answered naming;
 }
 
 -- what is left of each book is left of each history
@@ -97,11 +99,13 @@ book_goes_on naming Made first left answers each = record {
         is = found.is;
         made = found.made;
         left = record {
-          answered = answers history false found.events found.is found.made held.answered;
+          answered = history_goes_on naming found.events history
+              (answers (book_after history) false found.events found.is found.made) held.answered;
           held = subst (λ book. HoldsBook naming book left)
               (sym (after_all-append found.events history new_book)) found.held;
         };
       };
+  calls = answers;
 }
 
 -- sessions, one after another, of each of which it is known that it adds something
@@ -134,12 +138,20 @@ pub sessions_follow_book : (work : ℕ → Naming → Transition) (files : ℕ �
     → SessionsFollowBook work files
 sessions_follow_book work files naming start sessions held each =
     ∥∥₁_map (sessions_add (λ session. work session naming) start
-    (λ session events. HoldsBook naming (after_all events start) (files session)) sessions held
+    (λ session events.
+    AreMadeOf naming start events × HoldsBook naming (after_all events start) (files session))
+    sessions (tt, held)
     (λ session below early at.
-    ∥∥₁_map ((each session below).book (after_all early start) at) λ one. record {
+    ∥∥₁_map ((each session below).book (after_all early start) at.1) λ one. record {
       late = one.events;
       is = one.is;
       made = one.made;
-      left = subst (λ book. HoldsBook naming book (files (suc session)))
-          (sym (after_all-append one.events early start)) one.held;
-    })) λ all. record { events = all.events; made = all.made; left = all.left }
+      left = (
+        made_more naming one.events early start
+            ((each session below).calls (after_all early start) false one.events one.is one.made)
+            at.0,
+        subst (λ book. HoldsBook naming book (files (suc session)))
+            (sym (after_all-append one.events early start)) one.held,
+      );
+    })) λ all.
+    record { events = all.events; made = all.made; answered = all.left.0; left = all.left.1 }

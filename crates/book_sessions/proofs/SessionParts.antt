@@ -1,11 +1,12 @@
 -- What a session leaves of files, part by part.
-use Rattle.std.proofs.Common.{◌≡◌, ◌∙◌, IsTrue, List, ◌++◌, ℕ, sym, ap, subst, inl, inr, Option}
+use Rattle.std.proofs.Common.{◌≡◌, ◌∙◌, IsTrue, List, ℕ, sym, ap, subst, inl, inr, Option}
 use Rattle.std.proofs.Common.{None, Some, Result, Ok, Err, IfSome}
 use Rattle.sqlite_pool.specs.StoredLaws.{carried}
 use Rattle.sqlite_store.specs.FileStore.{recovers}
 use Rattle.sqlite_store.specs.declared.catalog.Wanted.{Wanted}
-use Rattle.book_model.specs.Words.{Book, Event, IsMadeByCalls, Naming}
+use Rattle.book_model.specs.Words.{Book, Naming}
 use Rattle.book_core.specs.Words.{MakesAnswered, Transition, NoEvent}
+use Rattle.book_core.proofs.FollowLemmas.{none_answered}
 use Rattle.book_trees.specs.Closing.{IsWithoutLog, LeavesLog, LeavesRows, MayBeFound}
 use Rattle.book_trees.specs.LedgerFiles.{HoldsFile, HoldsTables, page_size, rows_held, without_log}
 use Rattle.book_trees.specs.Refusals.{IsAsFound}
@@ -115,8 +116,7 @@ pub done_answered : {A F : Type 0} (work : A → Transition) (names : Naming)
     → ((answer : A) → MakesAnswered names (work answer)) → (result : Result A F)
     → MakesAnswered names (done_by work result)
 done_answered work names answers (Ok answer) = answers answer
-done_answered work names answers (Err fault) = λ history was events is none answered.
-    subst (λ (events : List Event). IsMadeByCalls names (events ++ history)) (sym none.none) answered
+done_answered work names answers (Err fault) = none_answered names
 
 -- what an opened store leaves of each book, the files leave of it, and so of each history
 pub session_goes_on : {D : Type 0} {g : Ghosts D} (names : Naming) (Made : Transition)

@@ -1,6 +1,8 @@
 -- One request of a client, from books that are open only while they are asked.
 use Rattle.std.proofs.Common.{◌≡◌, ◌∙◌, ◌<◌, Bool, true, false, List, [], ◌++◌, ℕ, refl, sym, ap}
-use Rattle.std.proofs.Common.{subst, inl, inr, Option, Result, Ok, Err, true≢false}
+use Rattle.std.proofs.Common.{append-nil, subst, inl, inr, None, Option, Some, Result, Ok, Err}
+use Rattle.std.proofs.Common.{true≢false}
+use Rattle.std.specs.Io.KnownBytes.{Consumes}
 use Rattle.streams.specs.declared.source.Source.{Source}
 use Rattle.streams.specs.Sources.{has_ended, has_failed, reader_of}
 use Rattle.book_model.specs.Words.{Book, Event}
@@ -24,7 +26,7 @@ use Rattle.chargectl.specs.ClientRequests.{AsksOpen, ComesOpen, EndsBy, EndsUnse
 use Rattle.chargectl.specs.ClientRequests.{IsAnsweredFrom, IsReplied, IsServedByReads, IsServedFrom}
 use Rattle.chargectl.specs.ClientRequests.{SendsOpen, StreamsAnswer, asks_books, away_reply}
 use Rattle.chargectl.specs.ClientRequests.{is_streamed}
-use Rattle.chargectl.specs.Serving.{AnswersSome, Fits, Replies, ServesOne, is_answered}
+use Rattle.chargectl.specs.Serving.{AnswersSome, Fits, IsFrontOf, Replies, ServesOne, is_answered}
 use Rattle.chargectl.proofs.Words.{work_as, RepositoryFault, ComesBy, IsDoneTo, IsOpened, Shelf}
 use Rattle.chargectl.proofs.Words.{done_as}
 use Rattle.book_http.specs.declared.asked.Asked.TheVariants as wants
@@ -142,15 +144,28 @@ whole_fits : (reply : Reply) (held holds : Option (List ℕ)) (what : Served)
 whole_fits reply held holds (served.Answered status) sent = sent.0
 whole_fits reply held holds what sent = tt
 
+-- what reads took of a client came first of what it sends
+pub front_taken : (sent first left : Option (List ℕ)) (bytes : List ℕ) → Consumes first left bytes
+    → first ≡ sent → IsFrontOf sent bytes
+front_taken None first left bytes came same = tt
+front_taken (Some all) first left bytes came same =
+    of_left left (subst (λ first. Consumes first left bytes) same came)
+  where
+    of_left : (left : Option (List ℕ)) → Consumes (Some all) left bytes
+        → (rest : List ℕ) × (all ≡ bytes ++ rest)
+    of_left None never = absurd never
+    of_left (Some rest) is = (rest, is)
+
 module _ (book : List ℕ) (old new : Shelf) (bytes : List ℕ) (request : WholeRequest)
-    (asks : AreAsking bytes (request_seen request)) (held shown holds : Option (List ℕ))
-    (what : Served) where
+    (asks : AreAsking bytes (request_seen request)) (sent : Option (List ℕ))
+    (front : IsFrontOf sent bytes) (held shown holds : Option (List ℕ)) (what : Served) where
   -- a request that was answered answers its bytes
   some_answers : (so : Served) (due : Reply) (before : Book) (events : List Event) (left is : Bool)
       → Fits so due → AnswersRequest old.naming (request_seen request) due false before events left
-      → AnswersSome old.naming so false before events is
+      → AnswersSome old.naming sent so false before events is
   some_answers so due before events left is fits made = record {
     bytes = bytes;
+    front = front;
     due = due;
     left = left;
     made = bytes_answered old.naming bytes (request_seen request) due asks false before events left
@@ -160,19 +175,19 @@ module _ (book : List ℕ) (old new : Shelf) (bytes : List ℕ) (request : Whole
 
   due_answers : (so : Served) (answer : Answer) → Fits so (reply_of answer)
       → IsDoneTo book (AsksOpen old.naming request held shown (Err answer)) old new
-      → IsDoneTo book (AnswersSome old.naming so) old new
+      → IsDoneTo book (AnswersSome old.naming sent so) old new
   due_answers so answer fits done =
       done_as book (AsksOpen old.naming request held shown (Err answer))
-      (AnswersSome old.naming so) old new
+      (AnswersSome old.naming sent so) old new
       (λ before events is made. some_answers so (reply_of answer) before events is is fits made) done
 
   -- so with details, which were sent while the books were open
-  sent_answers : (so sent : Served) → ((due : Reply) → IsSentAsRead due held shown sent → Fits so due)
-      → IsDoneTo book (AsksOpen old.naming request held shown (Ok sent)) old new
-      → IsDoneTo book (AnswersSome old.naming so) old new
-  sent_answers so sent fits done =
-      done_as book (AsksOpen old.naming request held shown (Ok sent))
-      (AnswersSome old.naming so) old new
+  sent_answers : (so read : Served) → ((due : Reply) → IsSentAsRead due held shown read → Fits so due)
+      → IsDoneTo book (AsksOpen old.naming request held shown (Ok read)) old new
+      → IsDoneTo book (AnswersSome old.naming sent so) old new
+  sent_answers so read fits done =
+      done_as book (AsksOpen old.naming request held shown (Ok read))
+      (AnswersSome old.naming sent so) old new
       (λ before events is it. some_answers so it.reply before events it.left is
       (fits it.reply it.sent) it.answer)
       done
@@ -180,9 +195,9 @@ module _ (book : List ℕ) (old new : Shelf) (bytes : List ℕ) (request : Whole
   -- no answer was told
   untold_answers : (told : Result Served Answer)
       → IsDoneTo book (AsksOpen old.naming request held shown told) old new
-      → IsDoneTo book (AnswersSome old.naming served.Cut) old new
+      → IsDoneTo book (AnswersSome old.naming sent served.Cut) old new
   untold_answers (Err answer) done = due_answers served.Cut answer tt done
-  untold_answers (Ok sent) done = sent_answers served.Cut sent (λ due as_read. tt) done
+  untold_answers (Ok read) done = sent_answers served.Cut read (λ due as_read. tt) done
 
   unseen_fits : (streamed : Bool) → EndsUnseen streamed shown holds what
       → Fits what (refusal Unavailable)
@@ -191,17 +206,17 @@ module _ (book : List ℕ) (old new : Shelf) (bytes : List ℕ) (request : Whole
 
   pub request_done : (told : Result (Result Served Answer) RepositoryFault)
       → IsOpened (AsksOpen old.naming request held shown) book old new told
-      → EndsBy (is_streamed request) told shown holds what → Replies book what old new
+      → EndsBy (is_streamed request) told shown holds what → Replies book sent what old new
   request_done (Ok (Err answer)) done ends = record {
     came = Ok what;
     done = due_answers what answer (whole_fits (reply_of answer) shown holds what ends) done;
     told = refl;
   }
-  request_done (Ok (Ok sent)) done ends = record {
+  request_done (Ok (Ok read)) done ends = record {
     came = Ok what;
-    done = sent_answers what sent
+    done = sent_answers what read
         (λ due as_read. subst (λ what. Fits what due) (sym ends.0)
-        (sent_fits due held shown sent as_read)) done;
+        (sent_fits due held shown read as_read)) done;
     told = refl;
   }
   request_done (Err shelf.Unseen) (refused, inl seen) ends = record {
@@ -221,27 +236,28 @@ module _ (book : List ℕ) (old new : Shelf) (bytes : List ℕ) (request : Whole
   }
 
 replied_done : {S : Type 0} (seen : S → Shelf) (old new : S) (book taken : List ℕ) (ended : Bool)
-    (held holds : Option (List ℕ)) (what : Served)
+    (sent held holds : Option (List ℕ)) (what : Served) → IsFrontOf sent taken
     → IsReplied seen old new book taken ended held holds what
-    → Replies book what (seen old) (seen new)
-replied_done seen old new book taken ended held holds what it =
-    request_done book (seen old) (seen new) (taken ++ []) it.request (it.asks [] (λ _. refl)) held
-    it.answered.shown holds what it.answered.told it.answered.done it.answered.ends
+    → Replies book sent what (seen old) (seen new)
+replied_done seen old new book taken ended sent held holds what front it =
+    request_done book (seen old) (seen new) (taken ++ []) it.request (it.asks [] (λ _. refl)) sent
+    (subst (IsFrontOf sent) (sym (append-nil taken)) front) held it.answered.shown holds what
+    it.answered.told it.answered.done it.answered.ends
 
 -- so it is with whatever was served
 pub served_one : {S : Type 0} (seen : S → Shelf) (old new : S) (book taken : List ℕ) (ended : Bool)
-    (held holds : Option (List ℕ)) (what : Served)
+    (sent held holds : Option (List ℕ)) (what : Served) → IsFrontOf sent taken
     → IsServedFrom seen old new book ended held holds what taken
     → (is_unanswered what ≡ true → new ≡ old)
-    → ServesOne book what (seen old) (seen new)
-served_one seen old new book taken ended held holds served.Closed it none =
+    → ServesOne book sent what (seen old) (seen new)
+served_one seen old new book taken ended sent held holds served.Closed front it none =
     subst (λ place. IsUntouched book (seen old) (seen place)) (sym (none refl))
     (untouched book (seen old))
-served_one seen old new book taken ended held holds served.ReadFault it none =
+served_one seen old new book taken ended sent held holds served.ReadFault front it none =
     subst (λ place. IsUntouched book (seen old) (seen place)) (sym (none refl))
     (untouched book (seen old))
-served_one seen old new book taken ended held holds what it none =
-    replied_done seen old new book taken ended held holds what it
+served_one seen old new book taken ended sent held holds what front it none =
+    replied_done seen old new book taken ended sent held holds what front it
 
 -- what was not answered has no status
 pub status_of : (what : Served) → is_answered what ≡ true → (status : ℕ) × (what ≡ served.Answered status)

@@ -7,7 +7,7 @@ use Rattle.book_model.specs.declared.answer.Ruled.{Ruled}
 use Rattle.book_model.specs.declared.fault.LedgerFault.TheVariants.{Memory}
 use Rattle.book_model.specs.Words.{Book, Event, Naming, Outcome, adopt_outcome, after_all}
 use Rattle.book_model.specs.Words.{after_any, choose_outcome, close_outcome, tariff_answer}
-use Rattle.book_model.specs.Words.{tariff_outcome}
+use Rattle.book_model.specs.Words.{rule_outcome, tariff_outcome}
 use Rattle.book_core.specs.Words.{Calls, IsCall, listed, Seen, IsTransition, Then, Transition}
 use Rattle.book_core.proofs.FollowLemmas.{called_events}
 use Rattle.book_core.proofs.TransitionLemmas.{Fails, failed, fails, refused, to_reopen, wanting}
@@ -39,6 +39,7 @@ use Rattle.chargectl.proofs.Words.{LedgerFault, work_as, Asked, RepositoryFault,
 use Rattle.chargectl.proofs.Words.{response_by, CommandFault}
 use Rattle.report_texts.specs.declared.dry_runs.TriedRuling.TheVariants as tried
 use Rattle.office.specs.declared.request.Asked.TheVariants as asks
+use Rattle.office.specs.declared.request.OwnedRuling.TheVariants as owned
 use Rattle.office.specs.declared.request.Answer.TheVariants as answers
 use Rattle.office.specs.Requests as office
 
@@ -124,12 +125,12 @@ module _ (naming : Naming) where
   -- a text that is no tariff
   unnamed_shows : (asked : Asked) (book : Book) (fault : LedgerFault) → IsUnnamed asked fault
       → ShowsDry naming asked book (Err fault) None
-  unnamed_shows (asks.Tariff text) book fault why =
+  unnamed_shows (asks.Rule (owned.Tariff text)) book fault why =
       let bytes = string_bytes text in
       record {
         told_so = ap Err why.2
             ∙ sym (ap (λ said. shown_by Text (tariff_tried naming bytes said book)) why.1);
-        notice = sym (ap (λ said. notice_by (is_far_asked (asks.Tariff text) book)
+        notice = sym (ap (λ said. notice_by (is_far_asked (asks.Rule (owned.Tariff text)) book)
             (shown_by office.Ruling (tariff_answer book bytes said))) why.1);
       }
   unnamed_shows asked book fault why = absurd why
@@ -165,17 +166,17 @@ module _ (naming : Naming) where
       (book : Book) (events : List Event) (is : Bool) → IsNamedBy asked ruling
       → AsksWithoutReader naming asked (Err fault) was book events is → was ≡ false
       → is_hindered (Err fault) ≡ false → TellsDry naming asked book (Err fault)
-  refused_tells (asks.Tariff text) ruling fault was book events is named called fresh free =
+  refused_tells (asks.Rule (owned.Tariff text)) ruling fault was book events is named called fresh free =
       ap (shown_by Text) (refused_by (tariff_outcome (string_bytes text)) fault
       (tried.Tariff named.0.effective) was book events is called fresh free
       ∙ sym (ap (λ said. tariff_tried naming (string_bytes text) said book) named.1))
-  refused_tells (asks.Close period through) ruling fault was book events is named called fresh free =
+  refused_tells (asks.Rule (owned.Close period through)) ruling fault was book events is named called fresh free =
       ap (shown_by Text) (refused_by (close_outcome period through) fault (tried.Close period through)
       was book events is called fresh free)
-  refused_tells (asks.Choose name) ruling fault was book events is named called fresh free =
+  refused_tells (asks.Rule (owned.Choose name)) ruling fault was book events is named called fresh free =
       ap (shown_by Text) (refused_by (choose_outcome naming name) fault (tried.Choose name) was book
       events is called fresh free)
-  refused_tells (asks.Adopt rule) ruling fault was book events is named called fresh free =
+  refused_tells (asks.Rule (owned.Adopt rule)) ruling fault was book events is named called fresh free =
       ap (shown_by Text) (refused_by (adopt_outcome rule) fault tried.Adopt was book events is called
       fresh free)
   refused_tells asked ruling fault was book events is named called fresh free = absurd named
@@ -210,20 +211,20 @@ module _ (naming : Naming) where
       → AsksWithoutReader naming asked (Ok (answers.Ruled ruled)) was book events is
       → TellsDry naming asked book
       (Ok (Text (dry_run_of naming ruling ruled book (after_all events book))))
-  ruled_tells (asks.Tariff text) ruling ruled was book events is named called =
+  ruled_tells (asks.Rule (owned.Tariff text)) ruling ruled was book events is named called =
       ap (λ ruling. Ok (Text (dry_run_of naming ruling ruled book (after_all events book)))) named.2
       ∙ ap (shown_by Text) (ruled_by (tariff_outcome (string_bytes text)) ruled
       (tried.Tariff named.0.effective) was book events is called
       ∙ sym (ap (λ said. tariff_tried naming (string_bytes text) said book) named.1))
-  ruled_tells (asks.Close period through) ruling ruled was book events is named called =
+  ruled_tells (asks.Rule (owned.Close period through)) ruling ruled was book events is named called =
       ap (λ ruling. Ok (Text (dry_run_of naming ruling ruled book (after_all events book)))) named
       ∙ ap (shown_by Text) (ruled_by (close_outcome period through) ruled (tried.Close period through)
       was book events is called)
-  ruled_tells (asks.Choose name) ruling ruled was book events is named called =
+  ruled_tells (asks.Rule (owned.Choose name)) ruling ruled was book events is named called =
       ap (λ ruling. Ok (Text (dry_run_of naming ruling ruled book (after_all events book)))) named
       ∙ ap (shown_by Text) (ruled_by (choose_outcome naming name) ruled (tried.Choose name) was book
       events is called)
-  ruled_tells (asks.Adopt rule) ruling ruled was book events is named called =
+  ruled_tells (asks.Rule (owned.Adopt rule)) ruling ruled was book events is named called =
       ap (λ ruling. Ok (Text (dry_run_of naming ruling ruled book (after_all events book)))) named
       ∙ ap (shown_by Text) (ruled_by (adopt_outcome rule) ruled tried.Adopt was book events is called)
   ruled_tells asked ruling ruled was book events is named called = absurd named
@@ -259,14 +260,8 @@ module _ (naming : Naming) where
   answers_ruling : (asked : Asked) (answer : Answer) (was : Bool) (book : Book) (events : List Event)
       (is : Bool) → IsAskableRuling asked
       → AsksWithoutReader naming asked (Ok answer) was book events is → Answers answer was is
-  answers_ruling (asks.Tariff text) answer was book events is may called =
-      answers_by (tariff_outcome (string_bytes text)) answer was book events is called
-  answers_ruling (asks.Close period through) answer was book events is may called =
-      answers_by (close_outcome period through) answer was book events is called
-  answers_ruling (asks.Choose name) answer was book events is may called =
-      answers_by (choose_outcome naming name) answer was book events is called
-  answers_ruling (asks.Adopt rule) answer was book events is may called =
-      answers_by (adopt_outcome rule) answer was book events is called
+  answers_ruling (asks.Rule ruling) answer was book events is may called =
+      answers_by (rule_outcome naming (office.ruling_of ruling)) answer was book events is called
   answers_ruling asked answer was book events is may called = absurd may
 
 -- the ruling, and then a reading: the ruling alone made events

@@ -12,7 +12,7 @@ use Rattle.book_reports.specs.declared.figures.OpenPeriod.{OpenPeriod}
 use Rattle.book_reports.specs.Figures.{open_outcome}
 use Rattle.book_reports.proofs.ReadingLemmas.{IsReading, Tells, goes_on, read_as, read_then}
 use Rattle.book_reports.proofs.WritingLemmas.{same_value}
-use Rattle.office.specs.declared.request.Asked.TheVariants.{Tariff, Close, Choose, Adopt}
+use Rattle.office.specs.declared.request.Asked.TheVariants.{Rule}
 use Rattle.office.specs.Requests.{Asks, Gives, IsAskableRuling, IsAskableUnread, no_dump}
 use Rattle.named_books.specs.Shelves.{IsThere}
 use Rattle.chargectl.specs.declared.dated_rulings.DatedAnswer.{DatedAnswer}
@@ -24,10 +24,7 @@ use Rattle.chargectl.proofs.Words.{response_by, IsDoneTo, IsOpened, Shelf, done_
 
 -- a ruling may be asked for with any reader
 pub ruling_unread : (asked : Asked) → IsAskableRuling asked → IsAskableUnread asked
-ruling_unread (Tariff text) may = tt
-ruling_unread (Close period through) may = may
-ruling_unread (Choose name) may = tt
-ruling_unread (Adopt rule) may = tt
+ruling_unread (Rule ruling) may = may
 ruling_unread asked may = absurd may
 
 -- ---- what is read
@@ -146,18 +143,9 @@ failed_of : (naming : Naming) (asked : Asked) (fault : LedgerFault) → IsAskabl
     → (was : Bool) (before : Book) (events : List Event) (is : Bool)
     → Calls (λ (far : Bool). far) (far_outcome asked) (Err fault) was before events is
     → AsksDated naming asked (Err fault) None was before events is
-failed_of naming (Tariff text) fault may was before events is called =
-    not_asked_for naming (Tariff text) fault was before events is (record { is = refl; same = refl })
-    (unread _ (Tariff text) fault was before events is called)
-failed_of naming (Close period through) fault may was before events is called =
-    not_asked_for naming (Close period through) fault was before events is (record { is = refl; same = refl })
-    (unread _ (Close period through) fault was before events is called)
-failed_of naming (Choose name) fault may was before events is called =
-    not_asked_for naming (Choose name) fault was before events is (record { is = refl; same = refl })
-    (unread _ (Choose name) fault was before events is called)
-failed_of naming (Adopt rule) fault may was before events is called =
-    not_asked_for naming (Adopt rule) fault was before events is (record { is = refl; same = refl })
-    (unread _ (Adopt rule) fault was before events is called)
+failed_of naming (Rule ruling) fault may was before events is called =
+    not_asked_for naming (Rule ruling) fault was before events is (record { is = refl; same = refl })
+    (unread _ (Rule ruling) fault was before events is called)
 failed_of naming asked fault may was before events is called = absurd may
 
 pub failed_dated : (old new : Seen) (asked : Asked) (fault : LedgerFault) → IsAskableRuling asked

@@ -8,6 +8,7 @@ use Rattle.book_model.specs.Words.{same_bytes, Book, Event, IsMadeByCalls, Namin
 use Rattle.book_model.specs.Words.{book_after, book_of}
 use Rattle.book_model.specs.declared.fault.LedgerFault.TheVariants.{Memory, Store, Reopen}
 use Rattle.book_core.specs.Words.{Calls, listed, MakesAnswered, Transition, NoEvent}
+use Rattle.book_core.proofs.FollowLemmas.{history_goes_on}
 use Rattle.book_model.proofs.Lemmas.{books_follow_history}
 use Rattle.book_audit.specs.Copies.{IsAudited}
 use Rattle.book_audit.specs.declared.audited.Audited.{Audited}
@@ -34,7 +35,7 @@ use Rattle.chargectl.specs.declared.dated_rulings.DatedAnswer.{DatedAnswer}
 use Rattle.chargectl.specs.declared.answered.Answered.{Answered}
 use Rattle.chargectl.specs.declared.streamed_lists.StreamedList.{StreamedList}
 use Rattle.chargectl.specs.Choices.{ChoosesBy, ChoosesListed, ComesOfList, IsListFault}
-use Rattle.chargectl.specs.Choices.{list_answered}
+use Rattle.chargectl.specs.Choices.{front_of, list_answered}
 use Rattle.chargectl.specs.Commands.{AsksAndTells, AsksNothing, AsksOnceBy, ComesOf, IsFileFault}
 use Rattle.chargectl.specs.Commands.{may_change, once_answered}
 use Rattle.chargectl.specs.Audits.{AuditsBooks, BacksUp}
@@ -168,7 +169,8 @@ module _ (naming : Naming) (history : List Event) (name : List ℕ) (old new : S
         record {
           made = more.events;
           so = (λ _. record { is = more.is; made_so = more.made }, λ apart. absurd (apart same));
-          answered = makes history false more.events more.is more.made answered;
+          answered = history_goes_on naming more.events history
+              (makes (book_after history) false more.events more.is more.made) answered;
           held = more.now;
           named = done.naming;
         }
@@ -356,7 +358,8 @@ module _ (history : List Event) (name : List ℕ) (old new : Shelf)
   list_comes_on had book (Err why) comes =
       step_as (λ made is. (
         λ _. (
-          either_as (old.refuses book) (Refuses book) (follow book) (IsListFault why) why comes.0,
+          either_as (old.refuses book) (Refuses book) (follow book)
+              (IsListFault (front_of had) why) why comes.0,
           is,
         ),
         λ _. is,

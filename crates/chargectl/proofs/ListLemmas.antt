@@ -1,11 +1,12 @@
 -- Lists of names that a reader gives, and choices by them.
 use Rattle.std.proofs.Common.{◌≡◌, ◌∙◌, List, [], ◌∷◌, ◌++◌, ℕ, Option, Some, None, Result, Ok, Err}
-use Rattle.std.proofs.Common.{ap, inl, inr, refl, subst, sym, take, true≢false, option_map, ◌==◌}
-use Rattle.std.proofs.Common.{if◌then◌else◌, IfOk, IsErr, IsErrAnd, OnErr}
+use Rattle.std.proofs.Common.{ap, append_assoc, append-nil, inl, inr, refl, subst, sym, take}
+use Rattle.std.proofs.Common.{true≢false, option_map, ◌==◌, if◌then◌else◌, IfOk, IfSome, IsErr}
+use Rattle.std.proofs.Common.{IsErrAnd, OnErr}
 use Rattle.std.proofs.KnownBytes.{Consumes-trans}
 use Rattle.std.specs.Io.Buffered.{reader_buffer, reader_capacity, reader_inner, reader_remaining}
 use Rattle.std.specs.Io.Iter.{YieldsKnownByte}
-use Rattle.std.specs.Io.KnownBytes.{Consumes, prepend_known}
+use Rattle.std.specs.Io.KnownBytes.{Consumes, IsAtEnd, prepend_known}
 use Rattle.std.specs.Io.Take.{take_inner, take_limit, take_remaining}
 use Rattle.std.specs.declared.alloc.AllocError.{AllocError}
 use Rattle.std.specs.declared.io.Error.{Error}
@@ -53,14 +54,47 @@ front_shown remaining reader buffered front behind empty size limit inner =
     λ i. if size i == 0 then None else prepend_known (empty i) (remaining (behind i)) in
     cut ∙ ap (option_map (take most_read)) (seen ∙ behind_none (remaining reader))
 
--- why a text is no list of names
-pub no_list : (text : List ℕ) (found : NamesFault) → IsNamesFault (names_in text) found
-    → IsListFault (names_fault found)
-no_list text names.Memory read = inl (OutOfMemory, refl)
-no_list text (names.Line number) read =
-    inr (record { text = text; found = names.Line number; read = read; is = refl })
-no_list text names.TooMany read =
-    inr (record { text = text; found = names.TooMany; read = read; is = refl })
+-- these bytes of a reader came, and with whatever comes after them the text is no list of names: so it
+-- is with all that the reader had
+pub front_refused : (had first left : Option (List ℕ)) (text : List ℕ) (byte : ℕ) (found : NamesFault)
+    → Consumes first left (text ++ byte ∷ []) → first ≡ had
+    → ((more : List ℕ) → IsNamesFault (names_in (text ++ byte ∷ more)) found)
+    → IfSome had (λ bytes. IsNamesFault (names_in bytes) found)
+front_refused None first left text byte found came same refused = tt
+front_refused (Some bytes) first left text byte found came same refused =
+    of_left left (subst (λ first. Consumes first left (text ++ byte ∷ [])) same came)
+  where
+    of_left : (left : Option (List ℕ)) → Consumes (Some bytes) left (text ++ byte ∷ [])
+        → IsNamesFault (names_in bytes) found
+    of_left None never = absurd never
+    of_left (Some rest) is =
+        subst (λ all. IsNamesFault (names_in all) found)
+        (sym (is ∙ append_assoc text (byte ∷ []) rest)) (refused rest)
+
+-- no more bytes came
+pub all_refused : (had first left : Option (List ℕ)) (text : List ℕ) (found : NamesFault)
+    → Consumes first left text → first ≡ had → IsAtEnd left → IsNamesFault (names_in text) found
+    → IfSome had (λ bytes. IsNamesFault (names_in bytes) found)
+all_refused None first left text found came same ended refused = tt
+all_refused (Some bytes) first left text found came same ended refused =
+    of_left left (subst (λ first. Consumes first left text) same came) ended
+  where
+    of_left : (left : Option (List ℕ)) → Consumes (Some bytes) left text → IsAtEnd left
+        → IsNamesFault (names_in bytes) found
+    of_left None never ended = absurd never
+    of_left (Some rest) is ended =
+        subst (λ all. IsNamesFault (names_in all) found)
+        (sym (is ∙ ap (λ rest. text ++ rest) ended ∙ append-nil text)) refused
+
+-- why a text is no list of names, and all that a reader had
+pub no_list : (had : Option (List ℕ)) (text : List ℕ) (found : NamesFault)
+    → IsNamesFault (names_in text) found
+    → IfSome had (λ bytes. IsNamesFault (names_in bytes) found) → IsListFault had (names_fault found)
+no_list had text names.Memory read all = inl (OutOfMemory, refl)
+no_list had text (names.Line number) read all =
+    inr (record { text = text; found = names.Line number; read = read; all = all; is = refl })
+no_list had text names.TooMany read all =
+    inr (record { text = text; found = names.TooMany; read = read; all = all; is = refl })
 
 -- a visit that chose the records of names, or had no memory for the answers
 pub choices_made : {L : Type 0} (seen : L → Seen) (old new : L) (names : List (List ℕ))
@@ -76,8 +110,8 @@ choices_made seen old new names (Err fault) made none =
 -- nothing was chosen, and this is why
 pub not_listed : (had : Option (List ℕ)) (book : List ℕ) (shelf : Shelf)
     (result : Result ListAnswered CommandFault) (found : CommandFault) → IsErr result
-    → IsErrAnd result (λ why. why ≡ found) → ChoosesNothing (shelf.refuses book) found
+    → IsErrAnd result (λ why. why ≡ found) → ChoosesNothing had (shelf.refuses book) found
     → ComesOfList had book shelf shelf result
 not_listed had book shelf (Ok answered) found bad is why = absurd (true≢false (sym bad))
 not_listed had book shelf (Err fault) found bad is why =
-    (subst (ChoosesNothing (shelf.refuses book)) (sym is) why, untouched book shelf)
+    (subst (ChoosesNothing had (shelf.refuses book)) (sym is) why, untouched book shelf)

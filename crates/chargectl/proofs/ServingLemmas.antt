@@ -1,13 +1,13 @@
 -- How connections are served.
-use Rattle.std.proofs.Common.{◌≡◌, ◌∙◌, Bool, true, false, List, [], ◌∷◌, ◌++◌, ℕ, ◌+◌, refl, sym}
+use Rattle.std.proofs.Common.{◌≡◌, ◌∙◌, Bool, true, false, List, [], ◌∷◌, ℕ, ◌+◌, refl, sym}
 use Rattle.std.proofs.Common.{Option, Some, None, Result, Ok, Err, arith, inl, inr, subst}
 use Rattle.std.proofs.Common.{unwrap_or, IfErr}
 use Rattle.streams.specs.InputOutput.{WriterSeen}
-use Rattle.book_model.specs.Words.{Event, IsMadeByCalls, Naming, book_after}
+use Rattle.book_model.specs.Words.{AreMadeOf, Book, Event, Naming}
 use Rattle.book_core.specs.Words.{MakesAnswered, Transition, NoEvent}
 use Rattle.book_core.proofs.FollowLemmas.{none_answered, then_answered}
 use Rattle.book_http.specs.declared.served.Served.{Served}
-use Rattle.book_http.proofs.LawLemmas.{requests_make_history}
+use Rattle.book_http.proofs.LawLemmas.{request_answered}
 use Rattle.named_books.specs.Shelves.{IsUntouched, OpenedAnew}
 use Rattle.named_books.proofs.ShelfLemmas.{done_after, done_then, opened_refused, opened_untouched}
 use Rattle.without_books.specs.declared.ended.Ended.{Ended}
@@ -17,8 +17,8 @@ use Rattle.without_books.proofs.ServedLineLemmas.{gains_then}
 use Rattle.chargectl.specs.ClientRequests.{LeavesLog}
 use Rattle.chargectl.specs.CommandLaws.{AnswersOrNot, OpenedSo, ServesAny, ServesEach}
 use Rattle.chargectl.specs.Requests.{IsServiceFault, Serves, WritesEarly, WritesLines}
-use Rattle.chargectl.specs.Serving.{AnswersSome, Coming, IsServing, IsToldOf, ServesInTurn}
-use Rattle.chargectl.specs.Serving.{ServesOne, line_of, lines_of, ready, service_end}
+use Rattle.chargectl.specs.Serving.{AnswersSome, CameInTurn, Coming, IsServing, IsToldOf, Replies}
+use Rattle.chargectl.specs.Serving.{ServesInTurn, ServesOne, line_of, lines_of, ready, service_end}
 use Rattle.chargectl.proofs.CommandLemmas.{either_as}
 use Rattle.chargectl.proofs.Words.{RepositoryFault, Unseen, Shelf, IsDoneTo, IsOpened, done_as}
 use Rattle.chargectl.proofs.Words.{CommandFault}
@@ -26,32 +26,30 @@ use Rattle.book_http.specs.declared.served.Served.TheVariants as served
 
 -- ---- connections make events that the books answered
 
-some_answered : (naming : Naming) (what : Served) → MakesAnswered naming (AnswersSome naming what)
-some_answered naming what history was events is it answered =
-    (requests_make_history naming history it.bytes it.due was events it.left answered it.made).answered
+some_answered : (naming : Naming) (what : Served)
+    → MakesAnswered naming (AnswersSome naming None what)
+some_answered naming what book was events is it =
+    request_answered naming it.bytes it.due book was events it.left it.made
 
-none_made : (naming : Naming) (history events : List Event) → events ≡ []
-    → IsMadeByCalls naming history → IsMadeByCalls naming (events ++ history)
-none_made naming history events none answered =
-    subst (λ (events : List Event). IsMadeByCalls naming (events ++ history)) (sym none) answered
+none_made : (naming : Naming) (book : Book) (events : List Event) → events ≡ []
+    → AreMadeOf naming book events
+none_made naming book events none = subst (AreMadeOf naming book) (sym none) tt
 
-came_answered : (naming : Naming) (came : Result Served RepositoryFault) (history : List Event)
+came_answered : (naming : Naming) (came : Result Served RepositoryFault) (book : Book)
     (was is : Bool) (events : List Event)
-    → OpenedSo (λ why. Unit {0}) (λ so made. AnswersSome naming so was (book_after history) made is)
-    came events
-    → IsMadeByCalls naming history → IsMadeByCalls naming (events ++ history)
-came_answered naming (Ok so) history was is events it answered =
-    some_answered naming so history was events is it answered
-came_answered naming (Err Unseen) history was is events (refused, inl seen) answered =
-    some_answered naming seen.0 history was events is seen.1 answered
-came_answered naming (Err Unseen) history was is events (refused, inr none) answered =
-    none_made naming history events none answered
-came_answered naming (Err why) history was is events (refused, none) answered =
-    none_made naming history events none answered
+    → OpenedSo (λ why. Unit {0}) (λ so made. AnswersSome naming None so was book made is) came events
+    → AreMadeOf naming book events
+came_answered naming (Ok so) book was is events it = some_answered naming so book was events is it
+came_answered naming (Err Unseen) book was is events (refused, inl seen) =
+    some_answered naming seen.0 book was events is seen.1
+came_answered naming (Err Unseen) book was is events (refused, inr none) =
+    none_made naming book events none
+came_answered naming (Err why) book was is events (refused, none) =
+    none_made naming book events none
 
 replied : (naming : Naming) (what : Served) → MakesAnswered naming (AnswersOrNot naming what)
-replied naming what history was events is it answered =
-    came_answered naming it.came history was is events it.made answered
+replied naming what book was events is it =
+    came_answered naming it.came book was is events it.made
 
 one_answered : (naming : Naming) (what : Served) → MakesAnswered naming (ServesAny naming what)
 one_answered naming served.Closed = none_answered naming
@@ -60,8 +58,7 @@ one_answered naming what = replied naming what
 
 opened_answered : (naming : Naming) (Made : Transition) → MakesAnswered naming Made
     → MakesAnswered naming (OpenedAnew Made)
-opened_answered naming Made makes history was events is it answered =
-    makes history false events it.left it.made answered
+opened_answered naming Made makes book was events is it = makes book false events it.left it.made
 
 pub each_answered : (naming : Naming) (told : List Served)
     → MakesAnswered naming (ServesEach naming told)
@@ -73,13 +70,13 @@ each_answered naming (what ∷ before) =
 
 -- a client that was replied to is such work
 any_done : (book : List ℕ) (what : Served) (old new : Shelf) (came : Result Served RepositoryFault)
-    → IsOpened (AnswersSome old.naming) book old new came → IsToldOf came what
+    → IsOpened (AnswersSome old.naming None) book old new came → IsToldOf came what
     → IsDoneTo book (AnswersOrNot old.naming what) old new
 any_done book what old new (Ok so) done told =
-    done_as book (AnswersSome old.naming so) (AnswersOrNot old.naming what) old new
+    done_as book (AnswersSome old.naming None so) (AnswersOrNot old.naming what) old new
     (λ before events is made. record { came = Ok so; made = made; told = told }) done
 any_done book what old new (Err Unseen) (refused, inl seen) told =
-    done_as book (AnswersSome old.naming seen.0) (AnswersOrNot old.naming what) old new
+    done_as book (AnswersSome old.naming None seen.0) (AnswersOrNot old.naming what) old new
     (λ before events is made. record { came = Err Unseen; made = (tt, inl (seen.0, made)); told = told })
     seen.1
 any_done book what old new (Err Unseen) (refused, inr none) told =
@@ -90,7 +87,7 @@ any_done book what old new (Err why) (refused, none) told =
     done_as book NoEvent (AnswersOrNot old.naming what) old new
     (λ before events is same. record { came = Err why; made = (tt, same.none); told = told }) none
 
-one_done : (book : List ℕ) (what : Served) (old new : Shelf) → ServesOne book what old new
+one_done : (book : List ℕ) (what : Served) (old new : Shelf) → ServesOne book None what old new
     → IsDoneTo book (ServesAny old.naming what) old new
 one_done book served.Closed old new none = none
 one_done book served.ReadFault old new none = none
@@ -115,21 +112,87 @@ turn_after shelf book one two three [] none later =
 turn_after shelf book one two three (what ∷ before) none (between, turn, served) =
     (between, turn_after shelf book one two between before none turn, served)
 
+-- ---- whatever clients sent, they sent some bytes
+
+some_bytes : (naming : Naming) (sent : Option (List ℕ)) (what : Served) (before : Book)
+    (events : List Event) (is : Bool) → AnswersSome naming sent what false before events is
+    → AnswersSome naming None what false before events is
+some_bytes naming sent what before events is it = record {
+  bytes = it.bytes;
+  front = tt;
+  due = it.due;
+  left = it.left;
+  made = it.made;
+  fits = it.fits;
+}
+
+opened_some : (book : List ℕ) (sent : Option (List ℕ)) (old new : Shelf)
+    (came : Result Served RepositoryFault)
+    → IsOpened (AnswersSome old.naming sent) book old new came
+    → IsOpened (AnswersSome old.naming None) book old new came
+opened_some book sent old new (Ok so) done =
+    done_as book (AnswersSome old.naming sent so) (AnswersSome old.naming None so) old new
+    (some_bytes old.naming sent so) done
+opened_some book sent old new (Err Unseen) (refused, inl seen) = (
+  refused,
+  inl (
+    seen.0,
+    done_as book (AnswersSome old.naming sent seen.0) (AnswersSome old.naming None seen.0) old new
+        (some_bytes old.naming sent seen.0) seen.1,
+  ),
+)
+opened_some book sent old new (Err Unseen) (refused, inr none) = (refused, inr none)
+opened_some book sent old new (Err why) (refused, none) = (refused, none)
+
+replies_some : (book : List ℕ) (sent : Option (List ℕ)) (what : Served) (old new : Shelf)
+    → Replies book sent what old new → Replies book None what old new
+replies_some book sent what old new it = record {
+  came = it.came;
+  done = opened_some book sent old new it.came it.done;
+  told = it.told;
+}
+
+one_some : (book : List ℕ) (sent : Option (List ℕ)) (what : Served) (old new : Shelf)
+    → ServesOne book sent what old new → ServesOne book None what old new
+one_some book sent served.Closed old new none = none
+one_some book sent served.ReadFault old new none = none
+one_some book sent what old new it = replies_some book sent what old new it
+
+turn_some : {S C : Type 0} (shelf : S → Shelf) (sent : C → Option (List ℕ)) (may_come : Coming C)
+    (book : List ℕ) (first last : C) (old new : S) (told : List Served)
+    → CameInTurn shelf sent may_come book first last old new told
+    → ServesInTurn shelf book old new told
+turn_some shelf sent may_come book first last old new [] it = it.1
+turn_some shelf sent may_come book first last old new (what ∷ before)
+    (middle, between, earlier, came, served) = (
+  between,
+  turn_some shelf sent may_come book first middle old between before earlier,
+  one_some book (sent middle) what (shelf between) (shelf new) served,
+)
+
+-- connections that came in turn were served in turn
+turn_of : {S C : Type 0} {sent : C → Option (List ℕ)} {may_come : Coming C} {left : C → ℕ}
+    {first last : C} (shelf : S → Shelf) (book : List ℕ) (old new : S) (held holds : WriterSeen)
+    (it : IsServing shelf sent may_come left first last book old new held holds)
+    → ServesInTurn shelf book old new it.told
+turn_of {sent} {may_come} {first} {last} shelf book old new held holds it =
+    turn_some shelf sent may_come book first last old new it.told it.came
+
 -- ---- one after the other
 
 -- one more connection was served
-pub serving_more : {S C : Type 0} (shelf : S → Shelf) (may_come : Coming C) (left : C → ℕ)
-    (first middle last : C) (book : List ℕ) (old between new : S) (held has holds : WriterSeen)
-    (what : Served) → IsServing shelf may_come left first middle book old between held has
-    → may_come middle what last → ServesOne book what (shelf between) (shelf new)
+pub serving_more : {S C : Type 0} (shelf : S → Shelf) (sent : C → Option (List ℕ))
+    (may_come : Coming C) (left : C → ℕ) (first middle last : C) (book : List ℕ)
+    (old between new : S) (held has holds : WriterSeen) (what : Served)
+    → IsServing shelf sent may_come left first middle book old between held has
+    → may_come middle what last → ServesOne book (sent middle) what (shelf between) (shelf new)
     → Gains has holds (line_of what) → left last + 1 ≡ left middle
-    → IsServing shelf may_come left first last book old new held holds
-serving_more shelf may_come left first middle last book old between new held has holds what before came
-    served line one =
+    → IsServing shelf sent may_come left first last book old new held holds
+serving_more shelf sent may_come left first middle last book old between new held has holds what before
+    came served line one =
     record {
       told = what ∷ before.told;
-      came = (middle, before.came, came);
-      turn = (between, before.turn, served);
+      came = (middle, between, before.came, came, served);
       count = let counted = before.count in omega (arith, counted, one);
       lines = gains_then held has holds (lines_of before.told) (line_of what) before.lines line;
     }
@@ -178,19 +241,20 @@ cut_by shelf Refuses book old new requests held holds Failed ended why has_log t
     })
 
 -- a connection did not come
-pub serves_cut : {S C : Type 0} {may_come : Coming C} {left : C → ℕ} {from to : C}
-    (shelf : S → Shelf) (Refuses : RepositoryFault → Type 0) (book : List ℕ) (old new : S)
+pub serves_cut : {S C : Type 0} {sent : C → Option (List ℕ)} {may_come : Coming C} {left : C → ℕ}
+    {from to : C} (shelf : S → Shelf) (Refuses : RepositoryFault → Type 0) (book : List ℕ) (old new : S)
     (requests : ℕ) (held holds : Option (List ℕ)) (Failed : Type 0) (first before after : WriterSeen)
     (ended : Ended) (why : CommandFault) (has_log : Bool)
     → first ≡ unfailed held → Gains first before ready → holds ≡ after.holds
     → ended ≡ record { came = Err why; has_log = has_log; is_change = true; notice = None }
-    → IsServiceFault Refuses why → IsServing shelf may_come left from to book old new before after
+    → IsServiceFault Refuses why
+    → IsServing shelf sent may_come left from to book old new before after
     → (shelf new).has_log book has_log
     → Serves shelf Refuses requests book old new held holds Failed ended
 serves_cut shelf Refuses book old new requests held holds Failed first before after ended why has_log
     begun said bytes is known it log =
     cut_by shelf Refuses book old new requests held holds Failed ended why has_log it.told is known
-    it.turn
+    (turn_of shelf book old new before after it)
     (inl (
       after.has_failed,
       lines_written held holds first before after it.told begun said it.lines bytes,
@@ -215,11 +279,12 @@ serves_none shelf book old new requests held Failed ended why has_log opened is 
     (opened_untouched book (shelf old) (shelf new) opened none) (inr (refl, refl)) log
 
 -- a service of all connections, whose lines were written, or lost from one on
-pub serves_all : {S C : Type 0} {may_come : Coming C} {left : C → ℕ} {from to : C}
-    (shelf : S → Shelf) (book : List ℕ) (old new : S) (requests : ℕ) (held holds : Option (List ℕ))
-    (Failed : Type 0) (first before after : WriterSeen) (failed : Bool) (ended : Ended) (has_log : Bool)
+pub serves_all : {S C : Type 0} {sent : C → Option (List ℕ)} {may_come : Coming C} {left : C → ℕ}
+    {from to : C} (shelf : S → Shelf) (book : List ℕ) (old new : S) (requests : ℕ)
+    (held holds : Option (List ℕ)) (Failed : Type 0) (first before after : WriterSeen)
+    (failed : Bool) (ended : Ended) (has_log : Bool)
     → first ≡ unfailed held → Gains first before ready → left from ≡ requests → left to ≡ 0
-    → IsServing shelf may_come left from to book old new before after
+    → IsServing shelf sent may_come left from to book old new before after
     → holds ≡ after.holds → failed ≡ after.has_failed → (after.has_failed ≡ true → Failed)
     → ended ≡ record {
       came = service_end (Ok failed);
@@ -234,7 +299,7 @@ serves_all shelf book old new requests held holds Failed first before after fail
     subst (λ ended. Serves shelf (λ _. ⊥) requests book old new held holds Failed ended) (sym is)
     (record {
       told = it.told;
-      turn = it.turn;
+      turn = turn_of shelf book old new before after it;
       served = Ok failed;
       all = (
         (let counted = it.count in omega (arith, counted, all, none)),

@@ -39,16 +39,18 @@ most_read = 66_000_001
 abbrev pub front_of : Option (List ℕ) → Option (List ℕ)
 front_of had = option_map (take most_read) had
 
--- its text is no list of names
-pub record IsNoList (why : CommandFault) : Type 0 where
+-- The text that a reader gave is no list of names; where it is known what it had to give, all of that
+-- is none, for the same reason.
+pub record IsNoList (had : Option (List ℕ)) (why : CommandFault) : Type 0 where
   pub text : List ℕ
   pub found : NamesFault
   pub read : names_in text ≡ Err found
+  pub all : IfSome had (λ bytes. names_in bytes ≡ Err found)
   pub is : why ≡ names_fault found
 
 -- the file failed, or its text is no list of names
-abbrev pub IsListFault : CommandFault → Type 0
-IsListFault why = IsFileFault why ⊎ IsNoList why
+abbrev pub IsListFault : Option (List ℕ) → CommandFault → Type 0
+IsListFault had why = IsFileFault why ⊎ IsNoList had why
 
 -- what a visit to the books did that chose the records of these names; without memory for the answers
 -- it chose none
@@ -88,16 +90,16 @@ pub record AnswersList (had : Option (List ℕ)) (book : List ℕ) (old new : Sh
   pub all : AreAllOf (front_of had) names
   pub came : IsListAnswered names book old new answered
 
--- why nothing is chosen, of books that are refused for these reasons
-abbrev pub ChoosesNothing : (RepositoryFault → Type 0) → CommandFault → Type 0
-ChoosesNothing Refuses why = IsShelfFault Refuses why ⊎ IsListFault why
+-- why nothing is chosen by a file that had these bytes, of books that are refused for these reasons
+abbrev pub ChoosesNothing : Option (List ℕ) → (RepositoryFault → Type 0) → CommandFault → Type 0
+ChoosesNothing had Refuses why = IsShelfFault Refuses why ⊎ IsListFault (front_of had) why
 
 -- what came of a list
 abbrev pub ComesOfList : Option (List ℕ) → List ℕ → Shelf → Shelf → Result ListAnswered CommandFault
     → Type 0
 ComesOfList had book old new (Ok answered) = AnswersList had book old new answered
 ComesOfList had book old new (Err why) =
-    ChoosesNothing (old.refuses book) why × IsUntouched book old new
+    ChoosesNothing had (old.refuses book) why × IsUntouched book old new
 
 -- the refusal of the choice on the line of this number, if it was refused
 abbrev pub refusal_end : Option LedgerFault → ℕ → Result (Unit {0}) CommandFault

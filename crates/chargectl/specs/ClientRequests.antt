@@ -87,8 +87,8 @@ pub open_answered : (naming : Naming) (request : WholeRequest) (held holds : Opt
     (told : Result Served Answer) → MakesAnswered naming (AsksOpen naming request held holds told)
 open_answered naming request held holds (Err answer) =
     wanted_answered naming (request_seen request) (reply_of answer)
-open_answered naming request held holds (Ok what) = λ history was events is it.
-    wanted_answered naming (request_seen request) it.reply history was events it.left it.answer
+open_answered naming request held holds (Ok what) = λ book was events is it.
+    wanted_answered naming (request_seen request) it.reply book was events it.left it.answer
 
 -- what is answered where the books were in the way: others had them, or they could not be opened; or it
 -- was not seen that the closed files hold what was done, which may be all of it or nothing

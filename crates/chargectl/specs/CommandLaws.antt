@@ -202,7 +202,7 @@ abbrev pub ListBy : Option (List ℕ) → Naming → List Event → (RepositoryF
     → Result ListAnswered CommandFault → List Event → Type 0
 ListBy had naming history Refuses (Ok answered) made =
     ListOf had naming history Refuses answered made
-ListBy had naming history Refuses (Err why) made = ChoosesNothing Refuses why × (made ≡ [])
+ListBy had naming history Refuses (Err why) made = ChoosesNothing had Refuses why × (made ≡ [])
 
 -- and that was written
 pub record ListOfHistory (had : Option (List ℕ)) (naming : Naming) (history : List Event)
@@ -216,8 +216,8 @@ pub record ListOfHistory (had : Option (List ℕ)) (naming : Naming) (history : 
 pub record AnswersOrNot (naming : Naming) (what : Served) (was : Bool) (before : Book)
     (events : List Event) (is : Bool) : Type 0 where
   pub came : Result Served RepositoryFault
-  pub made : OpenedSo (λ why. Unit {0}) (λ so made. AnswersSome naming so was before made is) came
-      events
+  pub made : OpenedSo (λ why. Unit {0}) (λ so made. AnswersSome naming None so was before made is)
+      came events
   pub told : IsToldOf came what
 
 -- what one connection does to a book, by what became of it

@@ -36,6 +36,7 @@ use Rattle.chargectl.specs.declared.dated_rulings.DatedAnswer.{DatedAnswer}
 use Rattle.chargectl.specs.declared.answered.Answered.{Answered}
 use Rattle.chargectl.specs.Far.{far_notice}
 use Rattle.office.specs.declared.request.Asked.TheVariants as asks
+use Rattle.office.specs.declared.request.OwnedRuling.TheVariants as owned
 use Rattle.office.specs.declared.request.Answer.TheVariants as answers
 use Rattle.command_line.specs.declared.request.BookRequest.TheVariants as book
 use Rattle.command_line.specs.declared.request.Ruling.TheVariants as ruling
@@ -73,12 +74,13 @@ what_if_of form period = option_map (what_if_for form period.number) (asked_cent
 -- The table: what a command asks of the office. The text of a tariff is what the file of that name holds.
 abbrev pub IsAskedBy : Files → BookRequest → Asked → Type 0
 IsAskedBy files (book.Import dump) (asks.Import layout) = layout ≡ dump.layout
-IsAskedBy files (book.Rule (ruling.Tariff file)) (asks.Tariff text) =
+IsAskedBy files (book.Rule (ruling.Tariff file)) (asks.Rule (owned.Tariff text)) =
     IfSome (files file.now) (λ held. string_bytes text ≡ held)
-IsAskedBy files (book.Rule (ruling.Close period date)) (asks.Close number through) =
+IsAskedBy files (book.Rule (ruling.Close period date)) (asks.Rule (owned.Close number through)) =
     (number ≡ period) × (day_of_text_of date.now ≡ Some through)
-IsAskedBy files (book.Rule (ruling.Choose name)) (asks.Choose chosen) = name_in name.now ≡ Some chosen
-IsAskedBy files (book.Rule ruling.Adopt) (asks.Adopt rule) = rule ≡ 2
+IsAskedBy files (book.Rule (ruling.Choose name)) (asks.Rule (owned.Choose chosen)) =
+    name_in name.now ≡ Some chosen
+IsAskedBy files (book.Rule ruling.Adopt) (asks.Rule (owned.Adopt rule)) = rule ≡ 2
 IsAskedBy files (book.Report said) (asks.Report printed) = report_of said ≡ Some printed
 IsAskedBy files (book.WhatIf form period file) (asks.WhatIf report text) =
     (what_if_of form period ≡ Some report) × IfSome (files file.now) (λ held. string_bytes text ≡ held)
@@ -103,8 +105,8 @@ pub record AsksOnce (naming : Naming) (asked : Asked) (had : Option (List ℕ))
 -- one request makes events that the books answered
 pub once_answered : (naming : Naming) (asked : Asked) (had : Option (List ℕ))
     (told : Result Response LedgerFault) → MakesAnswered naming (AsksOnce naming asked had told)
-once_answered naming asked had told history was events is once =
-    asks_answered naming asked once.dump told history was events is once.made
+once_answered naming asked had told book was events is once =
+    asks_answered naming asked once.dump told book was events is once.made
 
 -- what a visit to the books did that asked this once, by its answer
 abbrev pub AsksOnceBy : Naming → Asked → Option (List ℕ) → Result Answer LedgerFault → Transition
@@ -126,8 +128,8 @@ AsksDatedBy naming asked dated =
 -- it makes events that the books answered
 pub dated_answered : (naming : Naming) (asked : Asked) (dated : DatedAnswer)
     → MakesAnswered naming (AsksDatedBy naming asked dated)
-dated_answered naming asked dated history was events is made =
-    once_answered naming asked (Some []) (response_by dated.answer) history was events is made.once
+dated_answered naming asked dated book was events is made =
+    once_answered naming asked (Some []) (response_by dated.answer) book was events is made.once
 
 -- the answer to a ruling of a day
 abbrev pub answer_told : Result DatedAnswer RepositoryFault

@@ -1,13 +1,13 @@
 -- Dry runs: a ruling is tried on a copy of the books. What is answered by the books as they are, what
 -- is done to the copy, and what is told of it.
-use Rattle.std.specs.Prelude.{◌≡◌, ◌⊎◌, Bool, false, ℕ, List, [], ◌++◌, Option, None}
+use Rattle.std.specs.Prelude.{◌≡◌, ◌⊎◌, Bool, false, ℕ, List, [], Option, None}
 use Rattle.std.specs.Prelude.{Result, Ok, Err, IfOk, Vec, string_bytes}
 use Rattle.std.specs.Global.{Global}
 use Rattle.std.proofs.Common.{inl, inr, sym, subst}
 use Rattle.tariff_rules.specs.declared.fault.TariffFault.{TariffFault}
 use Rattle.book_model.specs.declared.fault.LedgerFault.{LedgerFault}
 use Rattle.book_model.specs.declared.fault.LedgerFault.TheVariants.{Memory, TariffRefused}
-use Rattle.book_model.specs.Words.{Book, Event, IsMadeByCalls, Naming, Terms, adopt_outcome, book_after}
+use Rattle.book_model.specs.Words.{AreMadeOf, Book, Event, Naming, Terms, adopt_outcome}
 use Rattle.book_model.specs.Words.{choose_outcome, close_outcome, tariff_outcome, terms_in}
 use Rattle.book_core.specs.Follow.{MakesAnswered}
 use Rattle.book_core.specs.Transition.{Transition}
@@ -19,6 +19,7 @@ use Rattle.book_reports.specs.BookTexts.{shown_by}
 use Rattle.named_books.specs.declared.repository.RepositoryFault.{RepositoryFault}
 use Rattle.office.specs.declared.request.Asked.{Asked}
 use Rattle.office.specs.declared.request.Asked.TheVariants as asks
+use Rattle.office.specs.declared.request.OwnedRuling.TheVariants as owned
 use Rattle.office.specs.declared.request.Answer.{Answer}
 use Rattle.office.specs.declared.request.Answer.TheVariants as answers
 use Rattle.office.specs.Outcomes.{asked_outcome, is_hindered}
@@ -47,16 +48,16 @@ IsAskedFor files request Refuses (Err why) = AsksNothing files request Refuses w
 
 -- A ruling, as its dry run names it: a tariff by its first day.
 abbrev pub IsNamedBy : Asked → TriedRuling → Type 0
-IsNamedBy (asks.Tariff text) named =
+IsNamedBy (asks.Rule (owned.Tariff text)) named =
     (terms : Terms) × (terms_in (string_bytes text) ≡ Ok terms) × (named ≡ tried.Tariff terms.effective)
-IsNamedBy (asks.Close period through) named = named ≡ tried.Close period through
-IsNamedBy (asks.Choose name) named = named ≡ tried.Choose name
-IsNamedBy (asks.Adopt rule) named = named ≡ tried.Adopt
+IsNamedBy (asks.Rule (owned.Close period through)) named = named ≡ tried.Close period through
+IsNamedBy (asks.Rule (owned.Choose name)) named = named ≡ tried.Choose name
+IsNamedBy (asks.Rule (owned.Adopt rule)) named = named ≡ tried.Adopt
 IsNamedBy asked named = ⊥
 
 -- why it has no name: the text is no tariff
 abbrev pub IsUnnamed : Asked → LedgerFault → Type 0
-IsUnnamed (asks.Tariff text) fault =
+IsUnnamed (asks.Rule (owned.Tariff text)) fault =
     (why : TariffFault) × (terms_in (string_bytes text) ≡ Err why) × (fault ≡ TariffRefused why)
 IsUnnamed asked fault = ⊥
 
@@ -84,14 +85,14 @@ tariff_tried naming text (Err why) book = Err (TariffRefused why)
 -- What is told of a ruling that was tried, by the book before it: its refusal, or the text of the figures of
 -- this book and of the book after it.
 abbrev pub TellsDry : Naming → Asked → Book → Result Response LedgerFault → Type 0
-TellsDry naming (asks.Tariff text) book told =
+TellsDry naming (asks.Rule (owned.Tariff text)) book told =
     told ≡ shown_by Text (tariff_tried naming (string_bytes text) (terms_in (string_bytes text)) book)
-TellsDry naming (asks.Close period through) book told =
+TellsDry naming (asks.Rule (owned.Close period through)) book told =
     told ≡ shown_by Text
     (dry_answer naming (tried.Close period through) (close_outcome period through book) book)
-TellsDry naming (asks.Choose name) book told =
+TellsDry naming (asks.Rule (owned.Choose name)) book told =
     told ≡ shown_by Text (dry_answer naming (tried.Choose name) (choose_outcome naming name book) book)
-TellsDry naming (asks.Adopt rule) book told =
+TellsDry naming (asks.Rule (owned.Adopt rule)) book told =
     told ≡ shown_by Text (dry_answer naming tried.Adopt (adopt_outcome rule book) book)
 TellsDry naming asked book told = ⊥
 
@@ -138,15 +139,14 @@ TriesOnceBy naming asked dated =
 -- it makes events that the books answered
 pub tried_answered : (naming : Naming) (asked : Asked) (dated : DatedAnswer)
     → MakesAnswered naming (TriesOnceBy naming asked dated)
-tried_answered naming asked dated history was events is once = made_answered once.made
+tried_answered naming asked dated book was events is once = made_answered once.made
   where
-    made_answered : (events ≡ []) ⊎ IsRuled naming asked was (book_after history) events
-        → IsMadeByCalls naming history → IsMadeByCalls naming (events ++ history)
-    made_answered (inl none) answered =
-        subst (λ events. IsMadeByCalls naming (events ++ history)) (sym none) answered
-    made_answered (inr ruled) answered =
-        asks_answered naming asked (dump_here asked) (response_by ruled.answer) history was events
-        ruled.left ruled.made answered
+    made_answered : (events ≡ []) ⊎ IsRuled naming asked was book events
+        → AreMadeOf naming book events
+    made_answered (inl none) = subst (AreMadeOf naming book) (sym none) tt
+    made_answered (inr ruled) =
+        asks_answered naming asked (dump_here asked) (response_by ruled.answer) book was events
+        ruled.left ruled.made
 
 -- The books of a name were visited as a copy, and this was tried on it once: they are as they were.
 pub record IsTriedOnce (asked : Asked) (book : List ℕ) (old new : Shelf) (answered : Answered) : Type 0

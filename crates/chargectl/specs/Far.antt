@@ -12,7 +12,8 @@ use Rattle.report_texts.specs.Figures.{rows_in}
 use Rattle.book_reports.specs.declared.figures.OpenPeriod.{OpenPeriod}
 use Rattle.book_reports.specs.Figures.{open_in}
 use Rattle.office.specs.declared.request.Asked.{Asked}
-use Rattle.office.specs.declared.request.Asked.TheVariants.{Tariff, Close}
+use Rattle.office.specs.declared.request.Asked.TheVariants.{Rule}
+use Rattle.office.specs.declared.request.OwnedRuling.TheVariants.{Tariff, Close}
 use Rattle.office.specs.Requests.{Response, Ruling}
 use Rattle.without_books.specs.declared.notice.Notice.{Notice}
 use Rattle.without_books.specs.declared.notice.Notice.TheVariants as notice
@@ -49,8 +50,8 @@ first_day (Err fault) = None
 
 -- the day of a ruling, where it has one
 abbrev pub day_asked : Asked → Option ℤ
-day_asked (Tariff text) = first_day (terms_in (string_bytes text))
-day_asked (Close period through) = Some through
+day_asked (Rule (Tariff text)) = first_day (terms_in (string_bytes text))
+day_asked (Rule (Close period through)) = Some through
 day_asked asked = None
 
 -- its day is far from a book

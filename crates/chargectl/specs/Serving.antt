@@ -1,7 +1,7 @@
 -- How connections are served: each in turn, with one line for each. A line that can't be written is
 -- lost, and so are those after it; the connections are served all the same.
 use Rattle.std.specs.Prelude.{◌≡◌, ◌+◌, Bool, true, false, ℕ, List, [], ◌∷◌, ◌++◌, codes, length}
-use Rattle.std.specs.Prelude.{Result, Ok, Err, decimal}
+use Rattle.std.specs.Prelude.{IfSome, None, Option, Result, Ok, Err, decimal}
 use Rattle.std.specs.declared.io.Error.{Error}
 use Rattle.streams.specs.InputOutput.{WriterSeen}
 use Rattle.book_model.specs.Words.{Book, Event, Naming}
@@ -24,10 +24,16 @@ abbrev pub Fits : Served → Reply → Type 0
 Fits (served.Answered status) reply = status ≡ status_code reply.status
 Fits what reply = Unit {0}
 
--- some bytes came, the books did what they ask, and what is due to that fits what is told
-pub record AnswersSome (naming : Naming) (what : Served) (was : Bool) (before : Book)
-    (events : List Event) (is : Bool) : Type 0 where
+-- These bytes are the first of what a client sends, where that is known.
+abbrev pub IsFrontOf : Option (List ℕ) → List ℕ → Type 0
+IsFrontOf sent bytes = IfSome sent (λ all. (rest : List ℕ) × (all ≡ bytes ++ rest))
+
+-- Some bytes came of what a client sends, the books did what they ask, and what is due to that fits what
+-- is told.
+pub record AnswersSome (naming : Naming) (sent : Option (List ℕ)) (what : Served) (was : Bool)
+    (before : Book) (events : List Event) (is : Bool) : Type 0 where
   pub bytes : List ℕ
+  pub front : IsFrontOf sent bytes
   pub due : Reply
   pub left : Bool
   pub made : Answers naming bytes due was before events left
@@ -40,29 +46,32 @@ IsToldOf (Err why) what = Fits what (away_reply why)
 
 -- One client was replied to: what its bytes ask was done to the books of a name; or their place, as it
 -- was before, refused them.
-pub record Replies (book : List ℕ) (what : Served) (old new : Shelf) : Type 0 where
+pub record Replies (book : List ℕ) (sent : Option (List ℕ)) (what : Served) (old new : Shelf)
+    : Type 0 where
   pub came : Result Served RepositoryFault
-  pub done : IsOpened (AnswersSome old.naming) book old new came
+  pub done : IsOpened (AnswersSome old.naming sent) book old new came
   pub told : IsToldOf came what
 
--- What one connection does to the books of a name, by what became of it.
-abbrev pub ServesOne : List ℕ → Served → Shelf → Shelf → Type 0
-ServesOne book served.Closed old new = IsUntouched book old new
-ServesOne book served.ReadFault old new = IsUntouched book old new
-ServesOne book what old new = Replies book what old new
+-- What one connection does to the books of a name, by what it sends, where that is known, and by what
+-- became of it.
+abbrev pub ServesOne : List ℕ → Option (List ℕ) → Served → Shelf → Shelf → Type 0
+ServesOne book sent served.Closed old new = IsUntouched book old new
+ServesOne book sent served.ReadFault old new = IsUntouched book old new
+ServesOne book sent what old new = Replies book sent what old new
 
 -- so it is with one client; and whether it left a log beside the books
-pub record Attends {S : Type 0} (shelf : S → Shelf) (book : List ℕ) (old new : S)
-    (attended : Attended) : Type 0 where
-  pub done : ServesOne book attended.served (shelf old) (shelf new)
+pub record Attends {S : Type 0} (shelf : S → Shelf) (book : List ℕ) (sent : Option (List ℕ))
+    (old new : S) (attended : Attended) : Type 0 where
+  pub done : ServesOne book sent attended.served (shelf old) (shelf new)
   pub log : LeavesLog shelf book old new attended.log
 
--- Connections in turn, the newest first: each found the books where the one before it left them.
+-- Connections in turn, the newest first: each found the books where the one before it left them. Of the
+-- sockets of a machine it is not known what they send.
 abbrev pub ServesInTurn : {S : Type 0} → (S → Shelf) → List ℕ → S → S → List Served → Type 0
 ServesInTurn shelf book old new [] = IsUntouched book (shelf old) (shelf new)
 ServesInTurn {S} shelf book old new (what ∷ before) =
     (between : S) × ServesInTurn shelf book old between before
-    × ServesOne book what (shelf between) (shelf new)
+    × ServesOne book None what (shelf between) (shelf new)
 
 -- an answer was sent whole
 abbrev pub is_answered : Served → Bool
@@ -91,20 +100,24 @@ abbrev pub Coming : Type 0 → Type 1
 Coming C = C → Served → C → Type 0
 
 -- From the first of these connections to the last they came one after the other, and this became of
--- each, the newest first.
-abbrev pub CameInTurn : {C : Type 0} → Coming C → C → C → List Served → Type 0
-CameInTurn may_come first last [] = last ≡ first
-CameInTurn {C} may_come first last (what ∷ before) =
-    (between : C) × CameInTurn may_come first between before × may_come between what last
+-- each, the newest first, by what it sends: each found the books where the one before it left them.
+abbrev pub CameInTurn : {S C : Type 0} → (S → Shelf) → (C → Option (List ℕ)) → Coming C → List ℕ
+    → C → C → S → S → List Served → Type 0
+CameInTurn shelf sent may_come book first last old new [] =
+    (last ≡ first) × IsUntouched book (shelf old) (shelf new)
+CameInTurn {S} {C} shelf sent may_come book first last old new (what ∷ before) =
+    (middle : C) × (between : S)
+    × CameInTurn shelf sent may_come book first middle old between before
+    × may_come middle what last × ServesOne book (sent middle) what (shelf between) (shelf new)
 
 -- Of the connections that were due these are left last. The others came and were served one after the other,
 -- whatever is known of the books, and each has the line of what became of it, up to a write that failed, if
 -- one did.
-pub record IsServing {S C : Type 0} (shelf : S → Shelf) (may_come : Coming C) (left : C → ℕ)
-    (first last : C) (book : List ℕ) (old new : S) (held holds : WriterSeen) : Type 0 where
+pub record IsServing {S C : Type 0} (shelf : S → Shelf) (sent : C → Option (List ℕ))
+    (may_come : Coming C) (left : C → ℕ) (first last : C) (book : List ℕ) (old new : S)
+    (held holds : WriterSeen) : Type 0 where
   pub told : List Served
-  pub came : CameInTurn may_come first last told
-  pub turn : ServesInTurn shelf book old new told
+  pub came : CameInTurn shelf sent may_come book first last old new told
   pub count : left last + length told ≡ left first
   pub lines : Gains held holds (lines_of told)
 
@@ -123,11 +136,11 @@ EndsWith may_fail last new (Ok done) = new ≡ last
 EndsWith may_fail last new (Err error) = may_fail last error new
 
 -- Connections were served until none was left; nothing but one that did not come ended that early.
-pub record ServesUntil {S C : Type 0} (shelf : S → Shelf) (may_come : Coming C)
-    (may_fail : NotComing C) (left : C → ℕ) (first new : C) (book : List ℕ) (old after : S)
-    (held holds : WriterSeen) (result : Result (Unit {0}) Error) : Type 0 where
+pub record ServesUntil {S C : Type 0} (shelf : S → Shelf) (sent : C → Option (List ℕ))
+    (may_come : Coming C) (may_fail : NotComing C) (left : C → ℕ) (first new : C) (book : List ℕ)
+    (old after : S) (held holds : WriterSeen) (result : Result (Unit {0}) Error) : Type 0 where
   pub last : C
-  pub serving : IsServing shelf may_come left first last book old after held holds
+  pub serving : IsServing shelf sent may_come left first last book old after held holds
   pub ends : EndsWith may_fail last new result
   pub count : left_by result (left new) ≡ left last
 

@@ -4,7 +4,7 @@ use Rattle.std.specs.Prelude.{◌≡◌, Bool, false, ℕ, List, ◌++◌, Optio
 use Rattle.std.specs.Prelude.{IfErr, OnErr, OnOk, option_and_then}
 use Rattle.std.proofs.Common.{sym, subst}
 use Rattle.book_model.specs.declared.fault.LedgerFault.{LedgerFault}
-use Rattle.book_model.specs.Words.{Book, IsMadeByCalls, Naming}
+use Rattle.book_model.specs.Words.{AreMadeOf, Book, Naming}
 use Rattle.book_core.specs.Words.{MakesAnswered}
 use Rattle.book_reports.specs.declared.fault.ReportFault.{ReportFault}
 use Rattle.book_reports.specs.declared.fault.ReportFault.TheVariants.{Write}
@@ -81,8 +81,8 @@ list_of asked = option_and_then (list_about asked.name asked.form) (about_of ask
 pub listing_answered : (answer : Naming → Book → Result (List ℕ) LedgerFault) (naming : Naming)
     (held holds : Option (List ℕ)) (told : Result (Unit {0}) ReportFault)
     → MakesAnswered naming (WritesAnswerUntil answer naming held holds told)
-listing_answered answer naming held holds told history was events is it answered =
-    subst (λ events. IsMadeByCalls naming (events ++ history)) (sym it.none) answered
+listing_answered answer naming held holds told book was events is it =
+    subst (AreMadeOf naming book) (sym it.none) tt
 
 -- what came of the list: it was written whole, or not, or the books were not opened
 abbrev pub list_end : Result (Result (Unit {0}) ReportFault) RepositoryFault

@@ -6,7 +6,7 @@ ghost use Rattle.chargectl.specs.DryRuns.{IsAskedFor};
 
 use command_line::{BookRequest, Ruling};
 use named_books::Repository;
-use office::Asked;
+use office::{Asked, OwnedRuling};
 use program_output::name_of_text;
 use smf_text::day_of_text;
 use std::alloc::Global;
@@ -47,7 +47,7 @@ fn asked_tariff<S: Repository, F: Inputs>(
 {
     repository.expect(book)?;
     let text = tariff_text(alloc, inputs, file)?;
-    Ok(Asked::Tariff(text))
+    Ok(Asked::Rule(OwnedRuling::Tariff(text)))
 }
 
 /// What is asked for a close.
@@ -65,7 +65,7 @@ fn asked_close<S: Repository>(
         None => return Err(CommandFault::Argument),
     };
     repository.expect(book)?;
-    Ok(Asked::Close { period, through })
+    Ok(Asked::Rule(OwnedRuling::Close { period, through }))
 }
 
 /// What is asked for a choice.
@@ -82,7 +82,7 @@ fn asked_choice<S: Repository>(
         None => return Err(CommandFault::Argument),
     };
     repository.expect(book)?;
-    Ok(Asked::Choose(chosen))
+    Ok(Asked::Rule(OwnedRuling::Choose(chosen)))
 }
 
 /// What is asked for the adoption of the later rule of identity.
@@ -91,5 +91,5 @@ fn asked_adoption<S: Repository>(repository: &S, book: &str) -> Result<Asked, Co
         ((S.shelf repository.now).refuses book.now) result }
 {
     repository.expect(book)?;
-    Ok(Asked::Adopt(LATER_RULE))
+    Ok(Asked::Rule(OwnedRuling::Adopt(LATER_RULE)))
 }

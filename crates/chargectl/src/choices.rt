@@ -99,7 +99,7 @@ fn read_list<F: Inputs>(
     ensures listed { IfOk result (λ names. AreListed names.items) }
     ensures all { IfOk result (λ names. AreAllOf (front_of (F.held inputs.now file.now))
         names.items) }
-    ensures refused { IfErr result IsListFault }
+    ensures refused { IfErr result (IsListFault (front_of (F.held inputs.now file.now))) }
 {
     let input = inputs.open(file)?;
     read_front(alloc, input)
@@ -110,7 +110,7 @@ fn read_list<F: Inputs>(
 fn read_front<R: Read + Drop>(alloc: Global, reader: R) -> Result<Vec<[u8; 32]>, CommandFault>
     ensures listed { IfOk result (λ names. AreListed names.items) }
     ensures all { IfOk result (λ names. AreAllOf (front_of (R.remaining reader)) names.items) }
-    ensures refused { IfErr result IsListFault }
+    ensures refused { IfErr result (IsListFault (front_of (R.remaining reader))) }
 {
     let buffered = BufReader::new(alloc, reader)?;
     read_names(alloc, buffered.take(MOST_BYTES))
@@ -120,7 +120,7 @@ fn read_front<R: Read + Drop>(alloc: Global, reader: R) -> Result<Vec<[u8; 32]>,
 fn read_names<R: Read + Drop>(alloc: Global, reader: R) -> Result<Vec<[u8; 32]>, CommandFault>
     ensures listed { IfOk result (λ names. AreListed names.items) }
     ensures all { IfOk result (λ names. AreAllOf (R.remaining reader) names.items) }
-    ensures refused { IfErr result IsListFault }
+    ensures refused { IfErr result (IsListFault (R.remaining reader)) }
 {
     let mut list = NameList::new(alloc);
     for byte in reader.bytes() {

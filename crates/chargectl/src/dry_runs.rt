@@ -18,7 +18,7 @@ use book_core::{Ledger, LedgerFault, Tariff};
 use book_reports::{open_period, period_figures};
 use command_line::{BookRequest, Ruling};
 use named_books::{Opened, Repository, Visit};
-use office::{Answer, Asked, ask_without_reader};
+use office::{Answer, Asked, OwnedRuling, ask_without_reader};
 use report_texts::{Figures, TriedRuling, dry_run_text};
 use std::alloc::Global;
 use without_books::{CommandFault, Inputs, Notice};
@@ -131,13 +131,15 @@ fn named(alloc: Global, asked: &Asked) -> Result<TriedRuling, LedgerFault>
     ensures refused { IfErr result (λ fault. (fault ≡ Memory) ⊎ IsUnnamed asked.now fault) }
 {
     match asked {
-        Asked::Tariff(text) => Ok(TriedRuling::Tariff(Tariff::parse(alloc, text)?.effective())),
-        Asked::Close { period, through } => Ok(TriedRuling::Close {
+        Asked::Rule(OwnedRuling::Tariff(text)) => {
+            Ok(TriedRuling::Tariff(Tariff::parse(alloc, text)?.effective()))
+        }
+        Asked::Rule(OwnedRuling::Close { period, through }) => Ok(TriedRuling::Close {
             period: *period,
             through: *through,
         }),
-        Asked::Choose(name) => Ok(TriedRuling::Choose(*name)),
-        Asked::Adopt(_) => Ok(TriedRuling::Adopt),
+        Asked::Rule(OwnedRuling::Choose(name)) => Ok(TriedRuling::Choose(*name)),
+        Asked::Rule(OwnedRuling::Adopt(_)) => Ok(TriedRuling::Adopt),
         // Nothing else is a ruling.
         _ => Err(LedgerFault::Memory),
     }

@@ -11,7 +11,7 @@ ghost use Rattle.chargectl.specs.Far as spec;
 
 use book_core::{ChargeRow, Ledger, LedgerFault, Ruled, Tariff};
 use book_reports::{OpenPeriod, open_period, rows_of_period};
-use office::{Answer, Asked};
+use office::{Answer, Asked, OwnedRuling};
 use std::alloc::Global;
 use tariff_rules::TariffFault;
 use without_books::Notice;
@@ -63,8 +63,8 @@ fn day_asked(alloc: Global, asked: &Asked) -> Result<Option<i32>, LedgerFault>
     ensures memory { IfErr result (λ fault. fault ≡ LedgerFault.Memory) }
 {
     match asked {
-        Asked::Close { through, .. } => Ok(Some(*through)),
-        Asked::Tariff(text) => first_day(alloc, text.as_str()),
+        Asked::Rule(OwnedRuling::Close { through, .. }) => Ok(Some(*through)),
+        Asked::Rule(OwnedRuling::Tariff(text)) => first_day(alloc, text.as_str()),
         _ => Ok(None),
     }
 }

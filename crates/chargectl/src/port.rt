@@ -17,12 +17,16 @@ use streams::{Reader, Writer};
 
 /// A given number of connections, one after the other: those to a port, or any others.
 pub trait Connections {
-    ghost use Rattle.std.specs.Prelude.{ℕ, ◌≡◌, ◌<◌, ◌+◌, ◌==◌, IfErr, IfOk, OnErr};
+    ghost use Rattle.std.specs.Prelude.{ℕ, ◌≡◌, ◌<◌, ◌+◌, ◌==◌, IfErr, IfOk, List, None, OnErr};
+    ghost use Rattle.std.specs.Prelude.{Option};
     ghost use Rattle.std.specs.declared.io.Error.{Error};
     ghost use Rattle.chargectl.specs.Serving.{Attends, Coming};
 
     /// How many are left to be answered.
     ghost left: { Self → ℕ };
+
+    /// The bytes that the next one sends, where they are known.
+    ghost sent: { Self → Option (List ℕ) } = { λ _. None };
 
     /// The next one may come, this may become of it, and such connections may be left. Only a wait
     /// shows it, so a clause can say that what is told of a connection became of one.
@@ -41,7 +45,8 @@ pub trait Connections {
     fn next<S: Repository>(&mut self, repository: &mut S, book: &str) -> io::Result<Attended>
         requires { 0 < left self.old }
         ensures left { left self.new + 1 ≡ left self.old }
-        ensures served { IfOk result (Attends S.shelf book.now repository.old repository.new) }
+        ensures served { IfOk result (Attends S.shelf book.now (sent self.old) repository.old
+            repository.new) }
         ensures came { IfOk result (λ attended. may_come self.old attended.served self.new) }
         ensures none { OnErr result (repository.new ≡ repository.old) }
         ensures failed { IfErr result (λ error. may_fail self.old error self.new) };
@@ -119,7 +124,7 @@ fn answer_stream<S: Repository>(
     repository: &mut S,
     book: &str,
 ) -> Attended
-    ensures { Attends S.shelf book.now repository.old repository.new result }
+    ensures { Attends S.shelf book.now None repository.old repository.new result }
 {
     let patience = Client::patience();
     let Ok(client) = Client::accepted(rt, stream, &patience) else {
@@ -138,7 +143,8 @@ pub fn answer_peer<P: Peer + Drop, S: Repository>(
     repository: &mut S,
     book: &str,
 ) -> (Attended, P)
-    ensures served { Attends S.shelf book.now repository.old repository.new result.0 }
+    ensures served { Attends S.shelf book.now (P.remaining peer) repository.old repository.new
+        result.0 }
 
     // It is answered by what reads of it gave, each of which was due; and the books are not opened
     // for a request that asks nothing of them.

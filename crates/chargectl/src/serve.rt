@@ -136,7 +136,7 @@ pub fn serve_each<C: Connections, S: Repository, O: Writer + Drop>(
     requires { (S.shelf repository.old).has_log book.now has_log }
 
     // No fault of the output or of the books ends it early.
-    ensures served { ServesUntil S.shelf C.may_come C.may_fail C.left connections.old
+    ensures served { ServesUntil S.shelf C.sent C.may_come C.may_fail C.left connections.old
         connections.new book.now repository.old repository.new
         (seen_of O.contents lines.old) (seen_of O.contents lines.new) result.0 }
     ensures all { OnOk result.0 (C.left connections.new ≡ 0) }

@@ -31,7 +31,7 @@ pub trait Visit {
             (work (L.seen books.old).naming self.old self.new result) }
         ensures came { comes self.old self.new result };
 
-    /// What it makes of books that calls made, calls made.
+    /// What it makes of any book, calls make of it.
     ghost answered: { (naming : Naming) (it after : Self) (answer : Self.Answer)
         → MakesAnswered naming (work naming it after answer) };
 }

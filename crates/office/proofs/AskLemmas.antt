@@ -4,17 +4,17 @@ use Rattle.std.proofs.Props.{props}
 use Rattle.streams.specs.InputOutput.{ReaderSeen, Input}
 use Rattle.book_model.specs.declared.fault.LedgerFault.{LedgerFault}
 use Rattle.book_model.specs.declared.fault.LedgerFault.TheVariants.{Memory, Store, Reopen}
-use Rattle.book_model.specs.Words.{Book, Event, Outcome}
+use Rattle.book_model.specs.Words.{Book, CloseAsked, Event, HasDay, Outcome, RulingAsked}
 use Rattle.book_core.specs.Calls.{Calls}
 use Rattle.book_core.specs.Ledgers.{Seen, Books}
 use Rattle.book_core.specs.Transition.{IsTransition}
 use Rattle.book_core.proofs.TransitionLemmas.{work_as}
 use Rattle.book_reports.specs.BookTexts.{shown_by}
 use Rattle.office.specs.declared.request.Asked.{Asked}
-use Rattle.office.specs.declared.request.Asked.TheVariants.{Tariff, Close, Choose, Adopt, Import}
+use Rattle.office.specs.declared.request.Asked.TheVariants.{Import, Rule}
 use Rattle.office.specs.declared.request.Answer.{Answer}
 use Rattle.office.specs.Requests.{Dump, Response, response_outcome, response_by, IsAskable, IsAskableUnread, Gives, Asks}
-use Rattle.office.specs.Requests.{IsAskableRuling, IsAsked}
+use Rattle.office.specs.Requests.{IsAskableRuling, IsAsked, ruling_of}
 use Rattle.office.specs.Runs.{IsAskableWithoutReader}
 
 -- a call of the ledger, as an answer
@@ -71,27 +71,29 @@ pub as_asked : {books : Books} {asked : Asked} {answer : Result Answer LedgerFau
 as_asked {books = books} {answer = answer} same {input = input} is done =
     subst (λ asked. IsAsked asked answer books input) (sym is) done
 
--- there is at most one proof that it may be asked
+-- there is at most one proof that a ruling has a day,
+day_once : (ruling : RulingAsked) → IsProp (HasDay ruling)
+day_once (CloseAsked period through) = hlevel props
+day_once other = hlevel props
+
+-- nor more than one that it may be asked,
 pub askable_once : (asked : Asked) → IsProp (IsAskableUnread asked)
-askable_once (Tariff text) = hlevel props
+askable_once (Rule ruling) = day_once (ruling_of ruling)
 askable_once other = hlevel props
 
 -- nor more than one that it is a ruling that may be
 pub ruling_once : (asked : Asked) → IsProp (IsAskableRuling asked)
-ruling_once (Tariff text) = hlevel props
+ruling_once (Rule ruling) = day_once (ruling_of ruling)
 ruling_once other = hlevel props
 
 -- a ruling may be asked with no reader at hand
 pub ruling_alone : (asked : Asked) → IsAskableRuling asked → IsAskableWithoutReader asked
-ruling_alone (Tariff text) may = tt
-ruling_alone (Close period through) may = may
-ruling_alone (Choose name) may = tt
-ruling_alone (Adopt rule) may = tt
+ruling_alone (Rule ruling) may = may
 ruling_alone other may = absurd may
 
 -- it may be asked whatever reader is at hand
 pub askable_with : (asked : Asked) (reader : ReaderSeen) → IsAskableWithoutReader asked
     → IsAskable asked reader
-askable_with (Close period through) reader alone = alone
+askable_with (Rule ruling) reader alone = alone
 askable_with (Import layout) reader alone = absurd alone
 askable_with other reader alone = tt

@@ -7,11 +7,12 @@ use Rattle.book_model.specs.declared.answer.Ruled.{Ruled}
 use Rattle.book_model.specs.declared.fault.LedgerFault.{LedgerFault}
 use Rattle.book_model.specs.declared.fault.LedgerFault.TheVariants.{Memory, Store, Reopen}
 use Rattle.book_model.specs.Words.{Book, Event, Naming, Outcome, after_all, choose_outcome}
+use Rattle.book_model.specs.Words.{ChoiceAsked}
 use Rattle.book_core.specs.Calls.{listed}
 use Rattle.book_core.specs.Follow.{MakesAnswered}
 use Rattle.book_core.specs.Ledgers.{Seen}
 use Rattle.book_core.specs.Transition.{IsTransition, NoEvent, Then}
-use Rattle.book_core.proofs.FollowLemmas.{choose_answered, none_answered, then_answered}
+use Rattle.book_core.proofs.FollowLemmas.{none_answered, ruling_answered, then_answered}
 use Rattle.book_core.proofs.ThenLemmas.{last_two, next_as, nothing_more, nothing_then}
 use Rattle.book_core.proofs.TransitionLemmas.{Implies, work_as, work_then}
 use Rattle.office.specs.Choices.{Chooses, ChoosesEach, ChoicesOutcome, are_hindered}
@@ -105,14 +106,14 @@ choice_refused old now new names answers i d refusal small before made =
 pub choices_answered : (naming : Naming) (names : List (List ℕ)) (answers : List Ruled)
     (refusal : Option LedgerFault) → MakesAnswered naming (ChoosesEach naming names answers refusal)
 choices_answered naming [] [] None = none_answered naming
-choices_answered naming [] [] (Some refusal) = λ history was events is never. absurd never
-choices_answered naming [] (ruled ∷ answers) refusal = λ history was events is never. absurd never
-choices_answered naming (name ∷ names) [] None = λ history was events is never. absurd never
+choices_answered naming [] [] (Some refusal) = λ book was events is never. absurd never
+choices_answered naming [] (ruled ∷ answers) refusal = λ book was events is never. absurd never
+choices_answered naming (name ∷ names) [] None = λ book was events is never. absurd never
 choices_answered naming (name ∷ names) [] (Some refusal) =
-    choose_answered naming (λ ruled. ruled) name (Err refusal)
+    ruling_answered naming (λ ruled. ruled) (ChoiceAsked name) (Err refusal)
 choices_answered naming (name ∷ names) (ruled ∷ answers) refusal =
     then_answered naming (Chooses naming name (Ok ruled)) (ChoosesEach naming names answers refusal)
-    (choose_answered naming (λ ruled. ruled) name (Ok ruled))
+    (ruling_answered naming (λ ruled. ruled) (ChoiceAsked name) (Ok ruled))
     (choices_answered naming names answers refusal)
 
 -- a refusal of open books is the one that the definitions say, unless memory or the store hindered it

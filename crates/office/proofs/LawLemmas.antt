@@ -2,20 +2,20 @@
 use Rattle.std.proofs.Common.{◌≡◌, ◌∙◌, Bool, true, false, ℕ, List, [], ◌∷◌, ◌++◌, Result, Ok, Err}
 use Rattle.std.proofs.Common.{inr, refl, sym, ap, subst, true≢false}
 use Rattle.std.specs.Prelude.{string_bytes}
+use Rattle.book_model.specs.MadeByCalls.{AreMadeOf}
 use Rattle.book_model.specs.declared.fault.LedgerFault.{LedgerFault}
 use Rattle.book_model.specs.declared.fault.LedgerFault.TheVariants.{Memory, Store, Reopen}
 use Rattle.book_model.specs.Words.{front, IsMadeByCalls, Book, new_book, Event, after_all, book_after}
-use Rattle.book_model.specs.Words.{book_of, Outcome, tariff_outcome, close_outcome}
-use Rattle.book_model.specs.Words.{choose_outcome, adopt_outcome, Naming}
+use Rattle.book_model.specs.Words.{book_of, Outcome, rule_outcome, Naming}
 use Rattle.book_model.proofs.OrderLemmas.{order_is_free}
 use Rattle.book_model.proofs.StepLemmas.{books_follow_history}
 use Rattle.book_core.specs.Calls.{Calls, listed}
 use Rattle.book_core.specs.Ledgers.{Seen, IsOpenAt}
-use Rattle.book_core.proofs.FollowLemmas.{calls_answered, tariff_answered}
+use Rattle.book_core.proofs.FollowLemmas.{calls_answered, ruling_answered}
 use Rattle.book_core.specs.Follow.{MakesAnswered}
-use Rattle.book_core.proofs.FollowLemmas.{adopt_answered, choose_answered, close_answered}
 use Rattle.book_core.proofs.TransitionLemmas.{after_all-append}
 use Rattle.book_import.specs.Dumps.{stop_after}
+use Rattle.book_core.proofs.FollowLemmas.{history_goes_on}
 use Rattle.book_import.proofs.RepeatLemmas.{is_whole}
 use Rattle.book_import.proofs.EventLemmas.{import_answered}
 use Rattle.book_reports.specs.declared.report.Report as report
@@ -23,10 +23,10 @@ use Rattle.book_reports.specs.declared.what_if.WhatIf as what_if
 use Rattle.book_reports.specs.BookTexts.{report_outcome}
 use Rattle.book_reports.specs.WhatIfTexts.{what_if_report}
 use Rattle.office.specs.declared.request.Asked.{Asked}
-use Rattle.office.specs.declared.request.Asked.TheVariants.{Tariff, Close, Choose, Adopt, Import}
-use Rattle.office.specs.declared.request.Asked.TheVariants.{ImportBytes, Report, WhatIf}
+use Rattle.office.specs.declared.request.Asked.TheVariants.{Import, ImportBytes, Report, Rule}
+use Rattle.office.specs.declared.request.Asked.TheVariants.{WhatIf}
 use Rattle.office.specs.Requests.{Dump, Response, Ruling, Count, Text, response_by, response_outcome}
-use Rattle.office.specs.Requests.{Receives, Asks}
+use Rattle.office.specs.Requests.{Receives, Asks, ruling_of}
 use Rattle.office.specs.Outcomes.{AskedOutcome, events_by, asked_outcome_by, import_asked_outcome, asked_outcome, is_hindering, is_hindered}
 use Rattle.office.specs.Laws.{AnswersAreFree, AnswersFollowBook, AnswersFollowHistory, AreAnswered}
 use Rattle.office.specs.Laws.{AreAnsweredAfter, AreAnsweredOf, DiffersAsAllowed, Exchange}
@@ -36,11 +36,10 @@ use Rattle.office.proofs.LeavingLemmas.{work_leaves, open_earlier}
 -- the event of an outcome is answered, if calls with it make only answered events
 event_answered : {A : Type 0} (naming : Naming) (outcome : Book → Outcome A)
     → MakesAnswered naming (Calls {V = A} (λ value. value) outcome (Err Store))
-    → (history : List Event) → IsMadeByCalls naming history
-    → IsMadeByCalls naming (listed (outcome (book_after history)).event ++ history)
-event_answered naming outcome makes history answered =
-    makes history false (listed (outcome (book_after history)).event) true
-    (record { makes = inr refl; reopens = record { reopen = refl; store = refl } }) answered
+    → (book : Book) → AreMadeOf naming book (listed (outcome book).event)
+event_answered naming outcome makes book =
+    makes book false (listed (outcome book).event) true
+    (record { makes = inr refl; reopens = record { reopen = refl; store = refl } })
 
 told_answered : {A : Type 0} (naming : Naming) (say : A → Response) (outcome : Book → Outcome A)
     (told : Result Response LedgerFault)
@@ -55,7 +54,7 @@ report_answered : (naming : Naming) (report : report.Report) (told : Result Resp
     → MakesAnswered naming (Calls (λ told. told) (response_outcome Text (report_outcome naming report)) told)
 report_answered naming report told =
     calls_answered naming (λ told. told) (response_outcome Text (report_outcome naming report)) told
-    (λ history answered. answered)
+    (λ book. tt)
 
 -- nor is what a period would have cost by another tariff
 what_if_answered : (naming : Naming) (asked : what_if.WhatIf) (tariff : List ℕ)
@@ -64,32 +63,23 @@ what_if_answered : (naming : Naming) (asked : what_if.WhatIf) (tariff : List ℕ
     (Calls (λ told. told) (response_outcome Text (what_if_report asked tariff)) told)
 what_if_answered naming asked tariff told =
     calls_answered naming (λ told. told) (response_outcome Text (what_if_report asked tariff)) told
-    (λ history answered. answered)
+    (λ book. tt)
 
 pub receives_answered : (naming : Naming) (dump : Dump) (told : Result Response LedgerFault)
     → MakesAnswered naming (Receives naming dump told)
 receives_answered naming dump (Ok (Count receipt)) =
     let found = front dump.layout dump.bytes in
     import_answered naming (stop_after dump.cut found) found.records receipt
-receives_answered naming dump (Ok (Ruling ruled)) = λ history was events is never. absurd never
-receives_answered naming dump (Ok (Text text)) = λ history was events is never. absurd never
-receives_answered naming dump (Err fault) = λ history was events is never. absurd never
+receives_answered naming dump (Ok (Ruling ruled)) = λ book was events is never. absurd never
+receives_answered naming dump (Ok (Text text)) = λ book was events is never. absurd never
+receives_answered naming dump (Err fault) = λ book was events is never. absurd never
 
 -- a request makes only events that the books answered
 pub asks_answered : (naming : Naming) (asked : Asked) (dump : Dump) (told : Result Response LedgerFault)
     → MakesAnswered naming (Asks naming asked dump told)
-asks_answered naming (Tariff text) dump told =
-    told_answered naming Ruling (tariff_outcome (string_bytes text)) told
-    (tariff_answered naming (λ value. value) (string_bytes text) (Err Store))
-asks_answered naming (Close period through) dump told =
-    told_answered naming Ruling (close_outcome period through) told
-    (close_answered naming (λ value. value) period through (Err Store))
-asks_answered naming (Choose name) dump told =
-    told_answered naming Ruling (choose_outcome naming name) told
-    (choose_answered naming (λ value. value) name (Err Store))
-asks_answered naming (Adopt rule) dump told =
-    told_answered naming Ruling (adopt_outcome rule) told
-    (adopt_answered naming (λ value. value) rule (Err Store))
+asks_answered naming (Rule ruling) dump told =
+    told_answered naming Ruling (rule_outcome naming (ruling_of ruling)) told
+    (ruling_answered naming (λ value. value) (ruling_of ruling) (Err Store))
 asks_answered naming (Import layout) dump told = receives_answered naming dump told
 asks_answered naming (ImportBytes layout bytes) dump told = receives_answered naming dump told
 asks_answered naming (Report report) dump told = report_answered naming report told
@@ -210,8 +200,9 @@ told_after : {L : Type 0} (naming : Naming) (start : List Event) (exchanges : Li
 told_after naming start [] end answered is = (start, refl, is)
 told_after naming start (exchange ∷ later) end answered told =
     let made : List Event = told.0 in
-    let more = asks_answered naming exchange.asked told.1.dump (response_by exchange.answer) start
-    false made false told.1.work answered in
+    let more = history_goes_on naming made start
+    (asks_answered naming exchange.asked told.1.dump (response_by exchange.answer)
+    (book_after start) false made false told.1.work) answered in
     let rest = told_after naming (made ++ start) later end more
     (subst (λ book. AreAnsweredOf naming book later end)
     (sym (after_all-append made start new_book)) told.2) in (

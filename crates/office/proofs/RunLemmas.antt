@@ -56,8 +56,8 @@ one_more_run naming requests all answers told asked answer more so was before ev
 pub runs_answered : (naming : Naming) (requests : List Asked)
     (answers : List (Result Answer LedgerFault)) → MakesAnswered naming (Runs naming requests answers)
 runs_answered naming [] [] = none_answered naming
-runs_answered naming [] (answer ∷ answers) = λ history was events is never. absurd never
-runs_answered naming (asked ∷ requests) [] = λ history was events is never. absurd never
+runs_answered naming [] (answer ∷ answers) = λ book was events is never. absurd never
+runs_answered naming (asked ∷ requests) [] = λ book was events is never. absurd never
 runs_answered naming (asked ∷ requests) (answer ∷ answers) =
     then_answered naming (AsksWithoutReader naming asked answer) (Runs naming requests answers)
     (asks_answered naming asked (dump_here asked) (response_by answer))

@@ -2,8 +2,7 @@
 use Rattle.std.specs.Prelude.{Bool, true, false, List, [], Option, Result, Ok, Err, string_bytes}
 use Rattle.book_model.specs.declared.fault.LedgerFault.{LedgerFault}
 use Rattle.book_model.specs.declared.fault.LedgerFault.TheVariants.{Memory, Store}
-use Rattle.book_model.specs.Words.{front, Book, Event, Outcome, tariff_outcome, close_outcome}
-use Rattle.book_model.specs.Words.{choose_outcome, adopt_outcome, Naming}
+use Rattle.book_model.specs.Words.{front, Book, Event, Outcome, rule_outcome, Naming}
 use Rattle.book_core.specs.Calls.{listed}
 use Rattle.book_import.specs.declared.receipt.Stop.{Stop}
 use Rattle.book_import.specs.declared.receipt.Stop.TheVariants.{Ledger}
@@ -12,9 +11,9 @@ use Rattle.book_import.specs.Laws.{import_of_records}
 use Rattle.book_reports.specs.BookTexts.{report_outcome}
 use Rattle.book_reports.specs.WhatIfTexts.{what_if_report}
 use Rattle.office.specs.declared.request.Asked.{Asked}
-use Rattle.office.specs.declared.request.Asked.TheVariants.{Tariff, Close, Choose, Adopt, Import}
-use Rattle.office.specs.declared.request.Asked.TheVariants.{ImportBytes, Report, WhatIf}
-use Rattle.office.specs.Requests.{Dump, Response, Ruling, Count, Text, response_outcome}
+use Rattle.office.specs.declared.request.Asked.TheVariants.{Import, ImportBytes, Report, Rule}
+use Rattle.office.specs.declared.request.Asked.TheVariants.{WhatIf}
+use Rattle.office.specs.Requests.{Dump, Response, Ruling, Count, Text, response_outcome, ruling_of}
 
 -- what the books answer, and the events that they make, the newest first
 pub record AskedOutcome : Type 0 where
@@ -37,14 +36,8 @@ import_asked_outcome naming dump book =
     record { told = Ok (Count all.receipt); events = all.events }
 
 abbrev pub asked_outcome : Naming → Asked → Dump → Book → AskedOutcome
-asked_outcome naming (Tariff text) dump book =
-    asked_outcome_by (response_outcome Ruling (tariff_outcome (string_bytes text)) book)
-asked_outcome naming (Close period through) dump book =
-    asked_outcome_by (response_outcome Ruling (close_outcome period through) book)
-asked_outcome naming (Choose name) dump book =
-    asked_outcome_by (response_outcome Ruling (choose_outcome naming name) book)
-asked_outcome naming (Adopt rule) dump book =
-    asked_outcome_by (response_outcome Ruling (adopt_outcome rule) book)
+asked_outcome naming (Rule ruling) dump book =
+    asked_outcome_by (response_outcome Ruling (rule_outcome naming (ruling_of ruling)) book)
 asked_outcome naming (Import layout) dump book = import_asked_outcome naming dump book
 asked_outcome naming (ImportBytes layout bytes) dump book = import_asked_outcome naming dump book
 asked_outcome naming (Report report) dump book =

@@ -7,8 +7,8 @@ use Rattle.streams.specs.AnswerFlags.{NothingUnread}
 use Rattle.streams.specs.InputOutput.{ReaderSeen, Input}
 use Rattle.book_model.specs.declared.answer.Ruled as ruled
 use Rattle.book_model.specs.declared.fault.LedgerFault.{LedgerFault}
-use Rattle.book_model.specs.Words.{IsDay, Book, Outcome, tariff_outcome, close_outcome}
-use Rattle.book_model.specs.Words.{choose_outcome, adopt_outcome, Naming}
+use Rattle.book_model.specs.Words.{AdoptionAsked, Book, ChoiceAsked, CloseAsked, HasDay, Naming}
+use Rattle.book_model.specs.Words.{Outcome, RulingAsked, TariffAsked, rule_outcome}
 use Rattle.book_core.specs.Calls.{Calls}
 use Rattle.book_core.specs.Transition.{Transition, IsTransition}
 use Rattle.book_core.specs.Ledgers.{Books}
@@ -20,8 +20,10 @@ use Rattle.book_import.specs.ReadLimits.{cut_by, most_reads}
 use Rattle.book_reports.specs.BookTexts.{shown_by, report_outcome}
 use Rattle.book_reports.specs.WhatIfTexts.{what_if_report}
 use Rattle.office.specs.declared.request.Asked.{Asked}
-use Rattle.office.specs.declared.request.Asked.TheVariants.{Tariff, Close, Choose, Adopt, Import}
-use Rattle.office.specs.declared.request.Asked.TheVariants.{ImportBytes, Report, WhatIf}
+use Rattle.office.specs.declared.request.Asked.TheVariants.{Import, ImportBytes, Report, Rule}
+use Rattle.office.specs.declared.request.Asked.TheVariants.{WhatIf}
+use Rattle.office.specs.declared.request.OwnedRuling.{OwnedRuling}
+use Rattle.office.specs.declared.request.OwnedRuling.TheVariants as owned
 use Rattle.office.specs.declared.request.Answer.{Answer}
 use Rattle.office.specs.declared.request.Answer.TheVariants as answer
 
@@ -57,9 +59,16 @@ pub record IsReady (reader : ReaderSeen) : Type 0 where
   pub failed : reader.has_failed ≡ false
   pub ended : reader.has_ended ≡ false
 
+-- a ruling, as a ledger is asked for it
+abbrev pub ruling_of : OwnedRuling → RulingAsked
+ruling_of (owned.Tariff text) = TariffAsked (string_bytes text)
+ruling_of (owned.Close period through) = CloseAsked period through
+ruling_of (owned.Choose name) = ChoiceAsked name
+ruling_of (owned.Adopt rule) = AdoptionAsked rule
+
 -- What may be asked with a reader that has not been asked yet: a close is through a day.
 abbrev pub IsAskableUnread : Asked → Type 0
-IsAskableUnread (Close period through) = IsDay through
+IsAskableUnread (Rule ruling) = HasDay (ruling_of ruling)
 IsAskableUnread asked = Unit {0}
 
 -- It may be asked of books with this reader: a dump is read from one that may be asked.
@@ -69,10 +78,7 @@ IsAskable asked reader = IsAskableUnread asked
 
 -- it is a ruling, and may be asked
 abbrev pub IsAskableRuling : Asked → Type 0
-IsAskableRuling (Tariff text) = Unit {0}
-IsAskableRuling (Close period through) = IsDay through
-IsAskableRuling (Choose name) = Unit {0}
-IsAskableRuling (Adopt rule) = Unit {0}
+IsAskableRuling (Rule ruling) = HasDay (ruling_of ruling)
 IsAskableRuling asked = ⊥
 
 -- the bytes of a dump were taken for this receipt, and no more than it needed
@@ -122,14 +128,8 @@ Receives naming dump told = Never
 
 -- the books were asked, and answered this
 abbrev pub Asks : Naming → Asked → Dump → Result Response LedgerFault → Transition
-Asks naming (Tariff text) dump told =
-    Calls (λ told. told) (response_outcome Ruling (tariff_outcome (string_bytes text))) told
-Asks naming (Close period through) dump told =
-    Calls (λ told. told) (response_outcome Ruling (close_outcome period through)) told
-Asks naming (Choose name) dump told =
-    Calls (λ told. told) (response_outcome Ruling (choose_outcome naming name)) told
-Asks naming (Adopt rule) dump told =
-    Calls (λ told. told) (response_outcome Ruling (adopt_outcome rule)) told
+Asks naming (Rule ruling) dump told =
+    Calls (λ told. told) (response_outcome Ruling (rule_outcome naming (ruling_of ruling))) told
 Asks naming (Import layout) dump told = Receives naming dump told
 Asks naming (ImportBytes layout bytes) dump told = Receives naming dump told
 Asks naming (Report report) dump told =

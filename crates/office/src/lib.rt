@@ -13,5 +13,5 @@ pub use asking::{ask, ask_without_reader};
 pub use book_reports::{PeriodReport, Report, StatementForm, WhatIf, centre_named};
 pub use choosing::{Chosen, choose_each};
 pub use laws::{answers_are_free, answers_follow_book, answers_follow_history, run_twice_is_once};
-pub use request::{Answer, Asked};
+pub use request::{Answer, Asked, OwnedRuling};
 pub use running::run;

@@ -21,7 +21,8 @@ use crate::record_cache::RecordCache;
 use crate::treatment::ClosedPeriod;
 use book_core::{AcceptedTariff, Ledger, Rulings};
 use book_model::{
-    Accepted, ChargeRow, Detail, Dispute, LedgerFault, Line, ListedRuling, Naming, Ruled, Trail,
+    Accepted, ChargeRow, Detail, Dispute, LedgerFault, Line, ListedRuling, Naming, Ruled, Ruling,
+    Trail,
 };
 use smf_text::Name;
 use std::alloc::{AllocError, Global};
@@ -101,20 +102,8 @@ impl<N: Naming + Drop> Ledger for PlainLedger<N> {
 
     ghost seen = { seen_in };
 
-    fn tariff(&mut self, text: &str) -> Result<Ruled, LedgerFault> {
-        self.put_in_force(text)
-    }
-
-    fn close(&mut self, period: u16, through: i32) -> Result<Ruled, LedgerFault> {
-        self.close_period(period, through)
-    }
-
-    fn choose(&mut self, name: [u8; 32]) -> Result<Ruled, LedgerFault> {
-        self.choose_named(name)
-    }
-
-    fn adopt_identity(&mut self, rule: u8) -> Result<Ruled, LedgerFault> {
-        self.adopt_rule(rule)
+    fn rule(&mut self, ruling: Ruling<'_>) -> Result<Ruled, LedgerFault> {
+        self.make_ruling(ruling)
     }
 
     fn accept(&mut self, bytes: &[u8]) -> Result<Accepted, LedgerFault> {

@@ -116,15 +116,15 @@ line_read text old new byte line feed is had kept none = record {
       (All-nil (λ byte. is_feed byte ≡ false));
 }
 
-pub line_refused : (text : List ℕ) (old : NameList) (byte : ℕ) (line : List ℕ) (why : NamesFault)
-    → byte ≡ 10 → line ≡ strip_carriage_return old.line.items → HasRead text old
-    → IsNoName old.names.items line why → IsNamesFault (names_in (text ++ byte ∷ [])) why
-line_refused text old byte line why feed is had bad =
+pub line_refused : (text more : List ℕ) (old : NameList) (byte : ℕ) (line : List ℕ)
+    (why : NamesFault) → byte ≡ 10 → line ≡ strip_carriage_return old.line.items → HasRead text old
+    → IsNoName old.names.items line why → IsNamesFault (names_in (text ++ byte ∷ more)) why
+line_refused text more old byte line why feed is had bad =
     subst (λ found. IsNamesFault found why)
-    (sym (ap (λ byte. names_in (text ++ byte ∷ [])) feed ∙ had.names (10 ∷ [])
-    ∙ ap (names_after old.names.items) (lines_first old.line.items [] had.unended)
-    ∙ ap (λ line. names_after old.names.items (line ∷ [])) (sym is)))
-    (no_name old.names.items line [] why bad)
+    (sym (ap (λ byte. names_in (text ++ byte ∷ more)) feed ∙ had.names (10 ∷ more)
+    ∙ ap (names_after old.names.items) (lines_first old.line.items more had.unended)
+    ∙ ap (λ line. names_after old.names.items (line ∷ lines more)) (sym is)))
+    (no_name old.names.items line (lines more) why bad)
 
 -- the fault that `?` hands on
 pub fault_is : {T E : Type 0} (result : Result T E) (found : E) (IsOf : E → Type 0)

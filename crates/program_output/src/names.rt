@@ -89,8 +89,9 @@ impl NameList {
     pub fn push(&mut self, byte: u8) -> Result<(), NamesFault>
         ensures read { OnOk result ((text : List ℕ) → HasRead text self.old
             → HasRead (text ++ byte ∷ []) self.new) }
-        ensures refused { IfErr result (λ fault. (text : List ℕ) → HasRead text self.old
-            → IsNamesFault (names_in (text ++ byte ∷ [])) fault) }
+        // Whatever comes after it.
+        ensures refused { IfErr result (λ fault. (text more : List ℕ) → HasRead text self.old
+            → IsNamesFault (names_in (text ++ byte ∷ more)) fault) }
     {
         if byte == b'\n' {
             keep_name(&mut self.names, without_return(&self.line))?;

@@ -2,8 +2,9 @@
 use Rattle.std.proofs.Common.{◌≡◌, ◌∙◌, ◌||◌, inl, ℕ, Bool, true, false, List, [], Result, Err}
 use Rattle.std.proofs.Common.{refl, sym, ap}
 use Rattle.book_model.specs.Words.{Book, Naming, Outcome, accept_outcome}
-use Rattle.book_core.specs.Words.{Calls, IsCall, Reopens, Takes, first_of, IsTransition}
-use Rattle.table_ledger.proofs.Words.{StoreError, Ghosts, Accepted, LedgerFault, Reopen, state}
+use Rattle.book_core.specs.Words.{Calls, IsCall, Makes, Reopens, Takes, first_of, IsTransition}
+use Rattle.table_ledger.proofs.Words.{StoreError, Ghosts, Accepted, LedgerFault, Memory, Reopen}
+use Rattle.table_ledger.proofs.Words.{state}
 use Rattle.table_ledger.proofs.Words.{Finishes, LedgerState, seen_on, state_on, LeavesTheLast}
 use Rattle.table_ledger.proofs.Words.{AttemptsOne, MakesOf, LeavesOne}
 use Rattle.table_ledger.specs.Stages.{TakesOf, LeavesFirst}
@@ -40,30 +41,49 @@ call_settled {view = view} {outcome = outcome} ghosts first is_open leaves settl
     let settled = work_settled (one_comes view outcome) ghosts first is_open leaves settles tries in
     record { work = settled.0; reopens = settled.1 }
 
+-- a ledger that is to be reopened says so, and still is to be
+pub stays_closed : {V : Type 0} {flag : Bool} → flag ≡ true
+    → Reopens {V = V} (Err Reopen) flag flag
+stays_closed closed =
+    record { reopen = sym closed; store = closed ∙ ap (λ was. was || false) (sym closed) }
+
+-- a call that did nothing, and was refused
+call_undone : {V A : Type 0} {view : V → A} {outcome : Book → Outcome A} (shelf : LedgerState)
+    (fault : LedgerFault) → ((book : Book) → Makes view (outcome book) (Err fault) [])
+    → Reopens {V = V} (Err fault) shelf.must_reopen shelf.must_reopen
+    → IsCall view (seen_on shelf) (seen_on shelf) (Err fault) outcome
+call_undone shelf fault none reopens = record {
+  work = record {
+    naming = refl;
+    honest = λ clean. clean;
+    books = λ clean books. books;
+    moves = λ clean books book stands. record {
+      before = book;
+      events = [];
+      stood = stands;
+      made = record { makes = none book; reopens = reopens };
+      leads = refl;
+    };
+    alone = λ closed. record { reopen = closed; left = λ book left. left };
+  };
+  reopens = reopens;
+}
+
 -- A call of a ledger that is to be reopened leaves it alone.
 pub call_reopen : {V A : Type 0} {view : V → A} {outcome : Book → Outcome A} (shelf : LedgerState)
     → shelf.must_reopen ≡ true → IsCall view (seen_on shelf) (seen_on shelf) (Err Reopen) outcome
-call_reopen {V = V} shelf closed =
-    let reopens : Reopens {V = V} (Err Reopen) shelf.must_reopen shelf.must_reopen = record {
-      reopen = sym closed;
-      store = closed ∙ ap (λ was. was || false) (sym closed);
-    } in
-    record {
-      work = record {
-        naming = refl;
-        honest = λ clean. clean;
-        books = λ clean books. books;
-        moves = λ clean books book stands. record {
-          before = book;
-          events = [];
-          stood = stands;
-          made = record { makes = refl; reopens = reopens };
-          leads = refl;
-        };
-        alone = λ closed. record { reopen = closed; left = λ book left. left };
-      };
-      reopens = reopens;
-    }
+call_reopen {view = view} {outcome = outcome} shelf closed =
+    call_undone {view = view} {outcome = outcome} shelf Reopen (λ book. refl) (stays_closed closed)
+
+-- So does one for which memory ran out before it was begun.
+pub call_wanting : {V A : Type 0} {view : V → A} {outcome : Book → Outcome A} (shelf : LedgerState)
+    → shelf.must_reopen ≡ false
+    → IsCall view (seen_on shelf) (seen_on shelf) (Err Memory) outcome
+call_wanting {view = view} {outcome = outcome} shelf is_open =
+    call_undone {view = view} {outcome = outcome} shelf Memory (λ book. refl) (record {
+      reopen = sym is_open;
+      store = is_open ∙ ap (λ was. was || false) (sym is_open);
+    })
 
 -- ---- records that are submitted together
 

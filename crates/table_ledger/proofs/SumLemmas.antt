@@ -1,17 +1,14 @@
 -- The sums in the row of the book, which are written once, after the records that change them.
-use Rattle.std.proofs.Common.{◌≡◌, ℕ, List, Result, Ok, Err, refl, sym, subst, IsErr}
+use Rattle.std.proofs.Common.{◌≡◌, ℕ, List, Result, Ok, refl, sym, subst}
 use Rattle.book_model.specs.Words.{Book, Event, Naming}
 use Rattle.table_model.specs.Words.{set_sums, tables_of}
 use Rattle.tree_tables.specs.Steps.{Changes}
-use Rattle.table_ledger.proofs.Words.{View, StoreError, LedgerFault, Holds, State, Does, kept_last}
-use Rattle.table_ledger.proofs.Words.{only_both, Remembers, IsAt, IsAtAs, StagesBy}
+use Rattle.table_ledger.proofs.Words.{View, LedgerFault, Holds, State, Does, only_both, Remembers}
+use Rattle.table_ledger.proofs.Words.{IsAt, IsAtAs, StagesBy}
 use Rattle.table_ledger.specs.Premises.{HaveSums}
 use Rattle.table_ledger.specs.declared.summary.Summary.{Summary}
 use Rattle.table_ledger.proofs.Remembered.{remembers_as}
-use Rattle.table_ledger.proofs.StageLemmas.{unstaged}
-use Rattle.table_ledger.proofs.StepLemmas.{stands_only}
 use Rattle.table_ledger.proofs.SurvivalLemmas.{clean_before, survives_then}
-use Rattle.table_ledger.proofs.UnchangedStores.{stands_then}
 
 -- to write sums that are remembered changes nothing
 pub sums_there : {is : Summary} {book : Book} (naming : Naming) → Remembers is book
@@ -52,34 +49,6 @@ sums_written {naming = naming} {new = new} {book = book} held amount changes at 
 module _ {V : Type 0} {Made : Result V LedgerFault → Book → List Event → Type 0}
     {Leaves : Book → List Event → Type 0} {naming : Naming} {was is : Summary}
     {old middle : State} where
-  -- the store refused some of it
-  pub sums_unreached : {U T : Type 0} {answered : T → Result U LedgerFault}
-      {Other : Result U LedgerFault → Book → List Event → Type 0}
-      {Left : Book → List Event → Type 0} {Is : Summary → Type 0} {error : StoreError}
-      (staged : Result T StoreError) → IsErr staged
-      → StagesBy (set_sums was.held was.total) (λ answer. answer) Made Leaves naming was
-      (λ summary. summary ≡ is) old middle (Err error)
-      → StagesBy (λ tables. tables) answered Other Left naming was Is old middle staged
-  sums_unreached staged failed stages =
-      unstaged staged failed stages.survives
-      (λ clean book at. stages.found clean book (sums_remembered at))
-
-  -- it refused the sums
-  pub sums_refused : {U T R : Type 0} {answered : T → Result U LedgerFault}
-      {Other : Result U LedgerFault → Book → List Event → Type 0}
-      {Left : Book → List Event → Type 0} {Is : Summary → Type 0} {new : State}
-      {answer : Result V LedgerFault} {error : StoreError} (staged : Result T StoreError)
-      → IsErr staged
-      → StagesBy (set_sums was.held was.total) (λ answer. answer) Made Leaves naming was
-      (λ summary. summary ≡ is) old middle (Ok answer)
-      → Does {T = R} (Err error) middle new (HaveSums was.held was.total)
-      (set_sums is.held is.total)
-      → StagesBy (λ tables. tables) answered Other Left naming was Is old new staged
-  sums_refused staged failed stages does =
-      unstaged staged failed (survives_then stages.survives does.survives) (λ clean book at.
-      let staged = stages.found (clean_before does.survives clean) book (sums_remembered at) in
-      stands_then (stands_only old.view middle.view staged.only) (kept_last (does.refused clean)))
-
   -- they are written
   pub sums_staged : {T : Type 0} {done : T} {new : State} {answer : Result V LedgerFault}
       → StagesBy (set_sums was.held was.total) (λ answer. answer) Made Leaves naming was

@@ -190,12 +190,6 @@ StagesAs written view naming was is old new outcome staged =
     StagesBy written (λ answer. answer) (MakesOf view outcome) (LeavesOne outcome) naming was
     (λ summary. summary ≡ is) old new staged
 
--- all of it
-abbrev pub Stages : {V A : Type 0} → (V → A) → Naming → Summary → Summary → State → State
-    → (Book → Outcome A) → Result (Result V LedgerFault) StoreError → Type 0
-Stages view naming was is old new outcome staged =
-    StagesAs (λ tables. tables) view naming was is old new outcome staged
-
 -- it is tried
 abbrev pub AttemptsOne : {V A : Type 0} → (V → A) → Naming → Summary → Summary → State → State
     → (Book → Outcome A) → Result (Result V LedgerFault) StoreError → Type 0

@@ -1,8 +1,9 @@
 //! Records that are submitted.
 
-ghost use Rattle.std.specs.Prelude.{◌≡◌, ◌<◌, Ok, Err, [], if◌then◌else◌, All, IfOk, length};
+ghost use Rattle.std.specs.Prelude.{◌≡◌, ◌<◌, Ok, Err, [], ◌∷◌, if◌then◌else◌, All, IfOk, drop};
+ghost use Rattle.std.specs.Prelude.{length};
 ghost use Rattle.tree_tables.specs.States.{state_of};
-ghost use Rattle.book_model.specs.Words.{data_of, accept_outcome, IsUsageRecord, record_with};
+ghost use Rattle.book_model.specs.Words.{data_of, IsUsageRecord, record_with};
 ghost use Rattle.book_model.specs.Words.{same_bytes};
 ghost use Rattle.book_core.specs.Identities.{identity_in};
 ghost use Rattle.book_core.specs.OfficeRulings.{ruled_in};
@@ -11,8 +12,8 @@ ghost use Rattle.table_model.specs.Steps.{count_where_row, set_sums};
 ghost use Rattle.tree_tables.specs.Steps.{Does};
 ghost use Rattle.tree_tables.specs.Stored.{IsFree, IsUncounted, new_entry};
 ghost use Rattle.table_ledger.specs.Premises.{AreRemembered};
-ghost use Rattle.table_ledger.specs.Stages.{AttemptsMany, AttemptsOne, KeepsRulings, Stages};
-ghost use Rattle.table_ledger.specs.Stages.{StagesFirst, StagesMany, StagesRecord, staged_at};
+ghost use Rattle.table_ledger.specs.Stages.{AttemptsMany, KeepsRulings, StagesFirst, StagesMany};
+ghost use Rattle.table_ledger.specs.Stages.{StagesRecord, staged_at};
 
 use crate::commits::{commit_written, write_effects, write_sums};
 use crate::disputes::IDENTITY_LENGTH;
@@ -22,7 +23,7 @@ use book_core::{Accepted, DayChange, LedgerFault, Naming, is_full, name_of, pric
 use smf_type30::Type30;
 use sqlite_trees::error::StoreError;
 use sqlite_trees::store::Store;
-use std::alloc::Global;
+use std::alloc::{AllocError, Global};
 use tariff_rules::Priced;
 use tree_tables::{NewRecord, StoredRecord, TreeTables};
 
@@ -134,27 +135,6 @@ fn stage_one<S: Store, N: Naming>(
     Ok(Ok(Accepted::Kept))
 }
 
-/// Answers a record, and writes it inside the transaction if it is new, a tariff is in force on
-/// its day, and there is room for it.
-fn stage_record<S: Store, N: Naming>(
-    tables: &mut TreeTables<S>,
-    alloc: Global,
-    naming: &N,
-    summary: &mut Summary,
-    bytes: &[u8],
-) -> Result<Result<Accepted, LedgerFault>, StoreError>
-    requires usage { IsUsageRecord bytes.now }
-    ensures stages { Stages (λ accepted. accepted) (N.name_of naming.now) summary.old summary.new
-        (state_of tables.old) (state_of tables.new)
-        (accept_outcome (N.name_of naming.now) bytes.now) result }
-    ensures ruled { KeepsRulings summary.old summary.new }
-{
-    let (held, total) = (summary.held, summary.total);
-    let answer = stage_one(tables, alloc, naming, summary, bytes)?;
-    write_sums(tables, held, total, summary)?;
-    Ok(answer)
-}
-
 /// Answers records inside the transaction, in order, up to the first that is refused, and says why
 /// that one is. The row of the book has the sums that it had.
 fn stage_each<S: Store, N: Naming>(
@@ -240,29 +220,20 @@ pub(crate) fn try_accept_many<S: Store, N: Naming>(
     }
 }
 
-/// Submits a record as one commit.
-pub(crate) fn try_accept<S: Store, N: Naming>(
-    tables: &mut TreeTables<S>,
-    alloc: Global,
-    naming: &N,
-    summary: &mut Summary,
-    bytes: &[u8],
-) -> Result<Result<Accepted, LedgerFault>, StoreError>
-    requires usage { IsUsageRecord bytes.now }
-    ensures tries { AttemptsOne (λ accepted. accepted) (N.name_of naming.now) summary.old
-        summary.new (state_of tables.old) (state_of tables.new)
-        (accept_outcome (N.name_of naming.now) bytes.now) result }
+/// A record alone, as records that are submitted together.
+pub(crate) fn alone(alloc: Global, bytes: &[u8]) -> Result<Vec<Vec<u8>>, AllocError>
+    ensures { IfOk result (λ records. records_in records.items ≡ bytes.now ∷ []) }
 {
-    let held = summary.held;
-    let total = summary.total;
-    let staged = stage_record(tables, alloc, naming, summary, bytes);
-    match commit_written(tables, staged) {
-        Ok(answer) => Ok(answer),
-        Err(error) => {
-            // What was written is rolled back.
-            summary.held = held;
-            summary.total = total;
-            Err(error)
-        }
-    }
+    let own = Vec::from_slice(alloc, bytes)?;
+    let mut records = Vec::with_capacity(alloc, 1)?;
+    records.push(own)?;
+    Ok(records)
+}
+
+/// The first of some answers.
+pub(crate) fn first_answer(answers: Vec<Accepted>) -> Accepted
+    requires { 0 < length answers.items }
+    ensures { answers.items ≡ result ∷ drop 1 answers.items }
+{
+    answers[0]
 }

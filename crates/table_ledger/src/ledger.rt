@@ -6,29 +6,26 @@ ghost use Rattle.table_ledger.specs.Stages.{most_in_commit};
 mod creating;
 mod opening;
 
-use crate::accept::{try_accept, try_accept_many};
+use crate::accept::{alone, first_answer, try_accept_many};
 use crate::adjustments::try_adjustments;
-use crate::adoption::try_adopt;
 use crate::charges::try_charges;
-use crate::choices::try_choose;
-use crate::close::try_close;
 use crate::details::try_next_detail;
 use crate::disputes::{try_dispute, try_disputes};
 use crate::finish::finish;
 use crate::listed_rulings::try_ruling;
 use crate::other_prices::try_charges_under;
 use crate::periods::try_periods;
+use crate::rulings::try_rule;
 use crate::summary::Summary;
-use crate::tariff::try_tariff;
 use crate::trails::try_trail_of;
 use book_core::{
     Accepted, ChargeRow, Detail, Dispute, Ledger, LedgerFault, Line, ListedRuling, Name, Naming,
-    Ruled, Trail,
+    Ruled, Ruling, Trail,
 };
 use sqlite_trees::store::Store;
 use std::alloc::Global;
 use tariff_rules::Tariff;
-use tree_tables::{Close, TreeTables};
+use tree_tables::TreeTables;
 
 /// The most records that one commit takes.
 const MOST_IN_COMMIT: usize = 1_000;
@@ -59,6 +56,7 @@ fn first_records(records: &[Vec<u8>]) -> &[Vec<u8>]
 impl<S: Store, N: Naming + Drop> Ledger for TableLedger<S, N> {
     ghost use Rattle.std.specs.Prelude.{All, IfOk};
     ghost use Rattle.book_model.specs.Words.{IsUsageRecord};
+    ghost use Rattle.book_core.specs.Calls.{Reopens};
     ghost use Rattle.book_core.specs.Submissions.{Takes, records_in};
     ghost use Rattle.book_core.specs.Transition.{IsTransition};
     ghost use Rattle.table_ledger.specs.LedgerState.{seen_in};
@@ -66,40 +64,11 @@ impl<S: Store, N: Naming + Drop> Ledger for TableLedger<S, N> {
 
     ghost seen = { seen_in N.name_of };
 
-    fn tariff(&mut self, text: &str) -> Result<Ruled, LedgerFault> {
+    fn rule(&mut self, ruling: Ruling<'_>) -> Result<Ruled, LedgerFault> {
         if self.must_reopen {
             return Err(LedgerFault::Reopen);
         }
-        let tried = try_tariff(&mut self.tables, &mut self.summary, self.alloc, text);
-        finish(&mut self.tables, &mut self.must_reopen, tried)
-    }
-
-    fn close(&mut self, period: u16, through: i32) -> Result<Ruled, LedgerFault> {
-        if self.must_reopen {
-            return Err(LedgerFault::Reopen);
-        }
-        let tried = try_close(
-            &mut self.tables,
-            self.alloc,
-            &mut self.summary,
-            &Close { period, through },
-        );
-        finish(&mut self.tables, &mut self.must_reopen, tried)
-    }
-
-    fn choose(&mut self, name: [u8; 32]) -> Result<Ruled, LedgerFault> {
-        if self.must_reopen {
-            return Err(LedgerFault::Reopen);
-        }
-        let tried = try_choose(&mut self.tables, self.alloc, &mut self.summary, name);
-        finish(&mut self.tables, &mut self.must_reopen, tried)
-    }
-
-    fn adopt_identity(&mut self, rule: u8) -> Result<Ruled, LedgerFault> {
-        if self.must_reopen {
-            return Err(LedgerFault::Reopen);
-        }
-        let tried = try_adopt(&mut self.tables, self.alloc, &mut self.summary, rule);
+        let tried = try_rule(&mut self.tables, self.alloc, &mut self.summary, ruling);
         finish(&mut self.tables, &mut self.must_reopen, tried)
     }
 
@@ -107,14 +76,9 @@ impl<S: Store, N: Naming + Drop> Ledger for TableLedger<S, N> {
         if self.must_reopen {
             return Err(LedgerFault::Reopen);
         }
-        let tried = try_accept(
-            &mut self.tables,
-            self.alloc,
-            &self.naming,
-            &mut self.summary,
-            bytes,
-        );
-        finish(&mut self.tables, &mut self.must_reopen, tried)
+        let records = alone(self.alloc, bytes)?;
+        let answers = self.accept_many(&records)?;
+        Ok(first_answer(answers))
     }
 
     fn accept_many(&mut self, records: &[Vec<u8>]) -> Result<Vec<Accepted>, LedgerFault>
@@ -123,6 +87,8 @@ impl<S: Store, N: Naming + Drop> Ledger for TableLedger<S, N> {
         ensures takes { IsTransition (seen_in N.name_of self.old) (seen_in N.name_of self.new)
             (Takes (N.name_of self.old.naming) (records_in records.now) result) }
         ensures some { IfOk result (λ answers. 0 < length answers.items) }
+        ensures reopens { Reopens result (seen_in N.name_of self.old).must_reopen
+            (seen_in N.name_of self.new).must_reopen }
 
         // It is one commit, which takes no more records than this, also where a stop comes within.
         ensures few { IsTransition (seen_in N.name_of self.old) (seen_in N.name_of self.new)

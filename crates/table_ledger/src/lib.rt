@@ -26,6 +26,7 @@ mod other_prices;
 mod periods;
 mod repricing;
 mod row_sums;
+mod rulings;
 mod summary;
 mod tariff;
 mod trails;

@@ -1,12 +1,13 @@
 -- Calls that are refused for lack of memory, with nothing done.
-use Rattle.std.proofs.Common.{◌≡◌, ◌∙◌, List, Bool, Ok, Err, None, refl, ap}
+use Rattle.std.proofs.Common.{◌≡◌, ◌∙◌, List, Ok, Err, None, refl, ap}
 use Rattle.std.proofs.Common.{inl, inr}
 use Rattle.std.specs.Prelude.{ℤ}
 use Rattle.book_model.specs.declared.fault.LedgerFault.{LedgerFault}
 use Rattle.book_model.specs.declared.fault.LedgerFault.TheVariants.{Memory, Store, Reopen}
 use Rattle.book_model.specs.Words.{Book, Event, Outcome, periods_outcome}
 use Rattle.book_core.specs.Ledgers.{Seen}
-use Rattle.book_core.specs.Calls.{Calls, IsCall, Makes, Reopens, listed}
+use Rattle.book_core.specs.Calls.{Calls, IsCall, Makes, listed}
+use Rattle.book_core.proofs.SubmissionLemmas.{reopens_as}
 use Rattle.book_core.proofs.TransitionLemmas.{work_as}
 
 -- A list that was read is no event, and so memory may have run out in its place.
@@ -33,17 +34,6 @@ makes_as view other read asked Store events none never (inl nothing) = inl nothi
 makes_as view other read asked Store events none never (inr event) = inl (event ∙ ap listed none)
 makes_as view other read asked Reopen events none never makes = makes
 makes_as view other read asked fault events none never makes = absurd (never makes.0)
-
-reopens_as : (V W : Type 0) (fault : LedgerFault) (was is : Bool)
-    → Reopens {V = V} (Err fault) was is → Reopens {V = W} (Err fault) was is
-reopens_as V W Memory was is reopens =
-    record { reopen = reopens.reopen; store = reopens.store }
-reopens_as V W Store was is reopens =
-    record { reopen = reopens.reopen; store = reopens.store }
-reopens_as V W Reopen was is reopens =
-    record { reopen = reopens.reopen; store = reopens.store }
-reopens_as V W fault was is reopens =
-    record { reopen = reopens.reopen; store = reopens.store }
 
 -- So any call may be refused as one that reads the periods is.
 pub refused_as : {V W B : Type 0} (view : V → List ℤ) (other : W → B) (old new : Seen)

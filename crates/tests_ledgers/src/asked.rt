@@ -5,7 +5,7 @@ ghost use Rattle.office.specs.Runs.{IsAskableWithoutReader};
 
 use crate::day::Day;
 use crate::names::{centre_in, name_in};
-use office::{Asked, StatementForm, WhatIf};
+use office::{Asked, OwnedRuling, StatementForm, WhatIf};
 use smf_frames::Layout;
 use tests_scripts::{Ask, LineFault, LineResult, Named};
 
@@ -25,7 +25,7 @@ fn close_by(period: &str, day: &str) -> LineResult<Asked>
 {
     let (period, day) = (period.parse::<u16>()?, Day::of(day)?);
     let through = day.number;
-    Ok(Asked::Close { period, through })
+    Ok(Asked::Rule(OwnedRuling::Close { period, through }))
 }
 
 /// What is asked of a period by another tariff: of all centres, or of the one that is named after a
@@ -56,8 +56,8 @@ fn asked_by_word(named: &Named, ask: Ask<'_>) -> LineResult<Asked>
         return Err(LineFault::NotUnderstood);
     };
     match ask.verb {
-        "choose" => Ok(Asked::Choose(name_in(named, word)?)),
-        "adopt" => Ok(Asked::Adopt(word.parse::<u8>()?)),
+        "choose" => Ok(Asked::Rule(OwnedRuling::Choose(name_in(named, word)?))),
+        "adopt" => Ok(Asked::Rule(OwnedRuling::Adopt(word.parse::<u8>()?))),
         "what-if" | "what-if-table" => {
             let report = what_if_of(ask.verb, word)?;
             let tariff = named.read_texts(names, ask.body)?;
@@ -73,7 +73,10 @@ pub(crate) fn asked_by(named: &Named, layout: Layout, ask: Ask<'_>) -> LineResul
     ensures { IfOk result IsAskableWithoutReader }
 {
     match (ask.verb, ask.words) {
-        ("tariff", names) => Ok(Asked::Tariff(named.read_texts(names, ask.body)?)),
+        ("tariff", names) => {
+            let text = named.read_texts(names, ask.body)?;
+            Ok(Asked::Rule(OwnedRuling::Tariff(text)))
+        }
         ("import", parts) => {
             let bytes = named.read_dump(parts)?;
             Ok(Asked::ImportBytes { layout, bytes })

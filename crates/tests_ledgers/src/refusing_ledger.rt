@@ -6,7 +6,7 @@ ghost use Rattle.book_core.specs.Calls.{IsCall};
 
 use book_core::{
     Accepted, ChargeRow, Detail, Dispute, Ledger, LedgerFault, Line, ListedRuling, Name, Ruled,
-    Tariff, Trail,
+    Ruling, Tariff, Trail,
 };
 use std::alloc::Global;
 use tests_scripts::is_due;
@@ -57,32 +57,11 @@ fn first_alone(records: &[Vec<u8>]) -> &[Vec<u8>]
 impl<L: Ledger> Ledger for RefusingLedger<'_, L> {
     ghost seen = { λ ledger. L.seen ledger.inner.now };
 
-    fn tariff(&mut self, text: &str) -> Result<Ruled, LedgerFault> {
+    fn rule(&mut self, ruling: Ruling<'_>) -> Result<Ruled, LedgerFault> {
         if is_due(&mut self.calls_left) {
             return Err(refusal(&mut *self.inner));
         }
-        self.inner.tariff(text)
-    }
-
-    fn close(&mut self, period: u16, through: i32) -> Result<Ruled, LedgerFault> {
-        if is_due(&mut self.calls_left) {
-            return Err(refusal(&mut *self.inner));
-        }
-        self.inner.close(period, through)
-    }
-
-    fn choose(&mut self, name: [u8; 32]) -> Result<Ruled, LedgerFault> {
-        if is_due(&mut self.calls_left) {
-            return Err(refusal(&mut *self.inner));
-        }
-        self.inner.choose(name)
-    }
-
-    fn adopt_identity(&mut self, rule: u8) -> Result<Ruled, LedgerFault> {
-        if is_due(&mut self.calls_left) {
-            return Err(refusal(&mut *self.inner));
-        }
-        self.inner.adopt_identity(rule)
+        self.inner.rule(ruling)
     }
 
     fn accept(&mut self, bytes: &[u8]) -> Result<Accepted, LedgerFault> {

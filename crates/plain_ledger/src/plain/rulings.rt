@@ -1,4 +1,4 @@
-//! Rulings that are submitted to a plain ledger: tariffs and closes.
+//! Rulings that a plain ledger is asked for: which it is, tariffs, and closes.
 
 ghost use Rattle.book_model.specs.RulingAnswers as spec;
 
@@ -6,7 +6,7 @@ use super::PlainLedger;
 use crate::repricing::{cost_under, reprice};
 use crate::treatment::ClosedPeriod;
 use book_core::is_done;
-use book_model::{LedgerFault, Naming, Ruled};
+use book_model::{LedgerFault, Naming, Ruled, Ruling};
 use std::alloc::AllocError;
 use tariff_rules::Tariff;
 
@@ -15,11 +15,26 @@ impl<N: Naming + Drop> PlainLedger<N> {
     ghost use Rattle.std.specs.BTreeMap.{values};
     ghost use Rattle.book_model.specs.Words.{IsDay, TariffAccepted, close, give, last_period};
     ghost use Rattle.book_model.specs.Words.{close_outcome, open_number, tariff_outcome};
+    ghost use Rattle.book_model.specs.Words.{HasDay, rule_outcome, ruling_asked};
     ghost use Rattle.plain_ledger.specs.PlainBook.{IsPlainCall, book_in, naming_in};
     ghost use Rattle.plain_ledger.specs.Repricing.{cost_anew, ruled_by_cost};
 
+    /// Makes a ruling.
+    pub(super) fn make_ruling(&mut self, ruling: Ruling<'_>) -> Result<Ruled, LedgerFault>
+        requires { HasDay (ruling_asked ruling) }
+        ensures { IsPlainCall (λ ruled. ruled) self.old self.new result
+            (rule_outcome (N.name_of (naming_in self.old)) (ruling_asked ruling.entry)) }
+    {
+        match ruling {
+            Ruling::Tariff(text) => self.put_in_force(text),
+            Ruling::Close { period, through } => self.close_period(period, through),
+            Ruling::Choose(name) => self.choose_named(name),
+            Ruling::Adopt(rule) => self.adopt_rule(rule),
+        }
+    }
+
     /// Puts the tariff of a file in force.
-    pub(super) fn put_in_force(&mut self, text: &str) -> Result<Ruled, LedgerFault>
+    fn put_in_force(&mut self, text: &str) -> Result<Ruled, LedgerFault>
         ensures { IsPlainCall (λ ruled. ruled) self.old self.new result
             (tariff_outcome text.now) }
     {
@@ -70,7 +85,7 @@ impl<N: Naming + Drop> PlainLedger<N> {
     }
 
     /// Closes the open period.
-    pub(super) fn close_period(&mut self, period: u16, through: i32) -> Result<Ruled, LedgerFault>
+    fn close_period(&mut self, period: u16, through: i32) -> Result<Ruled, LedgerFault>
         requires { IsDay through }
         ensures { IsPlainCall (λ ruled. ruled) self.old self.new result
             (close_outcome period through) }

@@ -1,5 +1,5 @@
-use Rattle.std.proofs.Common.{subst, IfOk}
-use Rattle.chargectl.specs.Choices.{AreAllOf}
+use Rattle.std.proofs.Common.{subst, IfErr, IfOk}
+use Rattle.chargectl.specs.Choices.{AreAllOf, IsListFault}
 use Rattle.chargectl.proofs.ListLemmas.{front_shown}
 use Rattle.chargectl.proofs.choices.read_front.Goals as goal
 
@@ -11,3 +11,11 @@ returns-clause-all g c =
     (front_shown g.R.Read.remaining c.args.reader c.in_ok-buffered.buffered c.take.result buffer.inner
     buffer.empty buffer.capacity c.take.ensures.limit c.take.ensures.inner)
     c.read_names.ensures.all
+
+pub returns-clause-refused : goal.returns-clause-refused
+returns-clause-refused g c =
+    let buffer = c.in_ok-buffered.ensures in
+    subst (λ had. IfErr c.read_names.result (IsListFault had))
+    (front_shown g.R.Read.remaining c.args.reader c.in_ok-buffered.buffered c.take.result buffer.inner
+    buffer.empty buffer.capacity c.take.ensures.limit c.take.ensures.inner)
+    c.read_names.ensures.refused

@@ -2,17 +2,20 @@ use Rattle.std.proofs.Common.{◌∙◌, ap, refl, sym, true≢false}
 use Rattle.streams.specs.Sources.{has_ended}
 use Rattle.book_http.specs.Reads.{bytes_read}
 use Rattle.book_http.specs.Served.{is_write_fault}
-use Rattle.chargectl.proofs.ClientLemmas.{by_reads, served_one, status_of}
+use Rattle.chargectl.proofs.ClientLemmas.{by_reads, front_taken, served_one, status_of}
 use Rattle.chargectl.proofs.port.answer_peer.Goals as goal
 
 pub returns-in-Answered-clause-served : goal.returns-in-Answered-clause-served
 returns-in-Answered-clause-served g c =
+    let remaining = g.P.Read.remaining in
     let came = c.serve_request-peer in
     let told = came.ensures.served in
     record {
       done = served_one g.S.Repository.shelf c.args.repository.now came.new.repository
-          c.args.book.now (bytes_read told.reads) (has_ended came.new.source) _ _
-          came.result.0.served told.gave came.ensures.closed;
+          c.args.book.now (bytes_read told.reads) (has_ended came.new.source)
+          (remaining c.args.peer) _ _ came.result.0.served
+          (front_taken (remaining c.args.peer) _ _ (bytes_read told.reads) told.between.taken
+          (ap remaining c.new-source.ensures.reader)) told.gave came.ensures.closed;
       log = came.ensures.log;
     }
 
@@ -27,12 +30,15 @@ returns-in-Answered-clause-reads g c =
 
 pub returns-in_default-clause-served : goal.returns-in_default-clause-served
 returns-in_default-clause-served g c =
+    let remaining = g.P.Read.remaining in
     let came = c.serve_request-peer in
     let told = came.ensures.served in
     record {
       done = served_one g.S.Repository.shelf c.args.repository.now came.new.repository
-          c.args.book.now (bytes_read told.reads) (has_ended came.new.source) _ _
-          came.result.0.served told.gave came.ensures.closed;
+          c.args.book.now (bytes_read told.reads) (has_ended came.new.source)
+          (remaining c.args.peer) _ _ came.result.0.served
+          (front_taken (remaining c.args.peer) _ _ (bytes_read told.reads) told.between.taken
+          (ap remaining c.new-source.ensures.reader)) told.gave came.ensures.closed;
       log = came.ensures.log;
     }
 

@@ -1,6 +1,6 @@
 use Rattle.std.proofs.Common.{refl, subst, sym}
 use Rattle.without_books.specs.ServedLines.{seen_of}
-use Rattle.chargectl.specs.Serving.{ServesInTurn}
+use Rattle.chargectl.specs.Serving.{CameInTurn}
 use Rattle.chargectl.proofs.ServingLemmas.{log_left, serving_more}
 use Rattle.chargectl.proofs.serve.serve_each.Goals as goal
 
@@ -10,9 +10,10 @@ loop-connections-preserved g c =
     let left = g.C.Connections.left in
     let seen = seen_of g.O.Write.contents in
     record {
-      serving = serving_more shelf g.C.Connections.may_come g.C.Connections.left
-          c.args.connections.now c.loop-connections.connections c.next.new.self c.args.book.now
-          c.args.repository.now c.loop-connections.repository c.next.new.repository
+      serving = serving_more shelf g.C.Connections.sent g.C.Connections.may_come
+          g.C.Connections.left c.args.connections.now c.loop-connections.connections
+          c.next.new.self c.args.book.now c.args.repository.now c.loop-connections.repository
+          c.next.new.repository
           (seen c.args.lines.now) (seen c.loop-connections.lines) (seen c.say_served.new.lines)
           c.in-Ok.attended.served c.loop-connections.invariant.serving c.in-Ok.ensures.came
           c.in-Ok.ensures.served.done c.say_served.ensures c.next.ensures.left;
@@ -30,10 +31,10 @@ returns-in-Err-clause-served g c =
       last = c.loop-connections.connections;
       serving = record {
         told = it.told;
-        came = it.came;
-        turn = subst
-            (λ place. ServesInTurn g.S.Repository.shelf c.args.book.now c.args.repository.now place
-            it.told) (sym c.in-Err.ensures.none) it.turn;
+        came = subst
+            (λ place. CameInTurn g.S.Repository.shelf g.C.Connections.sent g.C.Connections.may_come
+            c.args.book.now c.args.connections.now c.loop-connections.connections
+            c.args.repository.now place it.told) (sym c.in-Err.ensures.none) it.came;
         count = it.count;
         lines = it.lines;
       };

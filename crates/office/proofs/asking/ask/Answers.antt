@@ -1,58 +1,36 @@
-use Rattle.std.proofs.Common.{refl, subst, ℤ, w32}
-use Rattle.std.proofs.lemmas.Int.{to_z-of_z}
+use Rattle.std.proofs.Common.{refl, subst, sym}
 use Rattle.std.specs.Prelude.{None, List, ℕ, Vec}
 use Rattle.std.specs.Global.{Global}
 use Rattle.streams.specs.InputOutput.{reader_seen}
-use Rattle.book_model.proofs.DayLemmas.{day_fits}
-use Rattle.book_model.specs.Outcomes.{tariff_outcome, close_outcome}
+use Rattle.book_model.specs.Words.{HasDay, RulingAsked, rule_outcome}
 use Rattle.book_core.specs.Calls.{Calls}
 use Rattle.book_core.specs.Transition.{IsTransition}
 use Rattle.book_import.specs.Imports.{Imports}
 use Rattle.book_import.specs.ReadLimits.{cut_of}
 use Rattle.book_reports.specs.WhatIfTexts.{what_if_report}
 use Rattle.office.specs.declared.request.Asked.{Asked}
-use Rattle.office.specs.declared.request.Asked.TheVariants.{Tariff, Close, Choose, Adopt, Import}
-use Rattle.office.specs.declared.request.Asked.TheVariants.{ImportBytes, Report, WhatIf}
+use Rattle.office.specs.declared.request.Asked.TheVariants.{Import, ImportBytes, Report, Rule}
+use Rattle.office.specs.declared.request.Asked.TheVariants.{WhatIf}
 use Rattle.office.specs.Requests.{Ruling, Text, IsAskable, no_dump, whole_dump}
 use Rattle.office.proofs.AskLemmas.{work_told, unread, as_asked}
 use Rattle.office.proofs.asking.ask.Goals as goal
 
-pub returns-in-Tariff : goal.returns-in-Tariff
-returns-in-Tariff g c =
+pub rule-requires : goal.rule-requires
+rule-requires g c =
+    let may = subst (λ (asked : Asked).
+    IsAskable asked (reader_seen g.R.Read.remaining c.args.source.now)) c.in-Rule.is c.requires in
+    subst HasDay (sym c.lent.ensures) may
+
+pub returns-in-Rule : goal.returns-in-Rule
+returns-in-Rule g c =
     let old = g.L.Ledger.seen c.args.ledger.now in
-    let new = g.L.Ledger.seen c.tariff.new.self in
-    as_asked (Tariff c.in-Tariff.text) c.in-Tariff.is
+    let new = g.L.Ledger.seen c.rule.new.self in
+    as_asked (Rule c.in-Rule.ruling) c.in-Rule.is
     (unread no_dump (record { is = refl; same = refl })
     (work_told Ruling c.ruled.ensures
-    (subst (λ (text : List ℕ).
-    IsTransition old new (Calls (λ ruled. ruled) (tariff_outcome text) c.tariff.result))
-    c.as_str.ensures.value c.tariff.ensures.work)))
-
-pub returns-in-Close : goal.returns-in-Close
-returns-in-Close g c =
-    let old = g.L.Ledger.seen c.args.ledger.now in
-    let new = g.L.Ledger.seen c.close.new.self in
-    let through = c.in-Close.through in
-    let day = subst (λ (asked : Asked).
-    IsAskable asked (reader_seen g.R.Read.remaining c.args.source.now)) c.in-Close.is c.requires in
-    as_asked (Close c.in-Close.period through) c.in-Close.is
-    (unread no_dump (record { is = refl; same = refl })
-    (work_told Ruling c.ruled-in-Close.ensures
-    (subst (λ (day : ℤ).
-    IsTransition old new (Calls (λ ruled. ruled) (close_outcome c.in-Close.period day) c.close.result))
-    (to_z-of_z w32 through (day_fits through day)) c.close.ensures.work)))
-
-pub returns-in-Choose : goal.returns-in-Choose
-returns-in-Choose g c =
-    as_asked (Choose c.in-Choose.name) c.in-Choose.is
-    (unread no_dump (record { is = refl; same = refl })
-    (work_told Ruling c.ruled-in-Choose.ensures c.choose.ensures.work))
-
-pub returns-in-Adopt : goal.returns-in-Adopt
-returns-in-Adopt g c =
-    as_asked (Adopt c.in-Adopt.rule) c.in-Adopt.is
-    (unread no_dump (record { is = refl; same = refl })
-    (work_told Ruling c.ruled-in-Adopt.ensures c.adopt_identity.ensures.work))
+    (subst (λ (ruling : RulingAsked).
+    IsTransition old new (Calls (λ ruled. ruled) (rule_outcome old.naming ruling) c.rule.result))
+    c.lent.ensures c.rule.ensures.work)))
 
 pub returns-in-Import : goal.returns-in-Import
 returns-in-Import g c =
@@ -100,4 +78,4 @@ returns-in-WhatIf g c =
     (subst (λ (tariff : List ℕ). IsTransition old new
     (Calls (λ (text : Vec ℕ Global). text.items) (what_if_report c.in-WhatIf.report tariff)
     c.what_if_text.result))
-    c.as_str-in-WhatIf.ensures.value c.what_if_text.ensures.work)))
+    c.as_str.ensures.value c.what_if_text.ensures.work)))

@@ -1,4 +1,4 @@
-use Rattle.std.proofs.Common.{◌∙◌, ◌∷◌, ◌++◌, [], ℕ, List, ap}
+use Rattle.std.proofs.Common.{◌∙◌, ◌∷◌, ◌++◌, ℕ, List, ap}
 use Rattle.std.specs.Str.Lines.{strip_carriage_return}
 use Rattle.program_output.specs.Names.{HasRead, IsNamesFault, names_in}
 use Rattle.program_output.proofs.NameLemmas.{fault_is, line_read, line_refused}
@@ -9,10 +9,11 @@ returns-in_err-keep_name-clause-refused c =
     let list = c.args.self.now in
     let why = c.in_err-keep_name.field-0.0 in
     fault_is c.from_residual.result why
-    (λ fault. (text : List ℕ) → HasRead text list
-    → IsNamesFault (names_in (text ++ c.args.byte ∷ [])) fault)
+    (λ fault. (text more : List ℕ) → HasRead text list
+    → IsNamesFault (names_in (text ++ c.args.byte ∷ more)) fault)
     c.from_residual.ensures.1
-    (λ text had. line_refused text list c.args.byte c.without_return.result.now why c.if-byte-eq10.true
+    (λ text more had. line_refused text more list c.args.byte c.without_return.result.now why
+    c.if-byte-eq10.true
     (c.without_return.ensures ∙ ap strip_carriage_return c.deref.ensures.value) had
     c.in_err-keep_name.ensures.refused)
 

@@ -6,7 +6,7 @@ use Rattle.book_core.proofs.SubmissionLemmas.{takes_part}
 use Rattle.book_core.proofs.TransitionLemmas.{work_as}
 use Rattle.table_ledger.specs.LedgerState.{ledger_state}
 use Rattle.table_ledger.specs.Stages.{most_in_commit}
-use Rattle.table_ledger.proofs.OneCall.{many_come, many_reopen}
+use Rattle.table_ledger.proofs.OneCall.{many_come, many_reopen, stays_closed}
 use Rattle.table_ledger.proofs.ServedWork.{work_settled}
 use Rattle.table_ledger.proofs.ledger.TableLedgerLedger.accept_many.Goals as goal
 
@@ -14,6 +14,9 @@ pub returns-then-self-clause-takes : goal.returns-then-self-clause-takes
 returns-then-self-clause-takes g c =
     many_reopen (ledger_state g.N.Naming.name_of c.args.self.now)
     (g.N.Naming.name_of c.args.self.now.naming) (records_in c.args.records.now) c.if-self.true
+
+pub returns-then-self-clause-reopens : goal.returns-then-self-clause-reopens
+returns-then-self-clause-reopens g c = stays_closed c.if-self.true
 
 pub returns-then-self-clause-few : goal.returns-then-self-clause-few
 returns-then-self-clause-few g c =
@@ -40,6 +43,13 @@ returns-clause-takes g c =
     events is takes)
     (work_settled (many_come names (records_in part)) g.S.Store c.args.self.now.tables.store
     c.if-self.false g.met.S.Store.settled c.finish.ensures.settles c.try_accept_many-tried.ensures.tries).0
+
+pub returns-clause-reopens : goal.returns-clause-reopens
+returns-clause-reopens g c =
+    let names = g.N.Naming.name_of c.args.self.now.naming in
+    let part = c.first_records-first.result.now in
+    (work_settled (many_come names (records_in part)) g.S.Store c.args.self.now.tables.store
+    c.if-self.false g.met.S.Store.settled c.finish.ensures.settles c.try_accept_many-tried.ensures.tries).1
 
 pub returns-clause-few : goal.returns-clause-few
 returns-clause-few g c =
