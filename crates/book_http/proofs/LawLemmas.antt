@@ -1,6 +1,6 @@
 -- What requests do to the books, one after another.
-use Rattle.std.proofs.Common.{◌≡◌, ◌∙◌, ℕ, Bool, true, false, List, [], ◌++◌, length, take, None}
-use Rattle.std.proofs.Common.{ltb, not, refl, sym, ap, subst, inl, inr, Option, Result, Ok, Err}
+use Rattle.std.proofs.Common.{◌≡◌, ◌∙◌, ℕ, Bool, true, false, List, [], ◌++◌, None}
+use Rattle.std.proofs.Common.{not, refl, sym, ap, subst, inl, inr, Option, Result, Ok, Err}
 use Rattle.std.specs.Str.{is_utf8}
 use Rattle.httparse.specs.Grammar.{RequestHead}
 use Rattle.smf_frames.specs.declared.dump.Layout.{Layout}
@@ -27,13 +27,11 @@ use Rattle.book_reports.specs.WhatIfTexts.{what_if_report}
 use Rattle.office.specs.Requests.{Dump, Response, Ruling, Count, Text, response_outcome}
 use Rattle.office.specs.Requests.{Receives, whole_dump}
 use Rattle.office.proofs.LawLemmas.{receives_answered}
-use Rattle.book_http.specs.declared.asked.Asked.{Asked}
-use Rattle.book_http.specs.declared.asked.Asked.TheVariants as asks
 use Rattle.report_rows.specs.declared.report_row.BodyKind.{BodyKind}
 use Rattle.report_rows.specs.declared.report_row.BodyKind.TheVariants as kinds
 use Rattle.book_http.specs.Asked.{asked}
 use Rattle.book_http.specs.Answer.{office_reply, AnswersOffice, AnswersReport, AnswersImport}
-use Rattle.book_http.specs.Answer.{AnswersDetails, AnswersWhatIf, AnswersBody, AnswersAsked, Prices}
+use Rattle.book_http.specs.Answer.{AnswersDetails, AnswersWhatIf, AnswersAsked, Prices}
 use Rattle.book_http.specs.Answer.{UnlessBad}
 use Rattle.book_http.specs.Answer.{Answers, done, no_memory, no_head, a_head, form_kind}
 use Rattle.book_http.specs.Head.{HasHead}
@@ -41,6 +39,7 @@ use Rattle.book_http.specs.Laws.{IsUnhindered, RequestTwiceIsOnce, RequestsMakeH
 use Rattle.book_http.specs.Replies.{Reply}
 use Rattle.book_http.specs.Requested.{AnswersRequest, RequestSeen, Settles}
 use Rattle.book_http.specs.Requested.{WantsDetails, WantsImport, WantsReport, WantsWhatIf}
+use Rattle.book_http.specs.Requested.{wanted_by}
 use Rattle.book_http.specs.declared.served.Served.{Served}
 use Rattle.book_http.specs.Served.{IsDone, SendsAsRead}
 use Rattle.book_http.proofs.HeadLemmas.{head_unique}
@@ -79,21 +78,13 @@ unless_none true Made reply was before events is none made = made.none.none
 unless_none false Made reply was before events is none made = none made
 
 -- nor is what a period would have cost
-what_if_none : (what_if : WhatIf) (body : List ℕ) (reply : Reply) (was : Bool) (before : Book)
+pub what_if_none : (what_if : WhatIf) (body : List ℕ) (reply : Reply) (was : Bool) (before : Book)
     (events : List Event) (is : Bool) → AnswersWhatIf what_if body reply was before events is
     → events ≡ []
 what_if_none what_if body reply was before events is =
     unless_none (not (is_utf8 body)) (AnswersOffice (form_kind what_if.form) (Prices what_if body) reply)
     reply was before events is
     (text_none _ (what_if_report what_if body) reply was before events is refl)
-
--- whatever came of its body
-pub what_if_body_none : (what_if : WhatIf) (size : ℕ) (behind : List ℕ) (reply : Reply) (was : Bool)
-    (before : Book) (events : List Event) (is : Bool)
-    → AnswersBody (AnswersWhatIf what_if) size behind reply was before events is → events ≡ []
-what_if_body_none what_if size behind reply was before events is =
-    unless_none (ltb (length behind) size) (AnswersWhatIf what_if (take size behind) reply) reply was
-    before events is (what_if_none what_if (take size behind) reply was before events is)
 
 -- an import answers a receipt
 pub record IsCounted (naming : Naming) (dump : Dump) (told : Result Response LedgerFault) (was : Bool)
@@ -132,13 +123,11 @@ module _ (naming : Naming) (once twice : Reply) (before : Book) (first second : 
   nothing_more : second ≡ [] → after_all (second ++ first) before ≡ after_all first before
   nothing_more none = ap (λ (events : List Event). after_all (events ++ first) before) none
 
-  import_twice : (short : Bool) (layout : Layout) (body : List ℕ)
-      → UnlessBad short (AnswersImport naming layout body once) once false before first between
-      → IsUnhindered once
-      → UnlessBad short (AnswersImport naming layout body twice) twice between (after_all first before)
-      second is → after_all (second ++ first) before ≡ after_all first before
-  import_twice true layout body one unhindered two = nothing_more two.none.none
-  import_twice false layout body one unhindered two =
+  import_twice : (layout : Layout) (body : List ℕ)
+      → AnswersImport naming layout body once false before first between → IsUnhindered once
+      → AnswersImport naming layout body twice between (after_all first before) second is
+      → after_all (second ++ first) before ≡ after_all first before
+  import_twice layout body one unhindered two =
       let dump = whole_dump layout body in
       let found = front layout body in
       let stop = stop_after None found in
@@ -149,22 +138,21 @@ module _ (naming : Naming) (once twice : Reply) (before : Book) (first second : 
       a.imported
       (unhindered.whole a.receipt (one.replied ∙ ap (office_reply kinds.Text) a.counted)) b.imported
 
-  -- what a head asks
-  asked_twice : (wanted : Asked ℕ) (behind : List ℕ)
-      → AnswersAsked naming wanted behind once false before first between → IsUnhindered once
-      → AnswersAsked naming wanted behind twice between (after_all first before) second is
+  -- whatever is asked
+  wanted_twice : (request : RequestSeen)
+      → AnswersRequest naming request once false before first between → IsUnhindered once
+      → AnswersRequest naming request twice between (after_all first before) second is
       → after_all (second ++ first) before ≡ after_all first before
-  asked_twice (asks.Settled due) behind one unhindered two = nothing_more two.none.none
-  asked_twice (asks.Report report kind) behind one unhindered two =
+  wanted_twice (Settles due) one unhindered two = nothing_more two.none.none
+  wanted_twice (WantsReport report kind) one unhindered two =
       nothing_more
       (report_none naming report kind twice between (after_all first before) second is two)
-  asked_twice (asks.Details wanted) behind one unhindered two =
+  wanted_twice (WantsDetails wanted) one unhindered two =
       nothing_more (details_none naming wanted twice between (after_all first before) second is two)
-  asked_twice (asks.WhatIf what_if size) behind one unhindered two =
-      nothing_more
-      (what_if_body_none what_if size behind twice between (after_all first before) second is two)
-  asked_twice (asks.Import layout size) behind one unhindered two =
-      import_twice (ltb (length behind) size) layout (take size behind) one unhindered two
+  wanted_twice (WantsWhatIf what_if body) one unhindered two =
+      nothing_more (what_if_none what_if body twice between (after_all first before) second is two)
+  wanted_twice (WantsImport layout body) one unhindered two =
+      import_twice layout body one unhindered two
 
   -- a head's request, after another request of the same bytes
   head_twice : (bytes : List ℕ) (head : RequestHead) (behind : List ℕ) → HasHead bytes head behind
@@ -176,7 +164,7 @@ module _ (naming : Naming) (once twice : Reply) (before : Book) (first second : 
   head_twice bytes head behind stands (a_head other rest there (no_memory refused)) unhindered two =
       absurd (unhindered.done refused.replied)
   head_twice bytes head behind stands (a_head other rest there (done made)) unhindered two =
-      asked_twice (asked head) behind
+      wanted_twice (wanted_by (asked head) behind)
       (asked_alike naming bytes head other behind rest once false before first between stands there
       made) unhindered two
 
@@ -198,39 +186,7 @@ none_answered : (naming : Naming) (book : Book) (events : List Event) → events
     → AreMadeOf naming book events
 none_answered naming book events none = subst (AreMadeOf naming book) (sym none) tt
 
-body_answered : (short : Bool) (naming : Naming) (layout : Layout) (body : List ℕ) (reply : Reply)
-    → MakesAnswered naming (UnlessBad short (AnswersImport naming layout body reply) reply)
-body_answered true naming layout body reply book was events is made =
-    none_answered naming book events made.none.none
-body_answered false naming layout body reply book was events is made =
-    receives_answered naming (whole_dump layout body) made.told book was events is made.made
-
-asked_answered : (wanted : Asked ℕ) (naming : Naming) (behind : List ℕ) (reply : Reply)
-    → MakesAnswered naming (AnswersAsked naming wanted behind reply)
-asked_answered (asks.Settled due) naming behind reply book was events is made =
-    none_answered naming book events made.none.none
-asked_answered (asks.Report report kind) naming behind reply book was events is made =
-    none_answered naming book events (report_none naming report kind reply was book events is made)
-asked_answered (asks.Details wanted) naming behind reply book was events is made =
-    none_answered naming book events (details_none naming wanted reply was book events is made)
-asked_answered (asks.WhatIf what_if size) naming behind reply book was events is made =
-    none_answered naming book events
-    (what_if_body_none what_if size behind reply was book events is made)
-asked_answered (asks.Import layout size) naming behind reply book was events is made =
-    body_answered (ltb (length behind) size) naming layout (take size behind) reply book was events
-    is made
-
-pub request_answered : (naming : Naming) (bytes : List ℕ) (reply : Reply)
-    → MakesAnswered naming (Answers naming bytes reply)
-request_answered naming bytes reply book was events is (no_head some never refused) =
-    none_answered naming book events refused.none.none
-request_answered naming bytes reply book was events is
-    (a_head head behind stands (no_memory refused)) =
-    none_answered naming book events refused.none.none
-request_answered naming bytes reply book was events is (a_head head behind stands (done made)) =
-    asked_answered (asked head) naming behind reply book was events is made
-
--- so does what was read of a request, whatever bytes asked it
+-- what is asked makes events that the books answered, whatever bytes asked it
 pub wanted_answered : (naming : Naming) (request : RequestSeen) (reply : Reply)
     → MakesAnswered naming (AnswersRequest naming request reply)
 wanted_answered naming (Settles due) reply book was events is made =
@@ -243,6 +199,17 @@ wanted_answered naming (WantsWhatIf what_if body) reply book was events is made 
     none_answered naming book events (what_if_none what_if body reply was book events is made)
 wanted_answered naming (WantsImport layout body) reply book was events is made =
     receives_answered naming (whole_dump layout body) made.told book was events is made.made
+
+-- so do the bytes of a request
+pub request_answered : (naming : Naming) (bytes : List ℕ) (reply : Reply)
+    → MakesAnswered naming (Answers naming bytes reply)
+request_answered naming bytes reply book was events is (no_head some never refused) =
+    none_answered naming book events refused.none.none
+request_answered naming bytes reply book was events is
+    (a_head head behind stands (no_memory refused)) =
+    none_answered naming book events refused.none.none
+request_answered naming bytes reply book was events is (a_head head behind stands (done made)) =
+    wanted_answered naming (wanted_by (asked head) behind) reply book was events is made
 
 -- the law of it
 pub requests_make_history : RequestsMakeHistory

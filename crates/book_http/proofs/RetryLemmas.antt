@@ -1,6 +1,6 @@
 -- A request after one that was hindered.
-use Rattle.std.proofs.Common.{◌≡◌, ◌∙◌, ◌⊎◌, inl, inr, ℕ, Bool, true, false, List, [], ◌++◌, length}
-use Rattle.std.proofs.Common.{take, None, ltb, sym, ap, subst, append-nil}
+use Rattle.std.proofs.Common.{◌≡◌, ◌∙◌, ◌⊎◌, inl, inr, ℕ, Bool, false, List, [], ◌++◌}
+use Rattle.std.proofs.Common.{None, sym, ap, subst, append-nil}
 use Rattle.httparse.specs.Grammar.{RequestHead}
 use Rattle.smf_frames.specs.declared.dump.Layout.{Layout}
 use Rattle.book_model.specs.Words.{front, Book, Event, after_all, Naming}
@@ -14,16 +14,16 @@ use Rattle.book_import.proofs.RetryLemmas.{stops_are_mended}
 use Rattle.book_import.proofs.RepeatLemmas.{is_whole}
 use Rattle.office.specs.Requests.{whole_dump}
 use Rattle.report_rows.specs.declared.report_row.BodyKind.TheVariants as kinds
-use Rattle.book_http.specs.declared.asked.Asked.{Asked}
-use Rattle.book_http.specs.declared.asked.Asked.TheVariants as asks
 use Rattle.book_http.specs.Asked.{asked}
-use Rattle.book_http.specs.Answer.{office_reply, AnswersImport, AnswersAsked, Answers, UnlessBad}
+use Rattle.book_http.specs.Answer.{office_reply, AnswersImport, AnswersAsked, Answers}
 use Rattle.book_http.specs.Answer.{done, no_memory, no_head, a_head}
 use Rattle.book_http.specs.Head.{HasHead, HasNoHead}
 use Rattle.book_http.specs.Laws.{IsUnhindered, IsWhole, RequestsAreMended}
 use Rattle.book_http.specs.Replies.{Reply}
+use Rattle.book_http.specs.Requested.{AnswersRequest, RequestSeen, Settles, WantsDetails}
+use Rattle.book_http.specs.Requested.{WantsImport, WantsReport, WantsWhatIf, wanted_by}
 use Rattle.book_http.proofs.LawLemmas.{asked_alike, details_none, import_counted, report_none}
-use Rattle.book_http.proofs.LawLemmas.{what_if_body_none}
+use Rattle.book_http.proofs.LawLemmas.{what_if_none}
 
 -- an import that nothing hindered leaves the books of a whole one
 import_left : (naming : Naming) (stop : Stop) (records : List (List ℕ)) (before : Book)
@@ -49,16 +49,12 @@ module _ (once twice alone : Reply) (before : Book) (first second all : List Eve
   none_once (inl none) so = none
   none_once (inr made) so = so made
 
-  import_mended : (short : Bool) (naming : Naming) (layout : Layout) (body : List ℕ)
-      → (first ≡ [])
-      ⊎ UnlessBad short (AnswersImport naming layout body once) once false before first between
-      → UnlessBad short (AnswersImport naming layout body twice) twice false (after_all first before)
-      second is → IsWhole twice
-      → UnlessBad short (AnswersImport naming layout body alone) alone false before all end
+  import_mended : (naming : Naming) (layout : Layout) (body : List ℕ)
+      → (first ≡ []) ⊎ AnswersImport naming layout body once false before first between
+      → AnswersImport naming layout body twice false (after_all first before) second is
+      → IsWhole twice → AnswersImport naming layout body alone false before all end
       → IsUnhindered alone → after_all (second ++ first) before ≡ after_all all before
-  import_mended true naming layout body one two whole single unhindered =
-      none_at_all (none_once one (λ made. made.none.none)) two.none.none single.none.none
-  import_mended false naming layout body one two whole single unhindered =
+  import_mended naming layout body one two whole single unhindered =
       let dump = whole_dump layout body in
       let found = front layout body in
       let stop = stop_after None found in
@@ -83,33 +79,31 @@ module _ (once twice alone : Reply) (before : Book) (first second all : List Eve
             (whole.apart b.receipt counted) ∙ sym left
       ]
 
-  -- what a head asks
-  asked_mended : (wanted : Asked ℕ) (naming : Naming) (behind : List ℕ)
-      → (first ≡ []) ⊎ AnswersAsked naming wanted behind once false before first between
-      → AnswersAsked naming wanted behind twice false (after_all first before) second is
-      → IsWhole twice → AnswersAsked naming wanted behind alone false before all end
+  -- whatever is asked
+  wanted_mended : (request : RequestSeen) (naming : Naming)
+      → (first ≡ []) ⊎ AnswersRequest naming request once false before first between
+      → AnswersRequest naming request twice false (after_all first before) second is
+      → IsWhole twice → AnswersRequest naming request alone false before all end
       → IsUnhindered alone → after_all (second ++ first) before ≡ after_all all before
-  asked_mended (asks.Settled due) naming behind one two whole single unhindered =
+  wanted_mended (Settles due) naming one two whole single unhindered =
       none_at_all (none_once one (λ made. made.none.none)) two.none.none single.none.none
-  asked_mended (asks.Report report kind) naming behind one two whole single unhindered =
+  wanted_mended (WantsReport report kind) naming one two whole single unhindered =
       none_at_all
       (none_once one (λ made. report_none naming report kind once false before first between made))
       (report_none naming report kind twice false (after_all first before) second is two)
       (report_none naming report kind alone false before all end single)
-  asked_mended (asks.Details wanted) naming behind one two whole single unhindered =
+  wanted_mended (WantsDetails wanted) naming one two whole single unhindered =
       none_at_all
       (none_once one (λ made. details_none naming wanted once false before first between made))
       (details_none naming wanted twice false (after_all first before) second is two)
       (details_none naming wanted alone false before all end single)
-  asked_mended (asks.WhatIf what_if size) naming behind one two whole single unhindered =
+  wanted_mended (WantsWhatIf what_if body) naming one two whole single unhindered =
       none_at_all
-      (none_once one
-      (λ made. what_if_body_none what_if size behind once false before first between made))
-      (what_if_body_none what_if size behind twice false (after_all first before) second is two)
-      (what_if_body_none what_if size behind alone false before all end single)
-  asked_mended (asks.Import layout size) naming behind one two whole single unhindered =
-      import_mended (ltb (length behind) size) naming layout (take size behind) one two whole single
-      unhindered
+      (none_once one (λ made. what_if_none what_if body once false before first between made))
+      (what_if_none what_if body twice false (after_all first before) second is two)
+      (what_if_none what_if body alone false before all end single)
+  wanted_mended (WantsImport layout body) naming one two whole single unhindered =
+      import_mended naming layout body one two whole single unhindered
 
 -- a request without a head does nothing
 headless : (naming : Naming) (bytes : List ℕ) (reply : Reply) (before : Book) (events : List Event)
@@ -160,7 +154,8 @@ requests_are_mended naming before bytes once twice alone first second all betwee
     absurd (whole.unhindered.done refused.replied)
 requests_are_mended naming before bytes once twice alone first second all between is end one
     (a_head head behind stands (done two)) whole single unhindered =
-    asked_mended once twice alone before first second all between is end (asked head) naming behind
+    wanted_mended once twice alone before first second all between is end
+    (wanted_by (asked head) behind) naming
     (with_head naming bytes head behind once before first between stands one) two whole
     (unhindered_head naming bytes head behind alone before all end stands single unhindered)
     unhindered

@@ -6,7 +6,7 @@ use Rattle.std.proofs.lemmas.Bool.{true≢false}
 use Rattle.streams.specs.InputOutput.{Output}
 use Rattle.book_model.specs.Words.{Naming}
 use Rattle.book_core.specs.Ledgers.{Books, Seen}
-use Rattle.book_core.specs.Transition.{IsTransition, NoEvent, Transition}
+use Rattle.book_core.specs.Transition.{IsTransition, NoEvent}
 use Rattle.book_core.proofs.TransitionLemmas.{Implies, no_work, work_as}
 use Rattle.book_reports.specs.declared.streamed_details.DetailReport.{DetailReport}
 use Rattle.book_http.specs.declared.asked.Asked.{Asked}
@@ -14,8 +14,7 @@ use Rattle.book_http.specs.declared.asked.Asked.TheVariants as asks
 use Rattle.book_http.specs.declared.served.Served.{Served}
 use Rattle.book_http.specs.declared.served.Served.TheVariants as served
 use Rattle.book_http.specs.declared.status.Status.TheVariants.{BadRequest}
-use Rattle.book_http.specs.Answer.{Answers, AnswersAsked, AnswersDetails, AnswersImport}
-use Rattle.book_http.specs.Answer.{AnswersWhatIf, RefusesRequest, UnlessBad, a_head, done, no_head}
+use Rattle.book_http.specs.Answer.{Answers, AnswersDetails, RefusesRequest, a_head, done, no_head}
 use Rattle.book_http.specs.Answer.{no_memory}
 use Rattle.book_http.specs.Asked.{asked}
 use Rattle.book_http.specs.Replies.{Reply, refusal}
@@ -35,30 +34,6 @@ refuses seen reply =
     work_as seen seen NoEvent (RefusesRequest reply reply)
     (λ was before events is none. record { none = none; replied = refl }) (no_work seen)
 
--- what is wanted with a body, if that is not too short
-wanted_answered : (short : Bool) (naming : Naming) (Wants : List ℕ → RequestSeen)
-    (Whole : List ℕ → Reply → Transition) (body : List ℕ) (reply : Reply)
-    → Implies (AnswersRequest naming (Wants body) reply) (Whole body reply)
-    → Implies
-    (AnswersRequest naming (if short then Settles (refusal BadRequest) else Wants body) reply)
-    (UnlessBad short (Whole body reply) reply)
-wanted_answered true naming Wants Whole body reply same = λ was before events is made. made
-wanted_answered false naming Wants Whole body reply same = same
-
--- what a head asks
-asked_answered : (wanted : Asked ℕ) (naming : Naming) (behind : List ℕ) (reply : Reply)
-    → Implies (AnswersRequest naming (wanted_by wanted behind) reply)
-    (AnswersAsked naming wanted behind reply)
-asked_answered (asks.Settled due) naming behind reply = λ was before events is made. made
-asked_answered (asks.Report report kind) naming behind reply = λ was before events is made. made
-asked_answered (asks.Details details) naming behind reply = λ was before events is made. made
-asked_answered (asks.WhatIf what_if size) naming behind reply =
-    wanted_answered (nat_lt (length behind) size) naming (WantsWhatIf what_if)
-    (AnswersWhatIf what_if) (take size behind) reply (λ was before events is made. made)
-asked_answered (asks.Import layout size) naming behind reply =
-    wanted_answered (nat_lt (length behind) size) naming (WantsImport layout)
-    (AnswersImport naming layout) (take size behind) reply (λ was before events is made. made)
-
 -- what the bytes ask
 pub bytes_answered : (naming : Naming) (bytes : List ℕ) (request : RequestSeen) (reply : Reply)
     → AreAsking bytes request
@@ -68,8 +43,8 @@ bytes_answered naming bytes request reply (headless some never same) =
     (subst (λ request. AnswersRequest naming request reply was before events is) same made)
 bytes_answered naming bytes request reply (headed head behind stands (inl same)) =
     λ was before events is made. a_head head behind stands
-    (done (asked_answered (asked head) naming behind reply was before events is
-    (subst (λ request. AnswersRequest naming request reply was before events is) same made)))
+    (done
+    (subst (λ request. AnswersRequest naming request reply was before events is) same made))
 bytes_answered naming bytes request reply (headed head behind stands (inr same)) =
     λ was before events is made. a_head head behind stands
     (no_memory

@@ -1,5 +1,5 @@
 -- A request has one answer, by its bytes and the book before it.
-use Rattle.std.proofs.Common.{◌≡◌, ◌≢◌, ◌∙◌, ℕ, Bool, true, false, List, [], ◌∷◌, length, take, ltb}
+use Rattle.std.proofs.Common.{◌≡◌, ◌≢◌, ◌∙◌, ℕ, Bool, true, false, List, [], ◌∷◌, take}
 use Rattle.std.proofs.Common.{Result, Ok, Err, None, not, refl, sym, ap, subst}
 use Rattle.std.specs.Str.{is_utf8}
 use Rattle.smf_frames.specs.declared.dump.Layout.{Layout}
@@ -25,13 +25,14 @@ use Rattle.office.specs.Requests.{Response, Text, response_outcome, whole_dump}
 use Rattle.report_rows.specs.declared.report_row.BodyKind.{BodyKind}
 use Rattle.report_rows.specs.declared.report_row.BodyKind.TheVariants as kinds
 use Rattle.book_http.specs.declared.asked.Asked.{Asked}
-use Rattle.book_http.specs.declared.asked.Asked.TheVariants as asks
 use Rattle.book_http.specs.declared.status.Status.TheVariants.{Unavailable}
 use Rattle.book_http.specs.Answer.{office_reply, form_kind, AnswersOffice}
 use Rattle.book_http.specs.Answer.{AnswersImport, AnswersWhatIf, AnswersAsked}
 use Rattle.book_http.specs.Answer.{Prices, RefusesRequest, UnlessBad, UnlessMemory, done}
 use Rattle.book_http.specs.Answer.{no_memory, no_head, a_head}
 use Rattle.book_http.specs.Asked.{asked}
+use Rattle.book_http.specs.Requested.{AnswersRequest, RequestSeen, Settles, WantsDetails}
+use Rattle.book_http.specs.Requested.{WantsImport, WantsReport, WantsWhatIf, wanted_by}
 use Rattle.book_http.specs.Laws.{IsSame, AnswersAreOne}
 use Rattle.book_http.specs.Replies.{Reply, receipt_reply, import_status}
 use Rattle.book_http.proofs.LawLemmas.{asked_alike, import_counted, text_none}
@@ -166,23 +167,19 @@ module _ (one other : Reply) (was : Bool) (before : Book) (first second : List E
         events = sym left.events ∙ right.events;
       }
 
-  asked_same : (wanted : Asked ℕ) (naming : Naming) (behind : List ℕ)
-      → AnswersAsked naming wanted behind one was before first is_one → one.status ≢ Unavailable
-      → AnswersAsked naming wanted behind other was before second is_other
+  wanted_same : (request : RequestSeen) (naming : Naming)
+      → AnswersRequest naming request one was before first is_one → one.status ≢ Unavailable
+      → AnswersRequest naming request other was before second is_other
       → other.status ≢ Unavailable → IsSame one other first second
-  asked_same (asks.Settled due) naming behind a served b served_too = refusals_same _ a b
-  asked_same (asks.Report report kind) naming behind a served b served_too =
+  wanted_same (Settles due) naming a served b served_too = refusals_same due a b
+  wanted_same (WantsReport report kind) naming a served b served_too =
       texts_same kind (report_outcome naming report) refl a served b served_too
-  asked_same (asks.Details wanted) naming behind a served b served_too =
+  wanted_same (WantsDetails wanted) naming a served b served_too =
       texts_same (form_kind wanted.form) (detail_text_outcome wanted naming) refl a served b served_too
-  asked_same (asks.WhatIf what_if size) naming behind a served b served_too =
-      let body = take size behind in
-      unless_same (ltb (length behind) size) (AnswersWhatIf what_if body) (what_ifs_same what_if body) a
-      served b served_too
-  asked_same (asks.Import layout size) naming behind a served b served_too =
-      let body = take size behind in
-      unless_same (ltb (length behind) size) (AnswersImport naming layout body)
-      (imports_same naming layout body) a served b served_too
+  wanted_same (WantsWhatIf what_if body) naming a served b served_too =
+      what_ifs_same what_if body a served b served_too
+  wanted_same (WantsImport layout body) naming a served b served_too =
+      imports_same naming layout body a served b served_too
 
 -- the law of it
 pub answers_are_one : AnswersAreOne
@@ -199,8 +196,8 @@ answers_are_one naming before bytes one other was first second is_one is_other
     (a_head head behind stands a) served (a_head head_too rest stands_too b) served_too =
     let made = was_done (asked head) naming behind one was before first is_one a served in
     let too = was_done (asked head_too) naming rest other was before second is_other b served_too in
-    asked_same one other was before first second is_one is_other (asked head) naming behind made
-    served
+    wanted_same one other was before first second is_one is_other
+    (wanted_by (asked head) behind) naming made served
     (asked_alike naming bytes head head_too behind rest other was before second is_other stands
     stands_too too)
     served_too

@@ -1,7 +1,7 @@
 -- What a request is answered, and what it does to the books: by the book before it, and by the
 -- bytes of the request.
 use Rattle.std.specs.Prelude.{◌≡◌, ◌<◌, ℕ, Bool, true, false, not, List, length, take, nat_lt}
-use Rattle.std.specs.Prelude.{Result, Ok, Err}
+use Rattle.std.specs.Prelude.{if◌then◌else◌, Result, Ok, Err}
 use Rattle.std.specs.Str.{is_utf8}
 use Rattle.httparse.specs.Grammar.{RequestHead}
 use Rattle.smf_frames.specs.declared.dump.Layout.{Layout}
@@ -109,20 +109,39 @@ AnswersWhatIf what_if body reply =
     UnlessBad (not (is_utf8 body))
     (AnswersOffice (form_kind what_if.form) (Prices what_if body) reply) reply
 
--- a body that ended early is bad; with one that is whole this is done
-abbrev pub AnswersBody : (List ℕ → Reply → Transition) → ℕ → List ℕ → Reply → Transition
-AnswersBody Whole size behind reply =
-    UnlessBad (nat_lt (length behind) size) (Whole (take size behind) reply) reply
+-- what a request asks of the books; or the reply to it, where it asks nothing of them
+pub data RequestSeen : Type 0 where
+  Settles : Reply → RequestSeen
+  WantsReport : Report → BodyKind → RequestSeen
+  WantsDetails : DetailReport → RequestSeen
+  WantsWhatIf : WhatIf → List ℕ → RequestSeen
+  WantsImport : Layout → List ℕ → RequestSeen
+
+-- a request is answered, and this is the reply
+abbrev pub AnswersRequest : Naming → RequestSeen → Reply → Transition
+AnswersRequest naming (Settles due) reply = RefusesRequest due reply
+AnswersRequest naming (WantsReport report kind) reply = AnswersReport naming report kind reply
+AnswersRequest naming (WantsDetails wanted) reply = AnswersDetails naming wanted reply
+AnswersRequest naming (WantsWhatIf what_if body) reply = AnswersWhatIf what_if body reply
+AnswersRequest naming (WantsImport layout body) reply = AnswersImport naming layout body reply
+
+-- what is asked with a body of so many bytes, the first ones after the head; where the input ended
+-- before the last of them, the request is bad
+abbrev pub wanted_with : (List ℕ → RequestSeen) → ℕ → List ℕ → RequestSeen
+wanted_with Wants size behind =
+    if nat_lt (length behind) size then Settles (refusal BadRequest) else Wants (take size behind)
+
+-- what a head asks, by the bytes after it
+abbrev pub wanted_by : Asked ℕ → List ℕ → RequestSeen
+wanted_by (asks.Settled due) behind = Settles (reply_of due)
+wanted_by (asks.Report report kind) behind = WantsReport report kind
+wanted_by (asks.Details details) behind = WantsDetails details
+wanted_by (asks.WhatIf what_if size) behind = wanted_with (WantsWhatIf what_if) size behind
+wanted_by (asks.Import layout size) behind = wanted_with (WantsImport layout) size behind
 
 -- what is asked is answered, by the bytes after the head
 abbrev pub AnswersAsked : Naming → Asked ℕ → List ℕ → Reply → Transition
-AnswersAsked naming (asks.Settled due) behind reply = RefusesRequest (reply_of due) reply
-AnswersAsked naming (asks.Report report kind) behind reply = AnswersReport naming report kind reply
-AnswersAsked naming (asks.Details wanted) behind reply = AnswersDetails naming wanted reply
-AnswersAsked naming (asks.Import layout size) behind reply =
-    AnswersBody (AnswersImport naming layout) size behind reply
-AnswersAsked naming (asks.WhatIf what_if size) behind reply =
-    AnswersBody (AnswersWhatIf what_if) size behind reply
+AnswersAsked naming wanted behind reply = AnswersRequest naming (wanted_by wanted behind) reply
 
 -- This was done and replied; or memory ran out, nothing was done, and the reply says so.
 pub data UnlessMemory (Made : Transition) (reply : Reply) (was : Bool) (before : Book)

@@ -1,37 +1,22 @@
 -- What is asked by a request that was read whole: by what its head asks, and the bytes after that.
-use Rattle.std.specs.Prelude.{◌≡◌, ◌⊎◌, ◌<◌, ℕ, Bool, true, List, [], ◌++◌, length, take, nat_lt}
-use Rattle.std.specs.Prelude.{if◌then◌else◌, IfOk, Option, Result, Ok, Err, Vec}
+use Rattle.std.specs.Prelude.{◌≡◌, ◌⊎◌, ◌<◌, ℕ, Bool, true, List, [], ◌++◌, length}
+use Rattle.std.specs.Prelude.{IfOk, Option, Result, Ok, Err, Vec}
 use Rattle.std.specs.Global.{Global}
 use Rattle.httparse.specs.Grammar.{RequestHead}
-use Rattle.smf_frames.specs.declared.dump.Layout.{Layout}
 use Rattle.streams.specs.declared.source.Source.{Source}
 use Rattle.streams.specs.Sources.{has_ended}
-use Rattle.book_model.specs.Words.{Naming}
-use Rattle.book_core.specs.Transition.{Transition}
-use Rattle.book_reports.specs.declared.report.Report.{Report}
-use Rattle.book_reports.specs.declared.streamed_details.DetailReport.{DetailReport}
-use Rattle.book_reports.specs.declared.what_if.WhatIf.{WhatIf}
-use Rattle.report_rows.specs.declared.report_row.BodyKind.{BodyKind}
 use Rattle.book_http.specs.declared.asked.Asked.{Asked}
 use Rattle.book_http.specs.declared.asked.Asked.TheVariants as asks
 use Rattle.book_http.specs.declared.requested.ReadFailed.{ReadFailed}
 use Rattle.book_http.specs.declared.served.Unanswered.{Unanswered}
 use Rattle.book_http.specs.declared.served.Unanswered.TheVariants.{Closed, Failed}
 use Rattle.book_http.specs.declared.status.Status.TheVariants.{BadRequest, Unavailable}
-use Rattle.book_http.specs.Answer.{AnswersDetails, AnswersImport, AnswersReport, AnswersWhatIf}
-use Rattle.book_http.specs.Answer.{RefusesRequest}
+pub use Rattle.book_http.specs.Answer.{AnswersRequest, RequestSeen, Settles, WantsDetails}
+pub use Rattle.book_http.specs.Answer.{WantsImport, WantsReport, WantsWhatIf, wanted_by, wanted_with}
 use Rattle.book_http.specs.Asked.{asked}
 use Rattle.book_http.specs.Head.{HasHead, HasNoHead}
 use Rattle.book_http.specs.Reads.{IsDueOn, ReadOutcome, ReadsOn}
-use Rattle.book_http.specs.Replies.{Reply, refusal, reply_of}
-
--- what a request asks of the books; or the reply to it, where it asks nothing of them
-pub data RequestSeen : Type 0 where
-  Settles : Reply → RequestSeen
-  WantsReport : Report → BodyKind → RequestSeen
-  WantsDetails : DetailReport → RequestSeen
-  WantsWhatIf : WhatIf → List ℕ → RequestSeen
-  WantsImport : Layout → List ℕ → RequestSeen
+use Rattle.book_http.specs.Replies.{refusal, reply_of}
 
 -- a request that was read whole, with its body
 abbrev pub WholeRequest : Type 0
@@ -43,20 +28,6 @@ request_seen (asks.Report report kind) = WantsReport report kind
 request_seen (asks.Details details) = WantsDetails details
 request_seen (asks.WhatIf what_if body) = WantsWhatIf what_if body.items
 request_seen (asks.Import layout body) = WantsImport layout body.items
-
--- what is asked with a body of so many bytes, the first ones after the head; where the input ended
--- before the last of them, the request is bad
-abbrev pub wanted_with : (List ℕ → RequestSeen) → ℕ → List ℕ → RequestSeen
-wanted_with Wants size behind =
-    if nat_lt (length behind) size then Settles (refusal BadRequest) else Wants (take size behind)
-
--- what a head asks, by the bytes after it
-abbrev pub wanted_by : Asked ℕ → List ℕ → RequestSeen
-wanted_by (asks.Settled due) behind = Settles (reply_of due)
-wanted_by (asks.Report report kind) behind = WantsReport report kind
-wanted_by (asks.Details details) behind = WantsDetails details
-wanted_by (asks.WhatIf what_if size) behind = wanted_with (WantsWhatIf what_if) size behind
-wanted_by (asks.Import layout size) behind = wanted_with (WantsImport layout) size behind
 
 -- the request is that; or memory ran out, and the reply says so
 abbrev pub IsUnlessMemory : RequestSeen → RequestSeen → Type 0
@@ -97,11 +68,3 @@ abbrev pub IsReadAs : Bool → Result WholeRequest Unanswered → List ℕ → T
 IsReadAs ended (Ok request) taken = IsAsking ended taken request
 IsReadAs ended (Err Closed) taken = taken ≡ []
 IsReadAs ended (Err Failed) taken = Unit {0}
-
--- a request is answered, and this is the reply
-abbrev pub AnswersRequest : Naming → RequestSeen → Reply → Transition
-AnswersRequest naming (Settles due) reply = RefusesRequest due reply
-AnswersRequest naming (WantsReport report kind) reply = AnswersReport naming report kind reply
-AnswersRequest naming (WantsDetails wanted) reply = AnswersDetails naming wanted reply
-AnswersRequest naming (WantsWhatIf what_if body) reply = AnswersWhatIf what_if body reply
-AnswersRequest naming (WantsImport layout body) reply = AnswersImport naming layout body reply
