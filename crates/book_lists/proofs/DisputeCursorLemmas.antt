@@ -10,9 +10,9 @@ use Rattle.book_core.specs.Calls.{IsCall}
 use Rattle.book_lists.specs.DisputesInTurn.{bytes_behind, bytes_from}
 
 -- a number that is not 0 is above it
-pub some_before : (count : ℕ) → (count ≡ 0 → ⊥) → 0 < count
-some_before zero later = absurd (later refl)
-some_before (suc before) later = omega arith
+pub above_zero : (count : ℕ) → (count ≡ 0 → ⊥) → 0 < count
+above_zero zero later = absurd (later refl)
+above_zero (suc before) later = omega arith
 
 module _ {old new : Seen} {result : Result (Option Dispute) LedgerFault} where
   -- the call that reads the dispute from some bytes on

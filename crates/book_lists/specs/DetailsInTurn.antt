@@ -17,7 +17,8 @@ use Rattle.book_lists.specs.Cursors.{IsNext, last_of}
 use Rattle.book_lists.specs.Shown.{shown_by}
 
 -- an answer has one value
-same_value : {A : Type 0} {one other : A} → ◌≡◌ {A = Result A LedgerFault} (Ok one) (Ok other) → one ≡ other
+same_value : {A : Type 0} {one other : A}
+    → ◌≡◌ {A = Result A LedgerFault} (Ok one) (Ok other) → one ≡ other
 same_value is = cc
 
 same_last : (details : List Detail) → last_of details ≡ order.last_of details

@@ -1,6 +1,6 @@
 use Rattle.std.specs.Prelude.{option_map}
 use Rattle.book_model.specs.Words.{dispute_shown}
-use Rattle.book_lists.proofs.DisputeCursorLemmas.{first_asked, later_asked, some_before}
+use Rattle.book_lists.proofs.DisputeCursorLemmas.{first_asked, later_asked, above_zero}
 use Rattle.book_lists.proofs.dispute_cursors.DisputeCursorCursor.next.Goals as goal
 
 -- at first
@@ -11,7 +11,7 @@ returns-then-count-eq0-clause-item g c =
 
 -- later
 pub dispute_after-requires : goal.dispute_after-requires
-dispute_after-requires g c = c.requires (some_before c.args.count c.if-count-eq0.false)
+dispute_after-requires g c = c.requires (above_zero c.args.count c.if-count-eq0.false)
 
 pub returns-clause-item : goal.returns-clause-item
 returns-clause-item g c =
