@@ -93,7 +93,7 @@ module _ {X : Type 0} (f : ℤ → List X) where
 
 -- so many days are days, where the first of them and the last one are
 pub days_are : (count : ℕ) (first last : ℤ) → first_day ≤ℤ first → last ≤ℤ last_day
-    → first +ℤ pos count ≤ℤ last +ℤ pos 1 → All IsDay (days_from first count)
+    → (first +ℤ pos count) ≤ℤ (last +ℤ pos 1) → All IsDay (days_from first count)
 days_are zero first last early late fits = All-nil IsDay
 days_are (suc count) first last early late fits =
     All-cons IsDay first (days_from (first +ℤ pos 1) count)
@@ -110,7 +110,7 @@ through_are first last early late =
     by : (count : ℕ) → int_gap first (last +ℤ pos 1) ≡ count → All IsDay (days_from first count)
     by zero is = All-nil IsDay
     by (suc count) is =
-        let some : first ≤ℤ last +ℤ pos 1 = some_left first (last +ℤ pos 1) count is in
+        let some : first ≤ℤ (last +ℤ pos 1) = some_left first (last +ℤ pos 1) count is in
         let whole = gap_is first (last +ℤ pos 1) some in
         days_are (suc count) first last early late (omega (arith, ints, whole, is))
 

@@ -11,3 +11,4 @@ pub mod ChargeLemmas
 pub mod CentreAmountLemmas
 pub mod FocusLemmas
 pub mod CoverageLemmas
+pub mod MidnightLemmas

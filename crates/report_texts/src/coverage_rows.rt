@@ -48,9 +48,10 @@ pub fn coverage_place(one: &SystemDetail) -> CoveragePlace
 pub fn empty_coverage(place: CoveragePlace) -> CoverageRow
     ensures { result ≡ spec.row_of place [] }
 {
+    let system = place.system;
     CoverageRow {
         day: place.day,
-        system: place.system,
+        system,
         count: 0,
         first: None,
         last: None,
@@ -79,13 +80,7 @@ fn later(last: Option<u32>, time: u32) -> Option<u32>
 {
     match last {
         None => Some(time),
-        Some(last) => {
-            if last < time {
-                Some(time)
-            } else {
-                Some(last)
-            }
-        }
+        Some(last) => { if last < time { Some(time) } else { Some(last) } }
     }
 }
 

@@ -130,9 +130,7 @@ pub fn coverage_text(
 fn add_heading(table: &mut TableDraft)
     ensures { table.new ≡ table.old ++ spec.coverage_heading }
 {
-    let names: [&[u8]; 6] = [
-        b"period", b"day", b"system", b"count", b"first", b"last",
-    ];
+    let names: [&[u8]; 6] = [b"period", b"day", b"system", b"count", b"first", b"last"];
     table.add_texts(&names);
 }
 

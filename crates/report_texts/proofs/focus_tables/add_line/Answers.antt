@@ -1,3 +1,4 @@
+use Rattle.book_model.proofs.DayLemmas.{day_kept}
 use Rattle.report_texts.specs.FocusTables.{row_line}
 use Rattle.report_texts.proofs.focus_tables.add_line.Goals as goal
 
@@ -16,4 +17,5 @@ returns c =
       c.add_period.ensures,
       c.add_office.ensures,
       c.new-fields.ensures,
+      day_kept c.args.line.now.priced.day c.requires.day,
     ) at c.add_row.ensures
