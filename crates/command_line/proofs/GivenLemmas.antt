@@ -82,28 +82,28 @@ word_given s highest i (word.Flag name help) words is own none =
     flag_given name.now (rows_after s.rules [] words)
     (value_given s t words own (flagged_takes s.args_override_self t) none
     (default_row s t words (defaulted_has (codes "false") [] t) is))
-word_given s highest i (word.InPlace valued) words is own none =
-    let t = built_rule highest i (word.InPlace valued) in
-    kind_given highest valued.kind valued.name.now (rows_after s.rules [] words)
+word_given s highest i (word.InPlace name help value) words is own none =
+    let t = built_rule highest i (word.InPlace name help value) in
+    kind_given highest value name.now (rows_after s.rules [] words)
     (value_given s t words own (valued_takes s.args_override_self t) none
     (required_row s t words none is))
-word_given s highest i (word.InPlaceOr valued text) words is own none =
-    let t = built_rule highest i (word.InPlaceOr valued text) in
-    kind_given highest valued.kind valued.name.now (rows_after s.rules [] words)
+word_given s highest i (word.InPlaceOr name help value text) words is own none =
+    let t = built_rule highest i (word.InPlaceOr name help value text) in
+    kind_given highest value name.now (rows_after s.rules [] words)
     (value_given s t words own (valued_takes s.args_override_self t) none
     (default_row s t words (defaulted_has text.now [] t) is))
-word_given s highest i (word.Named valued) words is own none =
-    let t = built_rule highest i (word.Named valued) in
-    kind_given highest valued.kind valued.name.now (rows_after s.rules [] words)
+word_given s highest i (word.Named name help value) words is own none =
+    let t = built_rule highest i (word.Named name help value) in
+    kind_given highest value name.now (rows_after s.rules [] words)
     (value_given s t words own (valued_takes s.args_override_self t) none
     (required_row s t words none is))
-word_given s highest i (word.NamedOr valued text) words is own none =
-    let t = built_rule highest i (word.NamedOr valued text) in
-    kind_given highest valued.kind valued.name.now (rows_after s.rules [] words)
+word_given s highest i (word.NamedOr name help value text) words is own none =
+    let t = built_rule highest i (word.NamedOr name help value text) in
+    kind_given highest value name.now (rows_after s.rules [] words)
     (value_given s t words own (valued_takes s.args_override_self t) none
     (default_row s t words (defaulted_has text.now [] t) is))
-word_given s highest i (word.NamedIfGiven valued) words is own none = tt
-word_given s highest i (word.InPlaceIfGiven valued) words is own none = tt
+word_given s highest i (word.NamedIfGiven name help value) words is own none = tt
+word_given s highest i (word.InPlaceIfGiven name help value) words is own none = tt
 
 words_given : (s : Shape) (highest : ℕ) (ws : List Argument) (i : ℕ) (words : List Text)
     → ((t : Rule) → In t (filled_from i (map (rule_for highest) ws ++ help_rule ∷ []))
