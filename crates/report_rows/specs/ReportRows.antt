@@ -42,128 +42,53 @@ row_seen row = record {
   kind = row.kind;
 }
 
--- The table.
+-- a report that is a text, wherever it is served, and no table
+abbrev pub text_row : List ℕ → Shape → Option (List ℕ) → Row
+text_row word shape path = record {
+  word = word;
+  shape = shape;
+  csv = false;
+  streamed = false;
+  by_prices = false;
+  path = path;
+  csv_path = None;
+  kind = body.Text;
+}
+
+-- one that is served as a text and as a table
+abbrev pub table_row : List ℕ → Shape → List ℕ → List ℕ → Row
+table_row word shape path csv_path =
+    record (text_row word shape (Some path)) { csv = true; csv_path = Some csv_path }
+
+-- The table: a row is one of these two, but for what it says.
 unfoldable pub row_of : ReportName → Row
-row_of report.Statement = record {
-  word = codes "statement";
-  shape = OfCentre;
-  csv = true;
-  streamed = false;
-  by_prices = true;
-  path = Some (codes "/statement/");
-  csv_path = Some (codes "/statement-csv/");
-  kind = body.Text;
-}
-row_of report.Adjustments = record {
-  word = codes "adjustments";
-  shape = OfCentre;
-  csv = true;
-  streamed = false;
-  by_prices = false;
-  path = Some (codes "/adjustments/");
-  csv_path = Some (codes "/adjustments-csv/");
-  kind = body.Text;
-}
-row_of report.Details = record {
-  word = codes "details";
-  shape = OfCentre;
-  csv = true;
-  streamed = true;
-  by_prices = false;
-  path = Some (codes "/details/");
-  csv_path = Some (codes "/details-csv/");
-  kind = body.Text;
-}
-row_of report.Bill = record {
-  word = codes "bill";
-  shape = OfCentre;
-  csv = true;
-  streamed = false;
-  by_prices = false;
-  path = None;
-  csv_path = None;
-  kind = body.Text;
-}
-row_of report.Focus = record {
-  word = codes "focus";
-  shape = OfPeriod;
-  csv = false;
-  streamed = false;
-  by_prices = false;
-  path = Some (codes "/focus/");
-  csv_path = None;
-  kind = body.Csv;
-}
-row_of report.Coverage = record {
-  word = codes "coverage";
-  shape = OfPeriod;
-  csv = true;
-  streamed = false;
-  by_prices = false;
-  path = Some (codes "/coverage/");
-  csv_path = Some (codes "/coverage-csv/");
-  kind = body.Text;
-}
-row_of report.Page = record {
-  word = codes "page";
-  shape = OfPeriod;
-  csv = false;
-  streamed = false;
-  by_prices = false;
-  path = Some (codes "/period/");
-  csv_path = None;
-  kind = body.Page;
-}
-row_of report.Disputes = record {
-  word = codes "disputes";
-  shape = OfOffice;
-  csv = true;
-  streamed = true;
-  by_prices = false;
-  path = Some (codes "/disputes");
-  csv_path = Some (codes "/disputes-csv");
-  kind = body.Text;
-}
-row_of report.Record = record {
-  word = codes "record";
-  shape = OfRecord;
-  csv = false;
-  streamed = false;
-  by_prices = false;
-  path = Some (codes "/record/");
-  csv_path = None;
-  kind = body.Text;
-}
-row_of report.Periods = record {
-  word = codes "periods";
-  shape = OfOffice;
-  csv = false;
-  streamed = false;
-  by_prices = false;
-  path = Some (codes "/periods");
-  csv_path = None;
-  kind = body.Text;
-}
-row_of report.Rulings = record {
-  word = codes "rulings";
-  shape = OfOffice;
-  csv = false;
-  streamed = true;
-  by_prices = false;
-  path = Some (codes "/rulings");
-  csv_path = None;
-  kind = body.Text;
-}
-row_of report.TariffText = record {
-  word = codes "tariff-text";
-  shape = OfDay;
-  csv = false;
-  streamed = false;
-  by_prices = false;
-  path = Some (codes "/tariff/");
-  csv_path = None;
-  kind = body.TariffFile;
-}
+row_of report.Statement =
+    record (table_row (codes "statement") OfCentre (codes "/statement/") (codes "/statement-csv/")) {
+      by_prices = true;
+    }
+row_of report.Adjustments =
+    table_row (codes "adjustments") OfCentre (codes "/adjustments/") (codes "/adjustments-csv/")
+row_of report.Details =
+    record (table_row (codes "details") OfCentre (codes "/details/") (codes "/details-csv/")) {
+      streamed = true;
+    }
+row_of report.Bill = record (text_row (codes "bill") OfCentre None) { csv = true }
+row_of report.Focus =
+    record (text_row (codes "focus") OfPeriod (Some (codes "/focus/"))) { kind = body.Csv }
+row_of report.Coverage =
+    table_row (codes "coverage") OfPeriod (codes "/coverage/") (codes "/coverage-csv/")
+row_of report.Page =
+    record (text_row (codes "page") OfPeriod (Some (codes "/period/"))) { kind = body.Page }
+row_of report.Disputes =
+    record (table_row (codes "disputes") OfOffice (codes "/disputes") (codes "/disputes-csv")) {
+      streamed = true;
+    }
+row_of report.Record = text_row (codes "record") OfRecord (Some (codes "/record/"))
+row_of report.Periods = text_row (codes "periods") OfOffice (Some (codes "/periods"))
+row_of report.Rulings =
+    record (text_row (codes "rulings") OfOffice (Some (codes "/rulings"))) { streamed = true }
+row_of report.TariffText =
+    record (text_row (codes "tariff-text") OfDay (Some (codes "/tariff/"))) { kind = body.TariffFile }
 
 -- the reports in the order of the program's help
 abbrev pub reports : List ReportName
