@@ -109,17 +109,29 @@ impl ReportRow {
     }
 }
 
+/// A report of the office that is a text, and not served.
+const PLAIN: ReportRow = ReportRow {
+    word: "",
+    about: "",
+    shape: Shape::OfOffice,
+    csv: false,
+    streamed: false,
+    by_prices: false,
+    path: None,
+    csv_path: None,
+    kind: BodyKind::Text,
+};
+
 /// What a period charges.
 pub const STATEMENT: ReportRow = ReportRow {
     word: "statement",
     about: "Prints what a period charges",
     shape: Shape::OfCentre,
     csv: true,
-    streamed: false,
     by_prices: true,
     path: Some("/statement/"),
     csv_path: Some("/statement-csv/"),
-    kind: BodyKind::Text,
+    ..PLAIN
 };
 
 /// What a period adds to closed periods and reverses in them.
@@ -128,11 +140,9 @@ pub const ADJUSTMENTS: ReportRow = ReportRow {
     about: "Prints what a period adds to closed periods and reverses in them",
     shape: Shape::OfCentre,
     csv: true,
-    streamed: false,
-    by_prices: false,
     path: Some("/adjustments/"),
     csv_path: Some("/adjustments-csv/"),
-    kind: BodyKind::Text,
+    ..PLAIN
 };
 
 /// The records that a period counts.
@@ -142,10 +152,9 @@ pub const DETAILS: ReportRow = ReportRow {
     shape: Shape::OfCentre,
     csv: true,
     streamed: true,
-    by_prices: false,
     path: Some("/details/"),
     csv_path: Some("/details-csv/"),
-    kind: BodyKind::Text,
+    ..PLAIN
 };
 
 /// A bill. It is not served.
@@ -154,11 +163,7 @@ pub const BILL: ReportRow = ReportRow {
     about: "Prints the bill of a centre for a period, or what each centre owes",
     shape: Shape::OfCentre,
     csv: true,
-    streamed: false,
-    by_prices: false,
-    path: None,
-    csv_path: None,
-    kind: BodyKind::Text,
+    ..PLAIN
 };
 
 /// A period as a table of cost and usage by FOCUS 1.0, which has no other form.
@@ -166,12 +171,9 @@ pub const FOCUS: ReportRow = ReportRow {
     word: "focus",
     about: "Prints what a period charges as a table of cost and usage by FOCUS 1.0",
     shape: Shape::OfPeriod,
-    csv: false,
-    streamed: false,
-    by_prices: false,
     path: Some("/focus/"),
-    csv_path: None,
     kind: BodyKind::Csv,
+    ..PLAIN
 };
 
 /// How many records a period counts of each day and system.
@@ -180,11 +182,9 @@ pub const COVERAGE: ReportRow = ReportRow {
     about: "Prints how many records a period counts of each day and system",
     shape: Shape::OfPeriod,
     csv: true,
-    streamed: false,
-    by_prices: false,
     path: Some("/coverage/"),
     csv_path: Some("/coverage-csv/"),
-    kind: BodyKind::Text,
+    ..PLAIN
 };
 
 /// A period as a page for a browser.
@@ -192,25 +192,20 @@ pub const PAGE: ReportRow = ReportRow {
     word: "page",
     about: "Prints a period as a page for a browser",
     shape: Shape::OfPeriod,
-    csv: false,
-    streamed: false,
-    by_prices: false,
     path: Some("/period/"),
-    csv_path: None,
     kind: BodyKind::Page,
+    ..PLAIN
 };
 
 /// The records in dispute.
 pub const DISPUTES: ReportRow = ReportRow {
     word: "disputes",
     about: "Prints the records in dispute",
-    shape: Shape::OfOffice,
     csv: true,
     streamed: true,
-    by_prices: false,
     path: Some("/disputes"),
     csv_path: Some("/disputes-csv"),
-    kind: BodyKind::Text,
+    ..PLAIN
 };
 
 /// A record, with its price and what became of it.
@@ -218,38 +213,25 @@ pub const RECORD: ReportRow = ReportRow {
     word: "record",
     about: "Prints a record, how it was priced, and what became of it",
     shape: Shape::OfRecord,
-    csv: false,
-    streamed: false,
-    by_prices: false,
     path: Some("/record/"),
-    csv_path: None,
-    kind: BodyKind::Text,
+    ..PLAIN
 };
 
 /// The periods.
 pub const PERIODS: ReportRow = ReportRow {
     word: "periods",
     about: "Prints the periods",
-    shape: Shape::OfOffice,
-    csv: false,
-    streamed: false,
-    by_prices: false,
     path: Some("/periods"),
-    csv_path: None,
-    kind: BodyKind::Text,
+    ..PLAIN
 };
 
 /// The rulings.
 pub const RULINGS: ReportRow = ReportRow {
     word: "rulings",
     about: "Prints the tariffs, the closes, the choices and the adoption",
-    shape: Shape::OfOffice,
-    csv: false,
     streamed: true,
-    by_prices: false,
     path: Some("/rulings"),
-    csv_path: None,
-    kind: BodyKind::Text,
+    ..PLAIN
 };
 
 /// The file of a tariff.
@@ -257,12 +239,9 @@ pub const TARIFF_TEXT: ReportRow = ReportRow {
     word: "tariff-text",
     about: "Prints the tariff file that begins on a day, byte for byte",
     shape: Shape::OfDay,
-    csv: false,
-    streamed: false,
-    by_prices: false,
     path: Some("/tariff/"),
-    csv_path: None,
     kind: BodyKind::TariffFile,
+    ..PLAIN
 };
 
 /// The row of a report.
