@@ -122,7 +122,6 @@ const PLAIN: ReportRow = ReportRow {
     kind: BodyKind::Text,
 };
 
-/// What a period charges.
 pub const STATEMENT: ReportRow = ReportRow {
     word: "statement",
     about: "Prints what a period charges",
@@ -134,7 +133,6 @@ pub const STATEMENT: ReportRow = ReportRow {
     ..PLAIN
 };
 
-/// What a period adds to closed periods and reverses in them.
 pub const ADJUSTMENTS: ReportRow = ReportRow {
     word: "adjustments",
     about: "Prints what a period adds to closed periods and reverses in them",
@@ -145,7 +143,6 @@ pub const ADJUSTMENTS: ReportRow = ReportRow {
     ..PLAIN
 };
 
-/// The records that a period counts.
 pub const DETAILS: ReportRow = ReportRow {
     word: "details",
     about: "Prints each record that a period counts, and what it costs",
@@ -176,7 +173,6 @@ pub const FOCUS: ReportRow = ReportRow {
     ..PLAIN
 };
 
-/// How many records a period counts of each day and system.
 pub const COVERAGE: ReportRow = ReportRow {
     word: "coverage",
     about: "Prints how many records a period counts of each day and system",
@@ -187,7 +183,6 @@ pub const COVERAGE: ReportRow = ReportRow {
     ..PLAIN
 };
 
-/// A period as a page for a browser.
 pub const PAGE: ReportRow = ReportRow {
     word: "page",
     about: "Prints a period as a page for a browser",
@@ -197,7 +192,6 @@ pub const PAGE: ReportRow = ReportRow {
     ..PLAIN
 };
 
-/// The records in dispute.
 pub const DISPUTES: ReportRow = ReportRow {
     word: "disputes",
     about: "Prints the records in dispute",
@@ -208,7 +202,6 @@ pub const DISPUTES: ReportRow = ReportRow {
     ..PLAIN
 };
 
-/// A record, with its price and what became of it.
 pub const RECORD: ReportRow = ReportRow {
     word: "record",
     about: "Prints a record, how it was priced, and what became of it",
@@ -217,7 +210,6 @@ pub const RECORD: ReportRow = ReportRow {
     ..PLAIN
 };
 
-/// The periods.
 pub const PERIODS: ReportRow = ReportRow {
     word: "periods",
     about: "Prints the periods",
@@ -225,7 +217,6 @@ pub const PERIODS: ReportRow = ReportRow {
     ..PLAIN
 };
 
-/// The rulings.
 pub const RULINGS: ReportRow = ReportRow {
     word: "rulings",
     about: "Prints the tariffs, the closes, the choices and the adoption",
@@ -234,7 +225,6 @@ pub const RULINGS: ReportRow = ReportRow {
     ..PLAIN
 };
 
-/// The file of a tariff.
 pub const TARIFF_TEXT: ReportRow = ReportRow {
     word: "tariff-text",
     about: "Prints the tariff file that begins on a day, byte for byte",
