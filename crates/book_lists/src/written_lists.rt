@@ -4,9 +4,8 @@
 ghost use Rattle.std.specs.Prelude.{◌≡◌, ◌++◌, ◌<◌, ◌∷◌, [], ℕ, List, IfErr, IfOk, OnOk, false};
 ghost use Rattle.std.specs.Prelude.{length, true};
 ghost use Rattle.streams.specs.Sinks.{has_failed, writer_of};
-ghost use Rattle.book_core.specs.Calls.{Reopens};
-ghost use Rattle.book_lists.specs.Streamed.{LeavesSome, WritesAllBut, WritesSome};
-ghost use Rattle.book_lists.specs.Streamed.{refusal_in};
+ghost use Rattle.book_core.specs.Words.{Reopens};
+ghost use Rattle.book_lists.specs.Streamed.{LeavesSome, WritesAllBut, WritesSome, refusal_in};
 ghost use Rattle.book_lists.specs.WrittenLists.{WritesList, list_text};
 ghost use Rattle.book_lists.specs.Writing.{WritesPrefix, WritesUntil, is_write_fault};
 ghost use Rattle.book_lists.specs.Writing.{is_write_or_memory};

@@ -4,14 +4,13 @@
 ghost use Rattle.std.specs.Prelude.{◌≡◌, IfOk, false};
 ghost use Rattle.streams.specs.Sinks.{has_failed, writer_of};
 ghost use Rattle.book_model.specs.Words.{IsDispute, dispute_shown};
-ghost use Rattle.book_core.specs.Calls.{IsCall, Reopens};
-ghost use Rattle.book_core.specs.Transition.{IsTransition};
+ghost use Rattle.book_core.specs.Words.{IsCall, Reopens, IsTransition};
 ghost use Rattle.book_lists.specs.Streamed.{refusal_in};
 ghost use Rattle.book_lists.specs.Writing.{is_write_fault};
 ghost use Rattle.book_reports.specs.StreamedDisputes.{WritesDisputes, WritesSomeDisputes};
-ghost use Rattle.book_reports.specs.StreamedDisputes as spec;
 ghost use Rattle.book_reports.specs.StreamedDisputes.{dispute_count_outcome, disputes_head};
 ghost use Rattle.book_reports.specs.StreamedDisputes.{disputes_part};
+ghost use Rattle.book_reports.specs.StreamedDisputes as spec;
 
 use book_core::{Dispute, Ledger, LedgerFault, Sink};
 use book_lists::{DisputeCursor, Lines, ReportFault, Step, fold, write_list};

@@ -5,14 +5,12 @@ ghost use Rattle.std.specs.Prelude.{◌≡◌, Err, IfErr, IsErr, OnErr, OnOk, f
 ghost use Rattle.std.specs.Io.KnownBytes.{Keeps};
 ghost use Rattle.streams.specs.Failures.{HasFailed};
 ghost use Rattle.streams.specs.Sinks.{has_failed, writer_of};
-ghost use Rattle.book_core.specs.Calls.{Reopens};
-ghost use Rattle.book_core.specs.Transition.{IsTransition};
-ghost use Rattle.book_lists.specs.Streamed.{WritesAnswerUntil};
-ghost use Rattle.book_lists.specs.Streamed.{refusal_in};
+ghost use Rattle.book_core.specs.Words.{Reopens, IsTransition};
+ghost use Rattle.book_lists.specs.Streamed.{WritesAnswerUntil, refusal_in};
 ghost use Rattle.book_lists.specs.Writing.{is_write_fault};
 ghost use Rattle.chargectl.specs.Commands.{IsFileFault, first_fault};
-ghost use Rattle.chargectl.specs.StreamedLists as spec;
 ghost use Rattle.chargectl.specs.StreamedLists.{ListsAsked, ListsBy, WritesSomeOf, list_answer};
+ghost use Rattle.chargectl.specs.StreamedLists as spec;
 
 use crate::report_commands::about_of;
 use book_core::{Ledger, Sink};

@@ -1,12 +1,11 @@
 //! Bills as tables of comma-separated values.
 
-ghost use Rattle.std.specs.Prelude.{◌≡◌, [], ◌++◌, All, IfOk, codes, flat_map};
-ghost use Rattle.std.specs.Fmt.{decimal};
+ghost use Rattle.std.specs.Prelude.{◌≡◌, [], ◌++◌, All, IfOk, codes, flat_map, decimal};
 ghost use Rattle.book_model.specs.Words.{AreRows, IsDay, bill_shown};
-ghost use Rattle.report_texts.specs.BillTables as spec;
 ghost use Rattle.report_texts.specs.Charges.{FitCharges, IsBill};
 ghost use Rattle.report_texts.specs.Columns.{seconds_text};
 ghost use Rattle.report_texts.specs.Tables.{fields_line};
+ghost use Rattle.report_texts.specs.BillTables as spec;
 
 use crate::adjustment_lists::word_of;
 use crate::charges::{CentreCharges, Charges, office_charges, push_owed};

@@ -1,7 +1,6 @@
 //! Fields of rows: what each is shown as is made, and added to a row.
 
-ghost use Rattle.std.specs.Prelude.{◌≡◌, [], ◌∷◌, ◌++◌};
-ghost use Rattle.std.specs.Fmt.{decimal};
+ghost use Rattle.std.specs.Prelude.{◌≡◌, [], ◌∷◌, ◌++◌, decimal};
 ghost use Rattle.hex.specs.Hex.{encode_lower};
 ghost use Rattle.book_model.specs.Words.{IsDay, day_text_of, show_text};
 ghost use Rattle.report_texts.specs.AdjustmentLists.{charged_amount, reversed_amount, signed_text};
