@@ -40,6 +40,6 @@ pub use report::{PeriodReport, Report, centre_named};
 pub use reports::{dispute_list, receipt_line, statement, write_report};
 pub use reports_apart::{adjustment_list, period_list, statement_csv};
 pub use streamed_details::{DetailReport, write_details};
-pub use streamed_disputes::{DisputeForm, write_disputes};
+pub use streamed_disputes::write_disputes;
 pub use streamed_rulings::write_rulings;
 pub use what_if::{StatementForm, WhatIf, what_if_text};

@@ -12,35 +12,27 @@ ghost use Rattle.book_reports.specs.StreamedDisputes.{dispute_count_outcome, dis
 ghost use Rattle.book_reports.specs.StreamedDisputes.{disputes_part};
 ghost use Rattle.book_reports.specs.StreamedDisputes as spec;
 
+use crate::what_if::StatementForm;
 use book_core::{Dispute, Ledger, LedgerFault, Sink};
 use book_lists::{DisputeCursor, Lines, ReportFault, Step, fold, write_list};
 use report_texts::{dispute_list_head, dispute_rows, dispute_table_head, push_dispute};
 use std::alloc::{AllocError, Global};
 use streams::Writer;
 
-/// How the disputes are written.
-#[derive(Clone, Copy)]
-pub enum DisputeForm {
-    /// A list for people.
-    List,
-    /// A table of comma-separated values.
-    Table,
-}
-
 /// What stands above so many disputes.
-fn head_of(alloc: Global, form: DisputeForm, count: u64) -> Result<Vec<u8>, AllocError>
+fn head_of(alloc: Global, form: StatementForm, count: u64) -> Result<Vec<u8>, AllocError>
     ensures { IfOk result (λ head. head.items ≡ disputes_head form count) }
 {
     match form {
-        DisputeForm::List => Ok(dispute_list_head(alloc, count)?.into_bytes()),
-        DisputeForm::Table => dispute_table_head(alloc),
+        StatementForm::Text => Ok(dispute_list_head(alloc, count)?.into_bytes()),
+        StatementForm::Table => dispute_table_head(alloc),
     }
 }
 
 /// The lines of the dispute of this number.
 fn part_of(
     alloc: Global,
-    form: DisputeForm,
+    form: StatementForm,
     number: u64,
     dispute: &Dispute,
 ) -> Result<Vec<u8>, AllocError>
@@ -49,12 +41,12 @@ fn part_of(
         part.items ≡ disputes_part form number (dispute_shown dispute.now)) }
 {
     match form {
-        DisputeForm::List => {
+        StatementForm::Text => {
             let mut text = String::new(alloc);
             push_dispute(alloc, &mut text, dispute)?;
             Ok(text.into_bytes())
         }
-        DisputeForm::Table => dispute_rows(alloc, number, dispute),
+        StatementForm::Table => dispute_rows(alloc, number, dispute),
     }
 }
 
@@ -103,7 +95,7 @@ pub(crate) fn count_disputes<L: Ledger>(
 /// has more.
 fn counted_part(
     alloc: Global,
-    form: DisputeForm,
+    form: StatementForm,
     count: u64,
     number: u64,
     dispute: &Dispute,
@@ -121,7 +113,7 @@ fn counted_part(
 /// How disputes are shown, of which so many were counted.
 #[derive(Drop)]
 struct DisputeLines {
-    form: DisputeForm,
+    form: StatementForm,
     count: u64,
 }
 
@@ -194,7 +186,7 @@ impl Lines<Dispute> for DisputeLines {
 pub fn write_disputes<L: Ledger, W: Writer + Drop>(
     alloc: Global,
     ledger: &mut L,
-    form: DisputeForm,
+    form: StatementForm,
     sink: &mut Sink<W>,
 ) -> Result<(), ReportFault>
     ensures written { IsTransition (L.seen ledger.old) (L.seen ledger.new)

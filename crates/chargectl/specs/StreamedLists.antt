@@ -9,10 +9,7 @@ use Rattle.book_core.specs.Words.{MakesAnswered}
 use Rattle.book_lists.specs.declared.fault.ReportFault.{ReportFault}
 use Rattle.book_lists.specs.declared.fault.ReportFault.TheVariants.{Write}
 use Rattle.book_lists.specs.Writing.{is_write_fault}
-use Rattle.book_reports.specs.declared.streamed_disputes.DisputeForm.{DisputeForm}
-use Rattle.book_reports.specs.declared.streamed_disputes.DisputeForm.TheVariants as disputes
 use Rattle.book_reports.specs.declared.what_if.StatementForm.{StatementForm}
-use Rattle.book_reports.specs.declared.what_if.StatementForm.TheVariants as form
 use Rattle.book_reports.specs.BookTexts.{ruling_text}
 use Rattle.book_reports.specs.StreamedAnswers.{answered_by}
 use Rattle.book_reports.specs.StreamedDetails.{WritesSomeDetails, detail_answer}
@@ -52,11 +49,6 @@ pub record ListsOpen (list : StreamedList) (held holds : Option (List ℕ)) (had
   pub some : WritesSomeOf list held holds told
   pub failed : had ≡ false → has ≡ is_write_fault told
 
--- a list of disputes in this form
-abbrev pub dispute_form : StatementForm → DisputeForm
-dispute_form form.Text = disputes.List
-dispute_form form.Table = disputes.Table
-
 -- the list of a name: of a period, of one centre or of the whole office; or of the books
 abbrev pub list_of_centre : ReportName → StatementForm → ℕ → Option (List ℕ) → Option StreamedList
 list_of_centre report.Details form period centre =
@@ -64,7 +56,7 @@ list_of_centre report.Details form period centre =
 list_of_centre name form period centre = None
 
 abbrev pub list_of_office : ReportName → StatementForm → Option StreamedList
-list_of_office report.Disputes form = Some (list.Disputes (dispute_form form))
+list_of_office report.Disputes form = Some (list.Disputes form)
 list_of_office report.Rulings form = Some list.Rulings
 list_of_office name form = None
 

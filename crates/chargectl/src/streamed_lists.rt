@@ -14,9 +14,7 @@ ghost use Rattle.chargectl.specs.StreamedLists as spec;
 
 use crate::report_commands::about_of;
 use book_core::{Ledger, Sink};
-use book_reports::{
-    DetailReport, DisputeForm, ReportFault, write_details, write_disputes, write_rulings,
-};
+use book_reports::{DetailReport, ReportFault, write_details, write_disputes, write_rulings};
 use command_line::ReportAsked;
 use named_books::{Opened, Repository, RepositoryFault, Visit};
 use office::StatementForm;
@@ -31,16 +29,7 @@ use without_books::{CommandFault, Ended, let_out};
 pub(crate) enum StreamedList {
     Details(DetailReport),
     Rulings,
-    Disputes(DisputeForm),
-}
-
-fn dispute_form(form: StatementForm) -> DisputeForm
-    ensures { result ≡ spec.dispute_form form }
-{
-    match form {
-        StatementForm::Text => DisputeForm::List,
-        StatementForm::Table => DisputeForm::Table,
-    }
+    Disputes(StatementForm),
 }
 
 /// The list of a period, of one centre or of the whole office.
@@ -67,7 +56,7 @@ fn list_of_office(name: ReportName, form: StatementForm) -> Option<StreamedList>
     ensures { result ≡ spec.list_of_office name form }
 {
     match name {
-        ReportName::Disputes => Some(StreamedList::Disputes(dispute_form(form))),
+        ReportName::Disputes => Some(StreamedList::Disputes(form)),
         ReportName::Rulings => Some(StreamedList::Rulings),
         _ => None,
     }
