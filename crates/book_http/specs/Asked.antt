@@ -38,20 +38,17 @@ body_size Faulty = Err BadRequest
 body_size Unframed = Err LengthRequired
 body_size (Framed size) = if nat_lt most_body_bytes size then Err TooLarge else Ok size
 
--- what a page in a browser submits is refused, whatever its body's length
-abbrev pub posted_size : Bool → Framing → Result ℕ Status
-posted_size true body = Err Forbidden
-posted_size false body = body_size body
-
 -- a body of a size that is taken, or the refusal of another
 abbrev pub asked_body : (ℕ → Asked ℕ) → Result ℕ Status → Asked ℕ
 asked_body takes (Ok size) = takes size
 asked_body takes (Err status) = asks.Settled (Refusal status)
 
--- to read a report no body is due: a dump and a tariff are submitted alike
+-- To read a report no body is due; a dump and a tariff are submitted alike. What a page in a browser
+-- submits is refused, whatever its body's length.
 abbrev pub due_size : Method → Bool → Framing → Result ℕ Status
 due_size Get origin body = Ok 0
-due_size Post origin body = posted_size origin body
+due_size Post true body = Err Forbidden
+due_size Post false body = body_size body
 
 -- the details of a period, which are written while they are read
 abbrev pub details_of : StatementForm → About → Asked ℕ
@@ -99,14 +96,11 @@ asked_by place thing method origin body =
     if bytes_eq method (method_text (method_of place)) then asked_on place thing origin body
     else asks.Settled (OtherMethod (method_of place))
 
-abbrev pub asked_at : Option (Endpoint × About) → List ℕ → Bool → Framing → Asked ℕ
-asked_at None method origin body = asks.Settled (Refusal NotFound)
-asked_at (Some found) method origin body = asked_by found.0 found.1 method origin body
-
--- nothing is asked for by the name of another machine
+-- nothing is asked for by the name of another machine, or where a path leads nowhere
 abbrev pub asked_here : Bool → Option (Endpoint × About) → List ℕ → Bool → Framing → Asked ℕ
 asked_here true found method origin body = asks.Settled (Refusal Forbidden)
-asked_here false found method origin body = asked_at found method origin body
+asked_here false None method origin body = asks.Settled (Refusal NotFound)
+asked_here false (Some found) method origin body = asked_by found.0 found.1 method origin body
 
 -- a faulty length is refused before anything else is looked at
 abbrev pub asked_framed : Framing → Bool → Option (Endpoint × About) → List ℕ → Bool → Asked ℕ
