@@ -13,10 +13,11 @@ use Rattle.book_model.specs.declared.line.Line.{Line}
 use Rattle.book_model.specs.declared.row.ChargeRow.{ChargeRow}
 use Rattle.book_model.specs.Words.{by_bytes, same_bytes}
 use Rattle.report_texts.specs.CentreAmounts.{AreAmounts, AreCharges, cost_among, charges_among}
-use Rattle.report_texts.specs.CentreAmounts.{with_amount}
+use Rattle.report_texts.specs.CentreAmounts.{side_amount, with_amount}
 use Rattle.report_texts.specs.Charges.{centre_charges}
 use Rattle.report_texts.specs.declared.centre_amounts.CentreAmounts.{CentreAmounts}
 use Rattle.report_texts.specs.declared.charges.CentreCharges.{CentreCharges}
+use Rattle.report_texts.proofs.AmountLemmas.{charged_within, reversed_within}
 use Rattle.report_texts.proofs.CentreLemmas.{filter_most}
 
 -- what a centre has, once the amount that was found for another, or for it, has grown
@@ -80,6 +81,12 @@ module _ {X : Type 0} (centre_of : X → List ℕ) (amount : X → ℕ) where
   pub own_all : (xs : List X) (i : ℕ) (amounts : List (List ℕ × ℕ)) → length xs ≤ i
       → AreAmounts amounts (own (take i xs)) → AreAmounts amounts (own xs)
   own_all xs i amounts over kept = subst (λ all. AreAmounts amounts (own all)) (take_all i xs over) kept
+
+-- what lines reverse, or what they charge, is within the sum of all their amounts
+pub side_within : (is_reversed : Bool) (lines : List Line)
+    → sum_by (side_amount is_reversed) lines ≤ sum_by (λ line. line.priced.amount) lines
+side_within true lines = reversed_within lines
+side_within false lines = charged_within lines
 
 -- what a centre is charged by amounts
 abbrev pub charged_by : CentreAmounts → List ℕ → CentreCharges
