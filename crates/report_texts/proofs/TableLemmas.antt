@@ -145,25 +145,16 @@ unfolding fields_line table_line
 plain_line period row of_period of_count of_cpu of_blocks of_amount centre shift =
     plain_row (decimal period) (day_text_of row.day)
     (row.centre ∷ row.shift ∷ decimal row.count ∷ seconds_text row.cpu ∷ decimal row.blocks
-    ∷ amount_text row.amount ∷ []) (
+    ∷ amount_text row.amount ∷ []) (assumption (
       plain_number period of_period,
-      (
-        plain_day row.day,
-        (
-          plain_name row.centre centre,
-          (
-            plain_name row.shift shift,
-            (
-              plain_number row.count of_count,
-              (
-                plain_seconds row.cpu of_cpu,
-                (plain_number row.blocks of_blocks, (plain_amount row.amount of_amount, tt)),
-              ),
-            ),
-          ),
-        ),
-      ),
-    )
+      plain_day row.day,
+      plain_name row.centre centre,
+      plain_name row.shift shift,
+      plain_number row.count of_count,
+      plain_seconds row.cpu of_cpu,
+      plain_number row.blocks of_blocks,
+      plain_amount row.amount of_amount,
+    ))
 
 -- the names of the columns of charge rows, where that of the amounts calls for none
 pub plain_heading : (amounts : List ℕ) → IsPlain amounts
