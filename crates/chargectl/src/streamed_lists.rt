@@ -19,7 +19,6 @@ use command_line::ReportAsked;
 use named_books::{Opened, Repository, RepositoryFault, Visit};
 use office::StatementForm;
 use report_rows::{About, ReportName};
-use smf_text::Name;
 use std::alloc::Global;
 use streams::Writer;
 use without_books::{CommandFault, Ended, let_out};
@@ -32,43 +31,24 @@ pub(crate) enum StreamedList {
     Disputes(StatementForm),
 }
 
-/// The list of a period, of one centre or of the whole office.
-fn list_of_centre(
-    name: ReportName,
-    form: StatementForm,
-    period: u16,
-    centre: Option<Name>,
-) -> Option<StreamedList>
-    ensures { result ≡ spec.list_of_centre name form period centre }
-{
-    match name {
-        ReportName::Details => Some(StreamedList::Details(DetailReport {
-            form,
-            period,
-            centre,
-        })),
-        _ => None,
-    }
-}
-
-/// The list of the books.
-fn list_of_office(name: ReportName, form: StatementForm) -> Option<StreamedList>
-    ensures { result ≡ spec.list_of_office name form }
-{
-    match name {
-        ReportName::Disputes => Some(StreamedList::Disputes(form)),
-        ReportName::Rulings => Some(StreamedList::Rulings),
-        _ => None,
-    }
-}
-
 /// The list of this name about that. `None`: there is none.
 fn list_about(name: ReportName, form: StatementForm, about: About) -> Option<StreamedList>
     ensures { result ≡ spec.list_about name form about }
 {
     match about {
-        About::OfCentre { period, centre } => list_of_centre(name, form, period, centre),
-        About::OfOffice => list_of_office(name, form),
+        About::OfCentre { period, centre } => match name {
+            ReportName::Details => Some(StreamedList::Details(DetailReport {
+                form,
+                period,
+                centre,
+            })),
+            _ => None,
+        },
+        About::OfOffice => match name {
+            ReportName::Disputes => Some(StreamedList::Disputes(form)),
+            ReportName::Rulings => Some(StreamedList::Rulings),
+            _ => None,
+        },
         _ => None,
     }
 }
