@@ -71,29 +71,17 @@ period_by number (Some name) = period_of_centre number (centre_named name)
 unfoldable pub period_in : List ℕ → Option (ℕ × Option (List ℕ))
 period_in text = period_by (period (before_slash text)) (after_slash text)
 
--- the same as what a report is about, and what else a text may name
-abbrev pub centre_in : List ℕ → Option About
-centre_in text = option_map (λ named. about.OfCentre named.0 named.1) (period_in text)
-
-abbrev pub number_in : List ℕ → Option About
-number_in text = option_map about.OfPeriod (period text)
-
+-- no text names the books
 abbrev pub office_in : List ℕ → Option About
 office_in text = if length text == 0 then Some about.OfOffice else None
 
-abbrev pub day_in : List ℕ → Option About
-day_in text = option_map about.OfDay (day_of_text_of text)
-
-abbrev pub record_in : List ℕ → Option About
-record_in text = option_map about.OfRecord (name_in text)
-
--- by the shape of the path
+-- what a text names, by the shape of the path
 unfoldable pub thing_in : Shape → List ℕ → Option About
-thing_in OfCentre text = centre_in text
-thing_in OfPeriod text = number_in text
+thing_in OfCentre text = option_map (λ named. about.OfCentre named.0 named.1) (period_in text)
+thing_in OfPeriod text = option_map about.OfPeriod (period text)
 thing_in OfOffice text = office_in text
-thing_in OfDay text = day_in text
-thing_in OfRecord text = record_in text
+thing_in OfDay text = option_map about.OfDay (day_of_text_of text)
+thing_in OfRecord text = option_map about.OfRecord (name_in text)
 
 -- ---- what a path leads to at an endpoint
 
