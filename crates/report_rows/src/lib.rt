@@ -6,6 +6,6 @@ mod about;
 mod named_reports;
 pub mod report_row;
 
-pub use about::{About, report_about};
+pub use about::About;
 pub use named_reports::{all_reports, named_report};
-pub use report_row::{BodyKind, ReportName, ReportRow, Shape, row_of};
+pub use report_row::{BodyKind, ReportName, ReportRow, Shape, report_about, row_of};

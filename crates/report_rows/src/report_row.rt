@@ -2,8 +2,10 @@
 //! row, its place in the order of the program's help, and the report of `book_reports` that it is.
 
 ghost use Rattle.std.specs.Prelude.{◌≡◌, option_map};
+ghost use Rattle.report_rows.specs.Abouts as abouts;
 ghost use Rattle.report_rows.specs.ReportRows as spec;
 
+use crate::about::About;
 use book_reports::{PeriodReport, Report, StatementForm};
 use smf_text::Name;
 
@@ -299,7 +301,7 @@ fn disputes_in(form: StatementForm) -> Report
 }
 
 /// The report of a period, of one centre or of the whole office.
-pub(crate) fn report_of_centre(
+fn report_of_centre(
     name: ReportName,
     form: StatementForm,
     period: u16,
@@ -328,11 +330,7 @@ pub(crate) fn report_of_centre(
 }
 
 /// The report of a period of the whole office.
-pub(crate) fn report_of_period(
-    name: ReportName,
-    form: StatementForm,
-    period: u16,
-) -> Option<Report>
+fn report_of_period(name: ReportName, form: StatementForm, period: u16) -> Option<Report>
     ensures { result ≡ spec.report_of_period name form period }
 {
     match name {
@@ -349,34 +347,27 @@ pub(crate) fn report_of_period(
     }
 }
 
-/// The report of the books.
-pub(crate) fn report_of_office(name: ReportName, form: StatementForm) -> Option<Report>
-    ensures { result ≡ spec.report_of_office name form }
+/// The report of this name about that. `None`: it is not about such a thing, or it is made only as
+/// it is written.
+pub fn report_about(name: ReportName, form: StatementForm, about: About) -> Option<Report>
+    ensures { result ≡ abouts.report_about name form about }
 {
-    match name {
-        ReportName::Disputes => Some(disputes_in(form)),
-        ReportName::Periods => Some(Report::PeriodList),
-        ReportName::Rulings => Some(Report::RulingList),
-        _ => None,
-    }
-}
-
-/// The report of the tariff that begins on a day.
-pub(crate) fn report_of_day(name: ReportName, day: i32) -> Option<Report>
-    ensures { result ≡ spec.report_of_day name day }
-{
-    match name {
-        ReportName::TariffText => Some(Report::TariffText(day)),
-        _ => None,
-    }
-}
-
-/// The report of a record.
-pub(crate) fn report_of_record(name: ReportName, record: [u8; 32]) -> Option<Report>
-    ensures { result ≡ spec.report_of_record name record }
-{
-    match name {
-        ReportName::Record => Some(Report::Record(record)),
-        _ => None,
+    match about {
+        About::OfCentre { period, centre } => report_of_centre(name, form, period, centre),
+        About::OfPeriod(period) => report_of_period(name, form, period),
+        About::OfOffice => match name {
+            ReportName::Disputes => Some(disputes_in(form)),
+            ReportName::Periods => Some(Report::PeriodList),
+            ReportName::Rulings => Some(Report::RulingList),
+            _ => None,
+        },
+        About::OfDay(day) => match name {
+            ReportName::TariffText => Some(Report::TariffText(day)),
+            _ => None,
+        },
+        About::OfRecord(record) => match name {
+            ReportName::Record => Some(Report::Record(record)),
+            _ => None,
+        },
     }
 }
