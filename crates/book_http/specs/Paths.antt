@@ -1,19 +1,17 @@
 -- The paths that are served: a front, and behind it what names a period, a day or a record.
-use Rattle.std.specs.Prelude.{◌≡◌, ℕ, ◌≤◌, List, [], ◌++◌, codes, decimal}
-use Rattle.std.specs.Prelude.{Option, Some, None, IfSome}
-use Rattle.smf_frames.specs.declared.dump.Layout.{Layout}
-use Rattle.smf_frames.specs.declared.dump.Layout.TheVariants.{Rdw, Bdw}
-use Rattle.book_model.specs.Words.{IsDay, IsName, day_text_of}
+use Rattle.std.specs.Prelude.{◌≡◌, ℕ, ◌≤◌, List, [], ◌++◌, codes, decimal, Option, Some, None}
+use Rattle.std.specs.Prelude.{IfSome}
+use Rattle.book_model.specs.Words.{Layout, Rdw, Bdw, IsDay, IsName, day_text_of}
 use Rattle.book_reports.specs.RecordNames.{name_in}
 use Rattle.book_reports.specs.declared.what_if.StatementForm.{StatementForm}
-use Rattle.book_reports.specs.declared.what_if.StatementForm.TheVariants as shown_as
 use Rattle.report_rows.specs.ReportRows.{path_in, row_of}
 use Rattle.report_rows.specs.declared.about.About.{About}
-use Rattle.report_rows.specs.declared.about.About.TheVariants as about
 use Rattle.report_rows.specs.declared.report_row.Shape.{Shape}
 use Rattle.report_rows.specs.declared.report_row.Shape.TheVariants.{OfCentre, OfDay, OfOffice}
 use Rattle.report_rows.specs.declared.report_row.Shape.TheVariants.{OfPeriod, OfRecord}
 use Rattle.book_http.specs.declared.endpoint.Endpoint.{Endpoint}
+use Rattle.book_reports.specs.declared.what_if.StatementForm.TheVariants as shown_as
+use Rattle.report_rows.specs.declared.about.About.TheVariants as about
 use Rattle.book_http.specs.declared.endpoint.Endpoint.TheVariants as endpoint
 
 -- where it is served what a period would have cost by a tariff that is submitted

@@ -1,13 +1,11 @@
 -- The calls that read disputes in turn.
-use Rattle.std.proofs.Common.{◌≡◌, ◌∙◌, ◌<◌, ℕ, zero, suc, List, [], ◌∷◌, ◌++◌, refl, sym, ap, subst}
-use Rattle.std.proofs.Common.{arith, Option, Some, Result}
-use Rattle.std.specs.Prelude.{option_map}
+use Rattle.std.proofs.Common.{◌≡◌, ◌∙◌, ◌<◌, ℕ, zero, suc, List, [], ◌∷◌, ◌++◌, refl, sym, ap}
+use Rattle.std.proofs.Common.{subst, arith, Option, Some, Result, option_map}
 use Rattle.book_model.specs.declared.dispute.Dispute.{Dispute}
-use Rattle.book_model.specs.declared.fault.LedgerFault.{LedgerFault}
 use Rattle.book_model.specs.Words.{Disputed, dispute_outcome, dispute_shown}
-use Rattle.book_core.specs.Ledgers.{Seen}
-use Rattle.book_core.specs.Calls.{IsCall}
+use Rattle.book_core.specs.Words.{Seen, IsCall}
 use Rattle.book_lists.specs.DisputesInTurn.{bytes_behind, bytes_from}
+use Rattle.book_lists.proofs.Words.{LedgerFault}
 
 -- a number that is not 0 is above it
 pub above_zero : (count : ℕ) → (count ≡ 0 → ⊥) → 0 < count

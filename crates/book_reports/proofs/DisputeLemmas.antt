@@ -1,34 +1,25 @@
 -- The text of the disputes, which are counted and then written as they are read.
-use Rattle.std.proofs.Common.{◌≡◌, ◌∙◌, ℕ, zero, suc, ◌+◌, ◌-◌, ◌≤◌, ◌<◌, List, [], ◌∷◌, ◌++◌, length}
-use Rattle.std.proofs.Common.{map, refl, sym, ap, subst, append_assoc, arith, Option, Result, Ok, Err}
-use Rattle.std.proofs.Common.{inl}
-use Rattle.std.specs.Prelude.{flat_map}
-use Rattle.std.proofs.lemmas.List.{length-map}
+use Rattle.std.proofs.Common.{◌≡◌, ◌∙◌, ℕ, zero, suc, ◌+◌, ◌-◌, ◌≤◌, ◌<◌, List, [], ◌∷◌, ◌++◌}
+use Rattle.std.proofs.Common.{length, map, refl, sym, ap, subst, append_assoc, arith, Option}
+use Rattle.std.proofs.Common.{Result, Ok, Err, inl, flat_map}
+use Rattle.book_model.proofs.Std.{length-map}
 use Rattle.book_model.specs.declared.dispute.Dispute.{Dispute}
-use Rattle.book_model.specs.declared.fault.LedgerFault.{LedgerFault}
 use Rattle.book_model.specs.Words.{Disputed, dispute_shown, disputes_in}
-use Rattle.book_core.specs.Ledgers.{Seen}
-use Rattle.book_core.specs.Calls.{IsCall}
-use Rattle.book_core.specs.Transition.{IsTransition}
+use Rattle.book_core.specs.Words.{Seen, IsCall, IsTransition}
 use Rattle.report_texts.specs.DisputeLists.{dispute_lines}
 use Rattle.report_texts.specs.DisputeTables.{member_heading, rows_from}
 use Rattle.report_texts.specs.Figures.{dispute_count}
-use Rattle.book_lists.specs.declared.fault.ReportFault.{ReportFault}
-use Rattle.book_lists.specs.Faults.{report_fault_of}
-use Rattle.book_lists.specs.Streamed.{WritesAnswerUntil}
-use Rattle.book_lists.specs.WrittenLists.{list_answer, list_text, parts_from}
-use Rattle.book_lists.proofs.AnsweringLemmas.{answer_unread, only_hinders}
-use Rattle.book_lists.proofs.ShownLemmas.{shown}
+use Rattle.book_lists.proofs.AnsweringLemmas.{only_hinders}
 use Rattle.book_lists.proofs.StreamedLemmas.{some_before}
-use Rattle.book_lists.proofs.WrittenListLemmas.{parts_as, then_written}
-use Rattle.book_lists.proofs.WritingLemmas.{same_value}
 use Rattle.book_reports.specs.declared.what_if.StatementForm.{StatementForm}
+use Rattle.book_reports.proofs.Words.{LedgerFault, ReportFault, report_fault_of, WritesAnswerUntil}
+use Rattle.book_reports.proofs.Words.{list_answer, list_text, parts_from, answer_unread, shown}
+use Rattle.book_reports.proofs.Words.{parts_as, then_written, same_value, answered_by, counted_part}
+use Rattle.book_reports.proofs.Words.{dispute_count_outcome, disputes_text, filled, missing_lines}
+use Rattle.book_reports.specs.StreamedDisputes.{WritesDisputes, dispute_report, disputes_head}
+use Rattle.book_reports.specs.StreamedDisputes.{disputes_part, lines_from, part_left}
+use Rattle.book_reports.specs.StreamedDisputes.{some_above_disputes}
 use Rattle.book_reports.specs.declared.what_if.StatementForm.TheVariants as form
-use Rattle.book_reports.specs.StreamedAnswers.{answered_by}
-use Rattle.book_reports.specs.StreamedDisputes.{WritesDisputes, counted_part, dispute_count_outcome}
-use Rattle.book_reports.specs.StreamedDisputes.{dispute_report, disputes_head, disputes_part}
-use Rattle.book_reports.specs.StreamedDisputes.{disputes_text, filled, lines_from, missing_lines}
-use Rattle.book_reports.specs.StreamedDisputes.{part_left, some_above_disputes}
 
 -- ---- the text
 

@@ -3,16 +3,15 @@ use Rattle.std.specs.Prelude.{ℕ, zero, suc, ◌+◌, ◌-◌, ◌<◌, List, [
 use Rattle.std.specs.Prelude.{Result, Ok}
 use Rattle.std.proofs.Common.{arith, length-append}
 use Rattle.book_model.specs.Words.{Book, Disputed, Naming, Outcome, disputes_in, no_event}
-use Rattle.book_core.specs.Transition.{Transition}
+use Rattle.book_core.specs.Words.{Transition}
 use Rattle.report_texts.specs.DisputeLists.{dispute_lines, dispute_list_head, dispute_list_text}
 use Rattle.report_texts.specs.Figures.{dispute_count}
 use Rattle.report_texts.specs.DisputeTables.{dispute_rows, dispute_table, member_heading}
 use Rattle.book_lists.specs.declared.fault.ReportFault.{ReportFault}
-use Rattle.book_lists.specs.Streamed.{WritesAnswerUntil}
-use Rattle.book_lists.specs.Streamed.{WritesSome}
+use Rattle.book_lists.specs.Streamed.{WritesAnswerUntil, WritesSome}
 use Rattle.book_reports.specs.declared.what_if.StatementForm.{StatementForm}
-use Rattle.book_reports.specs.declared.what_if.StatementForm.TheVariants as form
 use Rattle.book_reports.specs.StreamedAnswers.{answered_by}
+use Rattle.book_reports.specs.declared.what_if.StatementForm.TheVariants as form
 
 -- how many disputes there are
 abbrev pub dispute_count_outcome : Naming → Book → Outcome ℕ

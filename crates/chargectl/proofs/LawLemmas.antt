@@ -8,13 +8,12 @@ use Rattle.book_model.specs.Words.{same_bytes, Book, Event, IsMadeByCalls, Namin
 use Rattle.book_model.specs.Words.{book_after, book_of}
 use Rattle.book_model.specs.declared.fault.LedgerFault.TheVariants.{Memory, Store, Reopen}
 use Rattle.book_core.specs.Words.{Calls, listed, MakesAnswered, Transition, NoEvent}
-use Rattle.book_core.proofs.FollowLemmas.{history_goes_on}
+use Rattle.book_core.proofs.FollowLemmas.{history_goes_on, none_answered}
 use Rattle.book_model.proofs.Lemmas.{books_follow_history}
 use Rattle.book_audit.specs.Copies.{IsAudited}
 use Rattle.book_audit.specs.declared.audited.Audited.{Audited}
 use Rattle.book_audit.specs.declared.audited.Audited.TheVariants.{Sound, Unsound}
 use Rattle.book_lists.specs.Streamed.{WritesAnswerUntil, WritesUntilOrRefuses}
-use Rattle.book_core.proofs.FollowLemmas.{none_answered}
 use Rattle.office.specs.declared.choosing.Chosen.{Chosen}
 use Rattle.office.specs.declared.request.Asked.TheVariants.{Import, ImportBytes, Report, WhatIf}
 use Rattle.office.specs.Outcomes.{is_hindered}
@@ -34,8 +33,8 @@ use Rattle.chargectl.specs.declared.choices.ListAnswered.{ListAnswered}
 use Rattle.chargectl.specs.declared.dated_rulings.DatedAnswer.{DatedAnswer}
 use Rattle.chargectl.specs.declared.answered.Answered.{Answered}
 use Rattle.chargectl.specs.declared.streamed_lists.StreamedList.{StreamedList}
-use Rattle.chargectl.specs.Choices.{ChoosesBy, ChoosesListed, ComesOfList, IsListFault}
-use Rattle.chargectl.specs.Choices.{front_of, list_answered}
+use Rattle.chargectl.specs.Choices.{ChoosesBy, ChoosesListed, ComesOfList, IsListFault, front_of}
+use Rattle.chargectl.specs.Choices.{list_answered}
 use Rattle.chargectl.specs.Commands.{AsksAndTells, AsksNothing, AsksOnceBy, ComesOf, IsFileFault}
 use Rattle.chargectl.specs.Commands.{may_change, once_answered}
 use Rattle.chargectl.specs.Audits.{AuditsBooks, BacksUp}

@@ -1,34 +1,31 @@
 -- Each word of a command has its value after a parse without a fault.
-use Rattle.std.proofs.Common.{◌≡◌, ◌∙◌, ◌&&◌, ◌||◌, inl, inr, ℕ, Bool, true, false, cond, List, [], ◌∷◌}
-use Rattle.std.proofs.Common.{◌++◌, map, Some, None, refl, sym, ap, subst}
-use Rattle.std.specs.List.{find, list_all, list_any}
-use Rattle.std.specs.Str.{bytes_eq}
-use Rattle.std.specs.Prelude.{IsSomeAnd, codes, is_some}
-use Rattle.std.proofs.lemmas.Option.{same_Some}
-use Rattle.std.proofs.lemmas.Slice.Eq.{bytes_eq-Decides}
-use Rattle.clap.specs.Faults.{level_fault}
-use Rattle.clap.specs.Simple.{Shape, built_leaf, filled, filled_from, help_rule, help_shape, index_after}
+use Rattle.std.proofs.Common.{◌≡◌, ◌∙◌, ◌&&◌, ◌||◌, inl, inr, ℕ, Bool, true, false, cond, List, []}
+use Rattle.std.proofs.Common.{◌∷◌, ◌++◌, map, Some, None, refl, sym, ap, subst, find, bytes_eq}
+use Rattle.std.proofs.Common.{IsSomeAnd, codes, is_some}
+use Rattle.clap.specs.Simple.{built_leaf, filled, filled_from, help_rule, help_shape, index_after}
 use Rattle.clap.specs.Simple.{inherited, label_of, with_index}
 use Rattle.clap.specs.Values.{read_as, reading_of}
-use Rattle.clap.specs.ValueTests.{accepts}
-use Rattle.clap.specs.Walk.{Row, Rule, Text, answers_to, first_of, has_row, nothing_held, one_of, rows_after}
+use Rattle.clap.specs.Walk.{answers_to, has_row}
 use Rattle.clap.specs.declared.builder.value_parser.ValueParser.{ValueParser}
-use Rattle.clap.specs.declared.builder.value_parser.ValueParser.TheVariants as parser
 use Rattle.clap.proofs.ValueTestLemmas.{accepts-Accepts}
 use Rattle.clap.proofs.WalkLemmas.{list_any-map}
 use Rattle.command_line.specs.declared.known_commands.Argument.{Argument}
-use Rattle.command_line.specs.declared.known_commands.Argument.TheVariants as word
 use Rattle.command_line.specs.declared.known_commands.KnownCommand.{KnownCommand}
 use Rattle.command_line.specs.declared.known_commands.ValueKind.{ValueKind}
-use Rattle.command_line.specs.declared.known_commands.ValueKind.TheVariants as kind
-use Rattle.command_line.specs.Given.{HasValue, HasWord, HasWords}
-use Rattle.command_line.specs.Known.{command_seen, value_seen, word_seen}
+use Rattle.command_line.proofs.Words.{list_all, list_any, same_Some, bytes_eq-Decides, level_fault}
+use Rattle.command_line.proofs.Words.{Shape, accepts, Row, Rule, Text, first_of, nothing_held}
+use Rattle.command_line.proofs.Words.{one_of, rows_after, HasWords, command_seen, distinct, leaf}
+use Rattle.command_line.specs.Given.{HasValue, HasWord}
+use Rattle.command_line.specs.Known.{value_seen, word_seen}
 use Rattle.command_line.specs.Requests.{IsFlag}
-use Rattle.command_line.specs.Shapes.{above, distinct, leaf, parser_of, rule_for, shape_for}
-use Rattle.command_line.proofs.RowLemmas.{In, OwnIn, Takes, flagged_takes, none_some}
-use Rattle.command_line.proofs.RowLemmas.{own_in, true_false, valued_takes}
+use Rattle.command_line.specs.Shapes.{above, parser_of, rule_for, shape_for}
+use Rattle.command_line.proofs.RowLemmas.{In, OwnIn, Takes, flagged_takes, none_some, own_in}
+use Rattle.command_line.proofs.RowLemmas.{true_false, valued_takes}
 use Rattle.command_line.proofs.LevelLemmas.{HasValueOf, NoFault, default_row, defaulted_has}
 use Rattle.command_line.proofs.LevelLemmas.{no_fault, required_row, row_value, rows_fit}
+use Rattle.clap.specs.declared.builder.value_parser.ValueParser.TheVariants as parser
+use Rattle.command_line.specs.declared.known_commands.Argument.TheVariants as word
+use Rattle.command_line.specs.declared.known_commands.ValueKind.TheVariants as kind
 
 -- a value that passed a parser
 abbrev Valued : Text → ValueParser → List Row → Type 0

@@ -1,22 +1,17 @@
 -- The words of a report, in the table of the commands: a name that is no other command's is that of the
 -- report whose word it is, and has the words of its row.
 use Rattle.std.proofs.Common.{◌≡◌, ◌∙◌, Bool, true, false, cond, List, [], ◌∷◌, ◌++◌, map, Option}
-use Rattle.std.proofs.Common.{Some, None, refl, sym, ap, subst}
-use Rattle.std.specs.List.{find}
-use Rattle.std.specs.Str.{bytes_eq}
-use Rattle.std.specs.Prelude.{IsSomeAnd}
-use Rattle.std.proofs.lemmas.Option.{same_Some}
-use Rattle.std.proofs.lemmas.Slice.Eq.{bytes_eq-Decides}
-use Rattle.clap.specs.Walk.{Row, Text}
-use Rattle.report_rows.specs.ReportRows as reports
+use Rattle.std.proofs.Common.{Some, None, refl, sym, ap, subst, find, bytes_eq, IsSomeAnd}
 use Rattle.report_rows.specs.ReportRows.{has_word, named_report, row_of}
 use Rattle.report_rows.specs.declared.report_row.ReportName.{ReportName}
-use Rattle.command_line.specs.Given.{HasWord, HasWords, HasWordsOf, NoneIs}
-use Rattle.command_line.specs.Known as known
+use Rattle.command_line.proofs.Words.{same_Some, bytes_eq-Decides, Row, Text, HasWords, HasWordsOf}
+use Rattle.command_line.specs.Given.{HasWord, NoneIs}
 use Rattle.command_line.specs.Known.{WordSeen, chosen_by, commands_above, commands_below, if_csv}
 use Rattle.command_line.specs.Known.{if_prices, known_table, named_by, report_command, report_words}
 use Rattle.command_line.proofs.ReaderLemmas.{not_named}
 use Rattle.command_line.proofs.RowLemmas.{none_some}
+use Rattle.report_rows.specs.ReportRows as reports
+use Rattle.command_line.specs.Known as known
 
 -- a command has this name
 abbrev is_called : Text → Text × List WordSeen → Bool

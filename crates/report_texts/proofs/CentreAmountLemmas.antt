@@ -1,19 +1,15 @@
 -- Amounts by centre, one more at a time; and what all centres are charged by them.
-use Rattle.std.proofs.Common.{◌≡◌, ◌∙◌, ℕ, ◌+◌, ◌<◌, ◌≤◌, Bool, true, false, List, [], ◌∷◌, ◌++◌, ap}
-use Rattle.std.proofs.Common.{append-nil, arith, cond, get_or, length, map, refl, subst, sym, take}
-use Rattle.std.proofs.Common.{Some, unwrap_or, if◌then◌else◌}
-use Rattle.std.specs.Prelude.{filter, sum_by}
+use Rattle.std.proofs.Common.{◌≡◌, ◌∙◌, ℕ, ◌+◌, ◌<◌, ◌≤◌, Bool, true, false, List, [], ◌∷◌, ◌++◌}
+use Rattle.std.proofs.Common.{ap, append-nil, arith, cond, get_or, length, map, refl, subst, sym}
+use Rattle.std.proofs.Common.{take, Some, unwrap_or, if◌then◌else◌, filter, sum_by, take_all}
 use Rattle.std.specs.BTreeMap.{is_at}
-use Rattle.std.specs.Cmp.Lexicographic.{bytes_decides, texts_ties}
 use Rattle.std.specs.Map.{lookup}
-use Rattle.std.proofs.lemmas.List.{take_all}
 use Rattle.std.proofs.lemmas.List.Elements.{filter_more}
-use Rattle.std.proofs.lemmas.List.Sums.{sum_by_more_le, sum_by_push}
-use Rattle.book_model.specs.declared.line.Line.{Line}
-use Rattle.book_model.specs.declared.row.ChargeRow.{ChargeRow}
+use Rattle.std.proofs.lemmas.List.Sums.{sum_by_more_le}
+use Rattle.book_model.proofs.Std.{bytes_decides, texts_ties, sum_by_push}
 use Rattle.book_model.specs.Words.{by_bytes, same_bytes}
-use Rattle.report_texts.specs.CentreAmounts.{AreAmounts, AreCharges, cost_among, charges_among}
-use Rattle.report_texts.specs.CentreAmounts.{side_amount, with_amount}
+use Rattle.report_texts.proofs.Words.{Line, ChargeRow, AreAmounts, cost_among}
+use Rattle.report_texts.specs.CentreAmounts.{AreCharges, charges_among, side_amount, with_amount}
 use Rattle.report_texts.specs.Charges.{centre_charges}
 use Rattle.report_texts.specs.declared.centre_amounts.CentreAmounts.{CentreAmounts}
 use Rattle.report_texts.specs.declared.charges.CentreCharges.{CentreCharges}

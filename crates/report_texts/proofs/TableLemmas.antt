@@ -1,20 +1,17 @@
 -- Rows of fields that need no quotes are these fields with commas between them; and such fields.
 use Rattle.std.proofs.Common.{◌≡◌, ℕ, ◌+◌, ◌-◌, ◌/◌, ◌%◌, ◌<◌, ◌^◌, false, true, List, [], ◌∷◌}
 use Rattle.std.proofs.Common.{◌++◌, ◌∙◌, ap, append-nil, refl, arith, decimal, ℤ, suc, zero, length}
-use Rattle.std.specs.Prelude.{codes, replicate}
-use Rattle.std.specs.List.{flat_map, list_all}
-use Rattle.std.proofs.lemmas.Bool.{and_parts, ne_eqb}
-use Rattle.std.proofs.lemmas.Bool.Decides.{nat_tests}
+use Rattle.std.proofs.Common.{codes, replicate, flat_map, ne_eqb}
 use Rattle.std.proofs.lemmas.Fmt.{decimal_by_steps}
-use Rattle.std.proofs.lemmas.List.Folds.{list_any-append}
 use Rattle.csv.specs.Writing.{default_writer, field_text, fields_text, is_blank, needs_byte}
 use Rattle.csv.specs.Writing.{row_text}
+use Rattle.book_model.proofs.Std.{list_all, and_parts, nat_tests, list_any-append}
 use Rattle.smf_text.specs.Day.{day_text_of}
 use Rattle.book_model.specs.Words.{date_of, IsName, is_name_character}
 use Rattle.report_texts.specs.Columns.{newline, digits_in, seconds_text, amount_text}
-use Rattle.book_model.specs.declared.row.ChargeRow.{ChargeRow}
 use Rattle.report_texts.specs.StatementTables.{comma_line, table_fields, table_heading, table_line}
 use Rattle.report_texts.specs.Tables.{IsPlain, fields_line}
+use Rattle.report_texts.proofs.Words.{ChargeRow}
 
 -- a byte after the comma calls for none
 plain_byte : (b : ℕ) → 44 < b → needs_byte default_writer b ≡ false

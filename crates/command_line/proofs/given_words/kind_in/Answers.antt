@@ -1,6 +1,5 @@
 use Rattle.std.proofs.Common.{[], ◌∷◌, codes}
-use Rattle.clap.specs.Walk.{first_of}
-use Rattle.command_line.specs.Requests.{rows_in}
+use Rattle.command_line.proofs.Words.{first_of, rows_in}
 use Rattle.command_line.proofs.ReaderLemmas.{not_given}
 use Rattle.command_line.proofs.given_words.kind_in.Goals as goal
 

@@ -1,5 +1,4 @@
-use Rattle.std.proofs.Common.{ap, sym, ◌∙◌}
-use Rattle.std.specs.Str.{bytes_eq}
+use Rattle.std.proofs.Common.{ap, sym, ◌∙◌, bytes_eq}
 use Rattle.report_rows.specs.ReportRows.{Row}
 use Rattle.report_rows.proofs.named_reports.has_word.Goals as goal
 
