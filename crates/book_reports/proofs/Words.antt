@@ -52,7 +52,7 @@ pub use Rattle.book_reports.specs.BookTexts.{report_outcome, shown_by}
 pub use Rattle.book_reports.specs.CoverageSums.{IsCoverageOf, SystemDetails, row_on, rows_on}
 pub use Rattle.book_reports.specs.Figures.{lines_outcome}
 pub use Rattle.book_reports.specs.RecordNames.{name_in, name_length}
-pub use Rattle.book_reports.specs.StreamedAnswers.{WritesRulings, answered_by}
+pub use Rattle.book_reports.specs.StreamedRulings.{WritesRulings, answered_by}
 pub use Rattle.book_reports.specs.StreamedDetails.{details_end, details_head, details_part}
 pub use Rattle.book_reports.specs.StreamedDetails.{details_text, sums_of}
 pub use Rattle.book_reports.specs.StreamedDisputes.{counted_part, dispute_count_outcome}

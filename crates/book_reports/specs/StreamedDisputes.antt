@@ -10,7 +10,7 @@ use Rattle.report_texts.specs.DisputeTables.{dispute_rows, dispute_table, member
 use Rattle.book_lists.specs.declared.fault.ReportFault.{ReportFault}
 use Rattle.book_lists.specs.Streamed.{WritesAnswerUntil, WritesSome}
 use Rattle.book_reports.specs.declared.what_if.StatementForm.{StatementForm}
-use Rattle.book_reports.specs.StreamedAnswers.{answered_by}
+use Rattle.book_reports.specs.StreamedRulings.{answered_by}
 use Rattle.book_reports.specs.declared.what_if.StatementForm.TheVariants as form
 
 -- how many disputes there are

@@ -8,8 +8,7 @@ ghost use Rattle.book_core.specs.Words.{Reopens, IsTransition};
 ghost use Rattle.report_texts.specs.RulingLists.{ruling_line};
 ghost use Rattle.book_lists.specs.Streamed.{refusal_in};
 ghost use Rattle.book_lists.specs.Writing.{is_write_fault};
-ghost use Rattle.book_reports.specs.StreamedAnswers.{WritesRulings};
-ghost use Rattle.book_reports.specs.StreamedRulings.{WritesSomeRulings};
+ghost use Rattle.book_reports.specs.StreamedRulings.{WritesRulings, WritesSomeRulings};
 
 use book_core::{Ledger, LedgerFault, ListedRuling, Sink};
 use book_lists::{Lines, ReportFault, RulingCursor, Step, write_list};

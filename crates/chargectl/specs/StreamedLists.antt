@@ -11,10 +11,9 @@ use Rattle.book_lists.specs.declared.fault.ReportFault.TheVariants.{Write}
 use Rattle.book_lists.specs.Writing.{is_write_fault}
 use Rattle.book_reports.specs.declared.what_if.StatementForm.{StatementForm}
 use Rattle.book_reports.specs.BookTexts.{ruling_text}
-use Rattle.book_reports.specs.StreamedAnswers.{answered_by}
+use Rattle.book_reports.specs.StreamedRulings.{answered_by, WritesSomeRulings}
 use Rattle.book_reports.specs.StreamedDetails.{WritesSomeDetails, detail_answer}
 use Rattle.book_reports.specs.StreamedDisputes.{WritesSomeDisputes, dispute_report}
-use Rattle.book_reports.specs.StreamedRulings.{WritesSomeRulings}
 use Rattle.command_line.specs.declared.request.ReportAsked.{ReportAsked}
 use Rattle.named_books.specs.declared.repository.RepositoryFault.{RepositoryFault}
 use Rattle.named_books.specs.Shelves.{Shelf, ComesBy, IsOpened, IsThere, IsUntouched}
@@ -24,8 +23,8 @@ use Rattle.without_books.specs.Faults.{shelf_fault}
 use Rattle.chargectl.specs.declared.streamed_lists.StreamedList.{StreamedList}
 use Rattle.chargectl.specs.Commands.{IsFileFault, IsRefusedBy, about_of, first_fault}
 use Rattle.report_rows.specs.declared.about.About.{About}
-use Rattle.report_rows.specs.declared.about.About.TheVariants as about
 use Rattle.report_rows.specs.declared.report_row.ReportName.{ReportName}
+use Rattle.report_rows.specs.declared.about.About.TheVariants as about
 use Rattle.report_rows.specs.declared.report_row.ReportName.TheVariants as report
 use Rattle.without_books.specs.declared.command_fault.CommandFault.TheVariants as fault
 use Rattle.chargectl.specs.declared.streamed_lists.StreamedList.TheVariants as list
