@@ -31,8 +31,7 @@ pub use Rattle.book_reports.specs.WhatIfTexts.{what_if_report}
 pub use Rattle.book_reports.specs.declared.streamed_details.DetailReport.{DetailReport}
 pub use Rattle.book_reports.specs.declared.what_if.StatementForm.{StatementForm}
 pub use Rattle.book_reports.specs.declared.what_if.WhatIf.{WhatIf}
-pub use Rattle.report_rows.specs.Abouts.{report_about}
-pub use Rattle.report_rows.specs.ReportRows.{Row, kind_in}
+pub use Rattle.report_rows.specs.ReportRows.{report_about, Row, kind_in}
 pub use Rattle.report_rows.specs.declared.about.About.{About}
 pub use Rattle.report_rows.specs.declared.report_row.BodyKind.{BodyKind}
 pub use Rattle.report_rows.specs.declared.report_row.ReportName.{ReportName}

@@ -3,34 +3,33 @@ use Rattle.std.specs.Prelude.{ℕ, ◌≤◌, Bool, true, false, List, nat_lt, b
 use Rattle.std.specs.Prelude.{Option, Some, None, Result, Ok, Err}
 use Rattle.httparse.specs.Grammar.{RequestHead}
 use Rattle.book_reports.specs.declared.report.Report.{Report}
-use Rattle.book_reports.specs.declared.report.Report.TheVariants as made
 use Rattle.book_reports.specs.declared.what_if.StatementForm.{StatementForm}
-use Rattle.report_rows.specs.Abouts.{report_about}
-use Rattle.report_rows.specs.ReportRows.{kind_in, row_of}
+use Rattle.report_rows.specs.ReportRows.{report_about, kind_in, row_of}
 use Rattle.report_rows.specs.declared.about.About.{About}
-use Rattle.report_rows.specs.declared.about.About.TheVariants as about
 use Rattle.report_rows.specs.declared.report_row.BodyKind.{BodyKind}
 use Rattle.report_rows.specs.declared.report_row.BodyKind.TheVariants.{Page}
 use Rattle.report_rows.specs.declared.report_row.ReportName.{ReportName}
-use Rattle.report_rows.specs.declared.report_row.ReportName.TheVariants as report
 use Rattle.book_http.specs.declared.answer.Answer.TheVariants.{Refusal, OtherMethod}
 use Rattle.book_http.specs.declared.asked.Asked.{Asked}
-use Rattle.book_http.specs.declared.asked.Asked.TheVariants as asks
 use Rattle.book_http.specs.declared.endpoint.Endpoint.{Endpoint}
-use Rattle.book_http.specs.declared.endpoint.Endpoint.TheVariants as endpoint
 use Rattle.book_http.specs.declared.framing.Framing.{Framing}
 use Rattle.book_http.specs.declared.framing.Framing.TheVariants.{Unframed, Framed, Faulty}
 use Rattle.book_http.specs.declared.method.Method.{Method}
 use Rattle.book_http.specs.declared.method.Method.TheVariants.{Get, Post}
 use Rattle.book_http.specs.declared.status.Status.{Status}
-use Rattle.book_http.specs.declared.status.Status.TheVariants.{BadRequest, Forbidden}
-use Rattle.book_http.specs.declared.status.Status.TheVariants.{NotFound, LengthRequired, TooLarge}
+use Rattle.book_http.specs.declared.status.Status.TheVariants.{BadRequest, Forbidden, NotFound}
+use Rattle.book_http.specs.declared.status.Status.TheVariants.{LengthRequired, TooLarge}
 use Rattle.book_http.specs.Bodies.{most_body_bytes}
 use Rattle.book_http.specs.Framing.{framing}
 use Rattle.book_http.specs.Hosts.{is_foreign}
 use Rattle.book_http.specs.Methods.{method_text}
 use Rattle.book_http.specs.Requests.{has_origin}
 use Rattle.book_http.specs.Routes.{path_of, route}
+use Rattle.book_reports.specs.declared.report.Report.TheVariants as made
+use Rattle.report_rows.specs.declared.about.About.TheVariants as about
+use Rattle.report_rows.specs.declared.report_row.ReportName.TheVariants as report
+use Rattle.book_http.specs.declared.asked.Asked.TheVariants as asks
+use Rattle.book_http.specs.declared.endpoint.Endpoint.TheVariants as endpoint
 
 -- the size of a body that is taken: the head gives it, and it keeps within the limit
 abbrev pub body_size : Framing → Result ℕ Status

@@ -7,6 +7,8 @@ use Rattle.book_reports.specs.declared.report.Report.{Report}
 use Rattle.book_reports.specs.declared.report.Report.TheVariants as made
 use Rattle.book_reports.specs.declared.what_if.StatementForm.{StatementForm}
 use Rattle.book_reports.specs.declared.what_if.StatementForm.TheVariants as form
+use Rattle.report_rows.specs.declared.about.About.{About}
+use Rattle.report_rows.specs.declared.about.About.TheVariants as about
 use Rattle.report_rows.specs.declared.report_row.BodyKind.{BodyKind}
 use Rattle.report_rows.specs.declared.report_row.BodyKind.TheVariants as body
 use Rattle.report_rows.specs.declared.report_row.ReportName.{ReportName}
@@ -157,3 +159,11 @@ report_of_day name day = None
 abbrev pub report_of_record : ReportName → List ℕ → Option Report
 report_of_record report.Record record_name = Some (made.Record record_name)
 report_of_record name record_name = None
+
+-- the report of this name about that, if it is about such a thing
+abbrev pub report_about : ReportName → StatementForm → About → Option Report
+report_about name form (about.OfCentre period centre) = report_of_centre name form period centre
+report_about name form (about.OfPeriod period) = report_of_period name form period
+report_about name form about.OfOffice = report_of_office name form
+report_about name form (about.OfDay day) = report_of_day name day
+report_about name form (about.OfRecord record_name) = report_of_record name record_name

@@ -2,7 +2,6 @@
 //! row, its place in the order of the program's help, and the report of `book_reports` that it is.
 
 ghost use Rattle.std.specs.Prelude.{◌≡◌, option_map};
-ghost use Rattle.report_rows.specs.Abouts as abouts;
 ghost use Rattle.report_rows.specs.ReportRows as spec;
 
 use crate::about::About;
@@ -350,7 +349,7 @@ fn report_of_period(name: ReportName, form: StatementForm, period: u16) -> Optio
 /// The report of this name about that. `None`: it is not about such a thing, or it is made only as
 /// it is written.
 pub fn report_about(name: ReportName, form: StatementForm, about: About) -> Option<Report>
-    ensures { result ≡ abouts.report_about name form about }
+    ensures { result ≡ spec.report_about name form about }
 {
     match about {
         About::OfCentre { period, centre } => report_of_centre(name, form, period, centre),
