@@ -10,10 +10,9 @@ ghost use Rattle.report_texts.specs.BillTables as spec;
 use crate::adjustment_lists::word_of;
 use crate::charges::{CentreCharges, Charges, office_charges, push_owed};
 use crate::fields::{
-    add_amount, add_day, add_key, add_name, add_number, add_number_or_dash, add_seconds, add_shown,
-    add_signed,
+    add_amount, add_day, add_key, add_name, add_number, add_number_or_dash, add_row, add_seconds,
+    add_shown, add_signed,
 };
-use crate::tables::add_row;
 use book_model::{Bill, BilledLine, ChargeRow};
 use std::alloc::{AllocError, Global};
 use text_drafts::{Draft, RowDraft, TableDraft};
