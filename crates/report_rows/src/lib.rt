@@ -3,9 +3,8 @@
 #![tactic(auto)]
 
 mod about;
-mod named_reports;
 pub mod report_row;
 
 pub use about::About;
-pub use named_reports::{all_reports, named_report};
-pub use report_row::{BodyKind, ReportName, ReportRow, Shape, report_about, row_of};
+pub use report_row::{BodyKind, ReportName, ReportRow, Shape};
+pub use report_row::{all_reports, named_report, report_about, row_of};

@@ -1,7 +1,7 @@
 //! The table of the reports. All that a report adds to this crate stands in this file: its name, its
 //! row, its place in the order of the program's help, and the report of `book_reports` that it is.
 
-ghost use Rattle.std.specs.Prelude.{◌≡◌, option_map};
+ghost use Rattle.std.specs.Prelude.{◌≡◌, find, option_copied, option_map};
 ghost use Rattle.report_rows.specs.ReportRows as spec;
 
 use crate::about::About;
@@ -257,7 +257,7 @@ pub fn row_of(name: ReportName) -> ReportRow
 }
 
 /// The reports in the order of the program's help.
-pub(crate) static REPORTS: [ReportName; 12] = [
+static REPORTS: [ReportName; 12] = [
     ReportName::Statement,
     ReportName::Adjustments,
     ReportName::Details,
@@ -368,5 +368,35 @@ pub fn report_about(name: ReportName, form: StatementForm, about: About) -> Opti
             ReportName::Record => Some(Report::Record(record)),
             _ => None,
         },
+    }
+}
+
+/// The reports in the order of the program's help.
+pub fn all_reports() -> &'static [ReportName]
+    ensures { result.now ≡ spec.reports }
+{
+    REPORTS.as_slice()
+}
+
+/// The word is that of the report.
+fn has_word(name: ReportName, word: &str) -> bool
+    ensures { result ≡ spec.has_word word.now name }
+{
+    row_of(name).word == word
+}
+
+fn report_among<'a>(names: &'a [ReportName], word: &str) -> Option<&'a ReportName>
+    ensures { option_copied result ≡ find (spec.has_word word.now) names.now }
+{
+    names.iter().find(|name| has_word(**name, word))
+}
+
+/// The report of a word, if it is the word of one.
+pub fn named_report(word: &str) -> Option<ReportName>
+    ensures { result ≡ spec.named_report word.now }
+{
+    match report_among(all_reports(), word) {
+        Some(name) => Some(*name),
+        None => None,
     }
 }
