@@ -99,18 +99,7 @@ const NUMBER_KIND: Argument = Argument::InPlace(
 const NUMBER: Argument =
     Argument::InPlaceOr("number", Help::Number, ValueKind::AtMost(MOST_NUMBER), "0");
 
-/// The command of a report: its row has its word and its help.
-macro_rules! report {
-    ($row:ident, $words:expr) => {
-        KnownCommand {
-            name: report_row::$row.word,
-            about: report_row::$row.about,
-            words: $words,
-        }
-    };
-}
-
-/// The commands in the order of the program's help.
+/// The commands in the order of the program's help. Of reports the row has the word and the help.
 pub(crate) static KNOWN_COMMANDS: [KnownCommand; 25] = [
     KnownCommand {
         name: "trial",
@@ -152,18 +141,66 @@ pub(crate) static KNOWN_COMMANDS: [KnownCommand; 25] = [
         about: "Takes steps that began at different times for different work, for good",
         words: &[BOOK, DRY_RUN, WAIT],
     },
-    report!(STATEMENT, &[BOOK, PERIOD, CSV, CENTRE, OTHER_PRICES, WAIT]),
-    report!(ADJUSTMENTS, &[BOOK, PERIOD, CSV, CENTRE, WAIT]),
-    report!(DETAILS, &[BOOK, PERIOD, CSV, CENTRE, WAIT]),
-    report!(BILL, &[BOOK, PERIOD, CSV, CENTRE, WAIT]),
-    report!(FOCUS, &[BOOK, PERIOD, WAIT]),
-    report!(COVERAGE, &[BOOK, PERIOD, CSV, WAIT]),
-    report!(PAGE, &[BOOK, PERIOD, WAIT]),
-    report!(DISPUTES, &[BOOK, DISPUTE_CSV, WAIT]),
-    report!(RECORD, &[BOOK, RECORD_NAME, WAIT]),
-    report!(PERIODS, &[BOOK, WAIT]),
-    report!(RULINGS, &[BOOK, WAIT]),
-    report!(TARIFF_TEXT, &[BOOK, FIRST_DAY, WAIT]),
+    KnownCommand {
+        name: report_row::STATEMENT.word,
+        about: report_row::STATEMENT.about,
+        words: &[BOOK, PERIOD, CSV, CENTRE, OTHER_PRICES, WAIT],
+    },
+    KnownCommand {
+        name: report_row::ADJUSTMENTS.word,
+        about: report_row::ADJUSTMENTS.about,
+        words: &[BOOK, PERIOD, CSV, CENTRE, WAIT],
+    },
+    KnownCommand {
+        name: report_row::DETAILS.word,
+        about: report_row::DETAILS.about,
+        words: &[BOOK, PERIOD, CSV, CENTRE, WAIT],
+    },
+    KnownCommand {
+        name: report_row::BILL.word,
+        about: report_row::BILL.about,
+        words: &[BOOK, PERIOD, CSV, CENTRE, WAIT],
+    },
+    KnownCommand {
+        name: report_row::FOCUS.word,
+        about: report_row::FOCUS.about,
+        words: &[BOOK, PERIOD, WAIT],
+    },
+    KnownCommand {
+        name: report_row::COVERAGE.word,
+        about: report_row::COVERAGE.about,
+        words: &[BOOK, PERIOD, CSV, WAIT],
+    },
+    KnownCommand {
+        name: report_row::PAGE.word,
+        about: report_row::PAGE.about,
+        words: &[BOOK, PERIOD, WAIT],
+    },
+    KnownCommand {
+        name: report_row::DISPUTES.word,
+        about: report_row::DISPUTES.about,
+        words: &[BOOK, DISPUTE_CSV, WAIT],
+    },
+    KnownCommand {
+        name: report_row::RECORD.word,
+        about: report_row::RECORD.about,
+        words: &[BOOK, RECORD_NAME, WAIT],
+    },
+    KnownCommand {
+        name: report_row::PERIODS.word,
+        about: report_row::PERIODS.about,
+        words: &[BOOK, WAIT],
+    },
+    KnownCommand {
+        name: report_row::RULINGS.word,
+        about: report_row::RULINGS.about,
+        words: &[BOOK, WAIT],
+    },
+    KnownCommand {
+        name: report_row::TARIFF_TEXT.word,
+        about: report_row::TARIFF_TEXT.about,
+        words: &[BOOK, FIRST_DAY, WAIT],
+    },
     KnownCommand {
         name: "upgrade",
         about: "Brings books of an older form over to the present one",
