@@ -50,47 +50,6 @@ fn part_of(
     }
 }
 
-/// Counts disputes.
-struct CountStep;
-
-impl Step<Dispute> for CountStep {
-    ghost use Rattle.std.specs.Prelude.{◌≡◌, length};
-
-    type State = u64;
-
-    ghost Takes = { λ step dispute. Unit {0} };
-
-    ghost Has = { λ step count disputes. count ≡ length disputes };
-
-    fn begin(&self, _alloc: Global) -> Result<u64, AllocError> {
-        Ok(0)
-    }
-
-    fn add(
-        &self,
-        _alloc: Global,
-        count: &mut u64,
-        _dispute: &Dispute,
-    ) -> Result<(), LedgerFault> {
-        let Some(more) = count.checked_add(1) else {
-            return Err(LedgerFault::Memory);
-        };
-        *count = more;
-        Ok(())
-    }
-}
-
-/// How many disputes there are. Each is read for it, one at a time.
-pub(crate) fn count_disputes<L: Ledger>(
-    alloc: Global,
-    ledger: &mut L,
-) -> Result<u64, LedgerFault>
-    ensures { IsCall (λ count. count) (L.seen ledger.old) (L.seen ledger.new) result
-        (dispute_count_outcome (L.seen ledger.old).naming) }
-{
-    fold(alloc, ledger, &DisputeCursor, &CountStep)
-}
-
 /// The lines of a dispute after so many others, where so many were counted. Only a ledger that lies
 /// has more.
 fn counted_part(
@@ -177,6 +136,22 @@ impl Lines<Dispute> for DisputeLines {
     }
 
     ghost some = { λ lines. some_above_disputes lines.form lines.count };
+}
+
+/// How many disputes there are. Each is read for it, one at a time: they are numbered as they are
+/// where they are shown.
+pub(crate) fn count_disputes<L: Ledger>(
+    alloc: Global,
+    ledger: &mut L,
+) -> Result<u64, LedgerFault>
+    ensures { IsCall (λ count. count) (L.seen ledger.old) (L.seen ledger.new) result
+        (dispute_count_outcome (L.seen ledger.old).naming) }
+{
+    let lines = DisputeLines {
+        form: StatementForm::Text,
+        count: 0,
+    };
+    fold(alloc, ledger, &DisputeCursor, &lines)
 }
 
 /// Writes the disputes: all of them, or, before a fault, a prefix of their text that is not the
