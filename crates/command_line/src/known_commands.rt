@@ -1,7 +1,6 @@
 //! The commands that the program knows, with their words and options.
 
 use crate::help_texts::Help;
-use report_rows::report_row;
 
 /// A command of the program.
 #[derive(Clone, Copy)]
@@ -99,7 +98,8 @@ const NUMBER_KIND: Argument = Argument::InPlace(
 const NUMBER: Argument =
     Argument::InPlaceOr("number", Help::Number, ValueKind::AtMost(MOST_NUMBER), "0");
 
-/// The commands in the order of the program's help. Of reports the row has the word and the help.
+/// The commands in the order of the program's help. The commands of reports have the words that the
+/// rows of `report_rows` give them.
 pub(crate) static KNOWN_COMMANDS: [KnownCommand; 25] = [
     KnownCommand {
         name: "trial",
@@ -142,63 +142,63 @@ pub(crate) static KNOWN_COMMANDS: [KnownCommand; 25] = [
         words: &[BOOK, DRY_RUN, WAIT],
     },
     KnownCommand {
-        name: report_row::STATEMENT.word,
-        about: report_row::STATEMENT.about,
+        name: "statement",
+        about: "Prints what a period charges",
         words: &[BOOK, PERIOD, CSV, CENTRE, OTHER_PRICES, WAIT],
     },
     KnownCommand {
-        name: report_row::ADJUSTMENTS.word,
-        about: report_row::ADJUSTMENTS.about,
+        name: "adjustments",
+        about: "Prints what a period adds to closed periods and reverses in them",
         words: &[BOOK, PERIOD, CSV, CENTRE, WAIT],
     },
     KnownCommand {
-        name: report_row::DETAILS.word,
-        about: report_row::DETAILS.about,
+        name: "details",
+        about: "Prints each record that a period counts, and what it costs",
         words: &[BOOK, PERIOD, CSV, CENTRE, WAIT],
     },
     KnownCommand {
-        name: report_row::BILL.word,
-        about: report_row::BILL.about,
+        name: "bill",
+        about: "Prints the bill of a centre for a period, or what each centre owes",
         words: &[BOOK, PERIOD, CSV, CENTRE, WAIT],
     },
     KnownCommand {
-        name: report_row::FOCUS.word,
-        about: report_row::FOCUS.about,
+        name: "focus",
+        about: "Prints what a period charges as a table of cost and usage by FOCUS 1.0",
         words: &[BOOK, PERIOD, WAIT],
     },
     KnownCommand {
-        name: report_row::COVERAGE.word,
-        about: report_row::COVERAGE.about,
+        name: "coverage",
+        about: "Prints how many records a period counts of each day and system",
         words: &[BOOK, PERIOD, CSV, WAIT],
     },
     KnownCommand {
-        name: report_row::PAGE.word,
-        about: report_row::PAGE.about,
+        name: "page",
+        about: "Prints a period as a page for a browser",
         words: &[BOOK, PERIOD, WAIT],
     },
     KnownCommand {
-        name: report_row::DISPUTES.word,
-        about: report_row::DISPUTES.about,
+        name: "disputes",
+        about: "Prints the records in dispute",
         words: &[BOOK, DISPUTE_CSV, WAIT],
     },
     KnownCommand {
-        name: report_row::RECORD.word,
-        about: report_row::RECORD.about,
+        name: "record",
+        about: "Prints a record, how it was priced, and what became of it",
         words: &[BOOK, RECORD_NAME, WAIT],
     },
     KnownCommand {
-        name: report_row::PERIODS.word,
-        about: report_row::PERIODS.about,
+        name: "periods",
+        about: "Prints the periods",
         words: &[BOOK, WAIT],
     },
     KnownCommand {
-        name: report_row::RULINGS.word,
-        about: report_row::RULINGS.about,
+        name: "rulings",
+        about: "Prints the tariffs, the closes, the choices and the adoption",
         words: &[BOOK, WAIT],
     },
     KnownCommand {
-        name: report_row::TARIFF_TEXT.word,
-        about: report_row::TARIFF_TEXT.about,
+        name: "tariff-text",
+        about: "Prints the tariff file that begins on a day, byte for byte",
         words: &[BOOK, FIRST_DAY, WAIT],
     },
     KnownCommand {

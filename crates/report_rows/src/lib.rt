@@ -1,5 +1,5 @@
-//! The reports of the office, a row for each: its word, its help, which words follow BOOK, and where
-//! it is served.
+//! The reports of the office, a row for each: its word, which words follow BOOK, and where it is
+//! served.
 #![tactic(auto)]
 
 mod about;

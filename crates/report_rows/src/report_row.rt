@@ -70,8 +70,6 @@ pub enum BodyKind {
 pub struct ReportRow {
     /// Its word on the command line.
     pub word: &'static str,
-    /// What help says of it.
-    pub about: &'static str,
     pub shape: Shape,
     /// It is also a table of comma-separated values, where `--csv` asks for one.
     pub csv: bool,
@@ -113,7 +111,6 @@ impl ReportRow {
 /// A report of the office that is a text, and not served.
 const PLAIN: ReportRow = ReportRow {
     word: "",
-    about: "",
     shape: Shape::OfOffice,
     csv: false,
     streamed: false,
@@ -125,7 +122,6 @@ const PLAIN: ReportRow = ReportRow {
 
 pub const STATEMENT: ReportRow = ReportRow {
     word: "statement",
-    about: "Prints what a period charges",
     shape: Shape::OfCentre,
     csv: true,
     by_prices: true,
@@ -136,7 +132,6 @@ pub const STATEMENT: ReportRow = ReportRow {
 
 pub const ADJUSTMENTS: ReportRow = ReportRow {
     word: "adjustments",
-    about: "Prints what a period adds to closed periods and reverses in them",
     shape: Shape::OfCentre,
     csv: true,
     path: Some("/adjustments/"),
@@ -146,7 +141,6 @@ pub const ADJUSTMENTS: ReportRow = ReportRow {
 
 pub const DETAILS: ReportRow = ReportRow {
     word: "details",
-    about: "Prints each record that a period counts, and what it costs",
     shape: Shape::OfCentre,
     csv: true,
     streamed: true,
@@ -158,7 +152,6 @@ pub const DETAILS: ReportRow = ReportRow {
 /// A bill. It is not served.
 pub const BILL: ReportRow = ReportRow {
     word: "bill",
-    about: "Prints the bill of a centre for a period, or what each centre owes",
     shape: Shape::OfCentre,
     csv: true,
     ..PLAIN
@@ -167,7 +160,6 @@ pub const BILL: ReportRow = ReportRow {
 /// A period as a table of cost and usage by FOCUS 1.0, which has no other form.
 pub const FOCUS: ReportRow = ReportRow {
     word: "focus",
-    about: "Prints what a period charges as a table of cost and usage by FOCUS 1.0",
     shape: Shape::OfPeriod,
     path: Some("/focus/"),
     kind: BodyKind::Csv,
@@ -176,7 +168,6 @@ pub const FOCUS: ReportRow = ReportRow {
 
 pub const COVERAGE: ReportRow = ReportRow {
     word: "coverage",
-    about: "Prints how many records a period counts of each day and system",
     shape: Shape::OfPeriod,
     csv: true,
     path: Some("/coverage/"),
@@ -186,7 +177,6 @@ pub const COVERAGE: ReportRow = ReportRow {
 
 pub const PAGE: ReportRow = ReportRow {
     word: "page",
-    about: "Prints a period as a page for a browser",
     shape: Shape::OfPeriod,
     path: Some("/period/"),
     kind: BodyKind::Page,
@@ -195,7 +185,6 @@ pub const PAGE: ReportRow = ReportRow {
 
 pub const DISPUTES: ReportRow = ReportRow {
     word: "disputes",
-    about: "Prints the records in dispute",
     csv: true,
     streamed: true,
     path: Some("/disputes"),
@@ -205,7 +194,6 @@ pub const DISPUTES: ReportRow = ReportRow {
 
 pub const RECORD: ReportRow = ReportRow {
     word: "record",
-    about: "Prints a record, how it was priced, and what became of it",
     shape: Shape::OfRecord,
     path: Some("/record/"),
     ..PLAIN
@@ -213,14 +201,12 @@ pub const RECORD: ReportRow = ReportRow {
 
 pub const PERIODS: ReportRow = ReportRow {
     word: "periods",
-    about: "Prints the periods",
     path: Some("/periods"),
     ..PLAIN
 };
 
 pub const RULINGS: ReportRow = ReportRow {
     word: "rulings",
-    about: "Prints the tariffs, the closes, the choices and the adoption",
     streamed: true,
     path: Some("/rulings"),
     ..PLAIN
@@ -228,7 +214,6 @@ pub const RULINGS: ReportRow = ReportRow {
 
 pub const TARIFF_TEXT: ReportRow = ReportRow {
     word: "tariff-text",
-    about: "Prints the tariff file that begins on a day, byte for byte",
     shape: Shape::OfDay,
     path: Some("/tariff/"),
     kind: BodyKind::TariffFile,
