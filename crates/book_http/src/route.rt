@@ -97,20 +97,13 @@ fn thing_in(shape: Shape, text: &str) -> Option<About>
     }
 }
 
-/// An endpoint, and what a path names behind its front.
-fn asked_in(place: Endpoint, rest: &str) -> Option<(Endpoint, About)>
-    ensures { result ≡ spec.asked_in place rest.now }
-{
-    let thing = thing_in(shape_of(place), rest)?;
-    Some((place, thing))
-}
-
-/// What a path asks for at an endpoint with this front.
+/// An endpoint with this front, and what a path names behind that.
 fn asked_behind(place: Endpoint, front: &str, path: &str) -> Option<(Endpoint, About)>
     ensures { result ≡ spec.asked_behind place front.now path.now }
 {
     let rest = path_rest(front, path)?;
-    asked_in(place, rest)
+    let thing = thing_in(shape_of(place), rest)?;
+    Some((place, thing))
 }
 
 /// What a path asks for at an endpoint.
