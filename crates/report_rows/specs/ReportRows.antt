@@ -124,10 +124,6 @@ abbrev pub adjustments_in : StatementForm → PeriodReport
 adjustments_in form.Text = of_period.AdjustmentList
 adjustments_in form.Table = of_period.AdjustmentTable
 
-abbrev pub disputes_in : StatementForm → Report
-disputes_in form.Text = made.DisputeList
-disputes_in form.Table = made.DisputeTable
-
 -- of a period, of one centre or of the whole office
 abbrev pub report_of_centre : ReportName → StatementForm → ℕ → Option (List ℕ) → Option Report
 report_of_centre report.Statement form period centre =
@@ -146,7 +142,8 @@ report_of_period name form period = None
 
 -- of the books
 abbrev pub report_of_office : ReportName → StatementForm → Option Report
-report_of_office report.Disputes form = Some (disputes_in form)
+report_of_office report.Disputes form.Text = Some made.DisputeList
+report_of_office report.Disputes form.Table = Some made.DisputeTable
 report_of_office report.Periods form = Some made.PeriodList
 report_of_office report.Rulings form = Some made.RulingList
 report_of_office name form = None

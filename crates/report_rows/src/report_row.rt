@@ -275,15 +275,6 @@ fn adjustments_in(form: StatementForm) -> PeriodReport
     }
 }
 
-fn disputes_in(form: StatementForm) -> Report
-    ensures { result ≡ spec.disputes_in form }
-{
-    match form {
-        StatementForm::Text => Report::DisputeList,
-        StatementForm::Table => Report::DisputeTable,
-    }
-}
-
 /// The report of a period, of one centre or of the whole office.
 fn report_of_centre(
     name: ReportName,
@@ -340,7 +331,10 @@ pub fn report_about(name: ReportName, form: StatementForm, about: About) -> Opti
         About::OfCentre { period, centre } => report_of_centre(name, form, period, centre),
         About::OfPeriod(period) => report_of_period(name, form, period),
         About::OfOffice => match name {
-            ReportName::Disputes => Some(disputes_in(form)),
+            ReportName::Disputes => match form {
+                StatementForm::Text => Some(Report::DisputeList),
+                StatementForm::Table => Some(Report::DisputeTable),
+            },
             ReportName::Periods => Some(Report::PeriodList),
             ReportName::Rulings => Some(Report::RulingList),
             _ => None,
