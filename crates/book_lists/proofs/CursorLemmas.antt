@@ -216,9 +216,9 @@ pub folded : {S I X A : Type 0} {view : I → X} {old new : Seen}
 folded {result = Ok state} show sum it makes =
     read_as (λ book. refl) (λ book. refl) (record { reopen = refl; store = refl })
     (λ book said. ap (shown_by sum) said ∙ ap Ok (sym (makes state it.items it.has))) it.read
-folded {view = view} {result = Err fault} show sum it makes =
+folded {S = S} {view = view} {result = Err fault} show sum it makes =
     read_as (λ book. refl) (λ book. refl) (fault_alike fault)
-    (λ book. fault_tells (λ state. map view it.items) show fault (ap (shown_by sum))) it.read
+    (λ book. fault_tells (λ (state : S). map view it.items) show fault (ap (shown_by sum))) it.read
 
 -- ---- items that the definitions see as they are
 
