@@ -18,12 +18,10 @@ fn asked_form(found: &ArgMatches<'_>) -> Option<StatementForm>
     ensures form { IfSome result (IsForm (rows_in found.now)) }
     ensures some { HasWord (rows_in found.now) known.csv → IsSome result }
 {
-    let csv = flag_in(found, "csv")?;
-    Some(if csv {
-        StatementForm::Table
-    } else {
-        StatementForm::Text
-    })
+    if flag_in(found, "csv")? {
+        return Some(StatementForm::Table);
+    }
+    Some(StatementForm::Text)
 }
 
 /// What a period charged, or what it would charge by the tariff that is named.
