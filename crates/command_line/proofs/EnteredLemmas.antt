@@ -15,9 +15,9 @@ use Rattle.clap.specs.Walk.{to_positional, trailing, value, waits, walk_from, wa
 use Rattle.clap.specs.Walk.{word_met}
 use Rattle.clap.specs.declared.error.kind.ErrorKind.{ErrorKind}
 use Rattle.command_line.specs.declared.known_commands.KnownCommand.{KnownCommand}
-use Rattle.command_line.proofs.Words.{list_all, option_map_or, level_fault, Kinds, or_else, App}
-use Rattle.command_line.proofs.Words.{Shape, Names, Row, Rule, Text, nothing_held, rows_after}
-use Rattle.command_line.proofs.Words.{HasWords, HasWordsOf, command_seen, app_for, distinct, leaf}
+use Rattle.command_line.proofs.Shared.{list_all, option_map_or, level_fault, Kinds, or_else, App}
+use Rattle.command_line.proofs.Shared.{Shape, Names, Row, Rule, Text, nothing_held, rows_after}
+use Rattle.command_line.proofs.Shared.{HasWords, HasWordsOf, command_seen, app_for, distinct, leaf}
 use Rattle.command_line.specs.Known.{WordSeen, known_table}
 use Rattle.command_line.proofs.RowLemmas.{neither, no_kinds, true_false}
 use Rattle.command_line.proofs.LevelLemmas.{checks_passed, no_fault}

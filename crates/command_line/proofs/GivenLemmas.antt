@@ -12,9 +12,9 @@ use Rattle.clap.proofs.WalkLemmas.{list_any-map}
 use Rattle.command_line.specs.declared.known_commands.Argument.{Argument}
 use Rattle.command_line.specs.declared.known_commands.KnownCommand.{KnownCommand}
 use Rattle.command_line.specs.declared.known_commands.ValueKind.{ValueKind}
-use Rattle.command_line.proofs.Words.{list_all, list_any, same_Some, bytes_eq-Decides, level_fault}
-use Rattle.command_line.proofs.Words.{Shape, accepts, Row, Rule, Text, first_of, nothing_held}
-use Rattle.command_line.proofs.Words.{one_of, rows_after, HasWords, command_seen, distinct, leaf}
+use Rattle.command_line.proofs.Shared.{list_all, list_any, same_Some, bytes_eq-Decides, level_fault}
+use Rattle.command_line.proofs.Shared.{Shape, accepts, Row, Rule, Text, first_of, nothing_held}
+use Rattle.command_line.proofs.Shared.{one_of, rows_after, HasWords, command_seen, distinct, leaf}
 use Rattle.command_line.specs.Given.{HasValue, HasWord}
 use Rattle.command_line.specs.Known.{value_seen, word_seen}
 use Rattle.command_line.specs.Requests.{IsFlag}

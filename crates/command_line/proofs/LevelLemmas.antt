@@ -18,9 +18,9 @@ use Rattle.clap.specs.declared.parser.matches.ValueSource.TheVariants.{DefaultVa
 use Rattle.command_line.proofs.RowLemmas.{AllFit, Fits, In, OwnIn, Takes, first_passed, neither}
 use Rattle.command_line.proofs.RowLemmas.{no_kinds, passed_over, true_false, with_values_fits}
 use Rattle.command_line.proofs.WalkedRows.{settled_fits, walk_fits}
-use Rattle.command_line.proofs.Words.{list_any, option_map_or, bytes_eq-Decides, level_fault, Kinds}
-use Rattle.command_line.proofs.Words.{or_else, Shape, accepts, Names, Row, Rule, Text, first_of}
-use Rattle.command_line.proofs.Words.{nothing_held, one_of, reading_by, rows_after}
+use Rattle.command_line.proofs.Shared.{list_any, option_map_or, bytes_eq-Decides, level_fault}
+use Rattle.command_line.proofs.Shared.{Kinds, or_else, Shape, accepts, Names, Row, Rule, Text}
+use Rattle.command_line.proofs.Shared.{first_of, nothing_held, one_of, reading_by, rows_after}
 use Rattle.clap.specs.declared.error.kind.ErrorKind.TheVariants as kind
 
 -- ---- defaults

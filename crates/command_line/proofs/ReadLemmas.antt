@@ -10,7 +10,7 @@ use Rattle.command_line.specs.declared.request.Request.{Request}
 use Rattle.command_line.specs.Known.{IsReadBy, IsFaultOf}
 use Rattle.command_line.specs.Requests.{IsRequest}
 use Rattle.command_line.proofs.RowLemmas.{true_false}
-use Rattle.command_line.proofs.Words.{Kinds, Row, Text}
+use Rattle.command_line.proofs.Shared.{Kinds, Row, Text}
 use Rattle.command_line.specs.declared.fault.ArgumentFault.TheVariants as fault
 
 -- clap found no fault, and the matches are a request

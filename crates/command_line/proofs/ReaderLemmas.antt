@@ -14,8 +14,8 @@ use Rattle.clap.proofs.CallerReads.{signed_reads}
 use Rattle.command_line.specs.Given.{HasNumber, HasRate, NoneIs}
 use Rattle.command_line.specs.Requests.{IsFlag, IsLeftOut, IsNumber, IsText, Writes}
 use Rattle.command_line.proofs.RowLemmas.{none_some, true_false}
-use Rattle.command_line.proofs.Words.{list_any, bytes_eq-Decides, one_text, Row, Text, first_of}
-use Rattle.command_line.proofs.Words.{one_of, one_text-rows}
+use Rattle.command_line.proofs.Shared.{list_any, bytes_eq-Decides, one_text, Row, Text, first_of}
+use Rattle.command_line.proofs.Shared.{one_of, one_text-rows}
 
 -- ---- a text
 

@@ -4,7 +4,7 @@ use Rattle.std.proofs.Common.{◌≡◌, ◌∙◌, Bool, true, false, cond, Lis
 use Rattle.std.proofs.Common.{Some, None, refl, sym, ap, subst, find, bytes_eq, IsSomeAnd}
 use Rattle.report_rows.specs.ReportRows.{has_word, named_report, row_of}
 use Rattle.report_rows.specs.declared.report_row.ReportName.{ReportName}
-use Rattle.command_line.proofs.Words.{same_Some, bytes_eq-Decides, Row, Text, HasWords, HasWordsOf}
+use Rattle.command_line.proofs.Shared.{same_Some, bytes_eq-Decides, Row, Text, HasWords, HasWordsOf}
 use Rattle.command_line.specs.Given.{HasWord, NoneIs}
 use Rattle.command_line.specs.Known.{WordSeen, chosen_by, commands_above, commands_below, if_csv}
 use Rattle.command_line.specs.Known.{if_prices, known_table, named_by, report_command, report_words}

@@ -17,8 +17,8 @@ use Rattle.clap.specs.declared.builder.value_parser.ValueParser.{ValueParser}
 use Rattle.clap.specs.declared.error.kind.ErrorKind.{ErrorKind}
 use Rattle.clap.specs.declared.parser.matches.ValueSource.{ValueSource}
 use Rattle.clap.specs.declared.parser.matches.ValueSource.TheVariants.{CommandLine}
-use Rattle.command_line.proofs.Words.{list_any, same_Some, bytes_eq-Decides, Kinds, or_else}
-use Rattle.command_line.proofs.Words.{accepts, Row, Rule, Text, reading_by, distinct}
+use Rattle.command_line.proofs.Shared.{list_any, same_Some, bytes_eq-Decides, Kinds, or_else}
+use Rattle.command_line.proofs.Shared.{accepts, Row, Rule, Text, reading_by, distinct}
 use Rattle.clap.specs.declared.error.kind.ErrorKind.TheVariants as kind
 
 -- ---- kinds of faults

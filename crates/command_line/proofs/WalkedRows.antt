@@ -18,8 +18,8 @@ use Rattle.clap.specs.Walk.{values_or_missing, waits, walked, walked_from, word_
 use Rattle.clap.specs.Walk.{subcommand, trailing}
 use Rattle.command_line.proofs.RowLemmas.{AllFit, Fits, OwnIn, Takes, neither, own_found}
 use Rattle.command_line.proofs.RowLemmas.{used_as_fits}
-use Rattle.command_line.proofs.Words.{option_map_or, Kinds, or_else, Shape, Names, Row, Rule, Text}
-use Rattle.command_line.proofs.Words.{reading_by}
+use Rattle.command_line.proofs.Shared.{option_map_or, Kinds, or_else, Shape, Names, Row, Rule, Text}
+use Rattle.command_line.proofs.Shared.{reading_by}
 use Rattle.clap.specs.declared.error.kind.ErrorKind.TheVariants as kind
 
 -- ---- the words of a flag leave the rows

@@ -1,4 +1,4 @@
-use Rattle.command_line.proofs.Words.{found_of, one_text, one_text-rows, rows_in}
+use Rattle.command_line.proofs.Shared.{found_of, one_text, one_text-rows, rows_in}
 use Rattle.command_line.proofs.ReaderLemmas.{has_flag, read_flag}
 use Rattle.command_line.proofs.given_words.flag_in.Goals as goal
 

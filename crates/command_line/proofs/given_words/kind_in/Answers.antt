@@ -1,5 +1,5 @@
 use Rattle.std.proofs.Common.{[], ◌∷◌, codes}
-use Rattle.command_line.proofs.Words.{first_of, rows_in}
+use Rattle.command_line.proofs.Shared.{first_of, rows_in}
 use Rattle.command_line.proofs.ReaderLemmas.{not_given}
 use Rattle.command_line.proofs.given_words.kind_in.Goals as goal
 

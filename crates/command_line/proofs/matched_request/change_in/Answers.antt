@@ -1,5 +1,5 @@
 use Rattle.std.proofs.Common.{refl, subst, sym, IfSome}
-use Rattle.command_line.proofs.Words.{HasWordsOf, rows_in}
+use Rattle.command_line.proofs.Shared.{HasWordsOf, rows_in}
 use Rattle.command_line.specs.Known.{known_table}
 use Rattle.command_line.specs.Requests.{IsOfBooks}
 use Rattle.command_line.proofs.matched_request.change_in.Goals as goal
