@@ -1,8 +1,6 @@
 -- What is answered, by what the books did.
 use Rattle.std.proofs.Common.{ℕ, ◌+◌, ◌<◌, List, ◌++◌, length, take, Option, arith, length-append}
-use Rattle.std.proofs.Math.Seq.{take-append-add}
-use Rattle.std.proofs.KnownBytes.{Appends-trans}
-use Rattle.std.specs.Io.KnownBytes.{Appends}
+use Rattle.book_http.proofs.Words.{take-append-add, Appends-trans, Appends}
 
 -- the whole of one text and a prefix of the next are a prefix of both
 pub front_behind : (held between holds : Option (List ℕ)) (first next : List ℕ) (count : ℕ)

@@ -1,21 +1,18 @@
 -- What a head asks, by what was found in it.
 use Rattle.std.proofs.Common.{◌≡◌, ◌∙◌, ℕ, ap, Option, refl}
-use Rattle.httparse.specs.Grammar.{RequestHead}
-use Rattle.book_reports.specs.declared.what_if.StatementForm.{StatementForm}
-use Rattle.report_rows.specs.Abouts.{report_about}
-use Rattle.report_rows.specs.ReportRows.{kind_in, row_of}
-use Rattle.report_rows.specs.declared.about.About.{About}
-use Rattle.report_rows.specs.declared.report_row.ReportName.{ReportName}
-use Rattle.report_rows.specs.declared.report_row.ReportName.TheVariants as report
+use Rattle.report_rows.specs.ReportRows.{row_of}
 use Rattle.book_http.specs.declared.asked.Asked.{Asked}
 use Rattle.book_http.specs.declared.endpoint.Endpoint.{Endpoint}
 use Rattle.book_http.specs.declared.request.Request.{Request}
-use Rattle.book_http.specs.Asked as spec
-use Rattle.book_http.specs.Asked.{asked_framed, report_of, whole_report}
+use Rattle.book_http.proofs.Words.{RequestHead, StatementForm, report_about, kind_in, About}
+use Rattle.book_http.proofs.Words.{ReportName, whole_report, route}
+use Rattle.book_http.specs.Asked.{asked_framed, report_of}
 use Rattle.book_http.specs.Framing.{framing}
 use Rattle.book_http.specs.Hosts.{is_foreign}
 use Rattle.book_http.specs.Requests.{DescribesHead}
-use Rattle.book_http.specs.Routes.{path_of, route}
+use Rattle.book_http.specs.Routes.{path_of}
+use Rattle.report_rows.specs.declared.report_row.ReportName.TheVariants as report
+use Rattle.book_http.specs.Asked as spec
 
 -- any report but details is made whole
 pub made_whole : (name : ReportName) (form : StatementForm) (thing : About)

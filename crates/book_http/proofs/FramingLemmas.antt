@@ -1,18 +1,14 @@
 -- What one more field makes of what the fields before it say.
-use Rattle.std.proofs.Common.{◌≡◌, ℕ, ◌+◌, ◌<◌, Bool, true, false, ◌||◌, Option, Some, None}
-use Rattle.std.proofs.Common.{List, [], ◌∷◌, ◌++◌, length, map, take, get_or, codes}
-use Rattle.std.proofs.Common.{refl, ap, ◌∙◌, append-nil}
-use Rattle.std.specs.Prelude.{if◌then◌else◌}
-use Rattle.std.proofs.lemmas.List.{map-append, take_more}
-use Rattle.std.proofs.lemmas.List.Elements.{filter-append}
-use Rattle.std.proofs.lemmas.List.Folds.{list_any-append, list_any_at}
-use Rattle.httparse.specs.Spans.{header_bytes}
-use Rattle.httparse.specs.declared.spans.HeaderSpan.{HeaderSpan}
+use Rattle.std.proofs.Common.{◌≡◌, ℕ, ◌+◌, ◌<◌, Bool, true, false, ◌||◌, Option, Some, None, List}
+use Rattle.std.proofs.Common.{[], ◌∷◌, ◌++◌, length, map, take, get_or, codes, refl, ap, ◌∙◌}
+use Rattle.std.proofs.Common.{append-nil, if◌then◌else◌}
+use Rattle.book_model.proofs.Std.{map-append, take_more, filter-append, list_any-append}
+use Rattle.book_model.proofs.Std.{list_any_at, list_any}
 use Rattle.book_http.specs.declared.framing.Framing.TheVariants.{Faulty}
 use Rattle.book_http.specs.Framing.{is_field_named, field_values, framing_if, framing_by_all}
 use Rattle.book_http.specs.Framing.{with_length, with_field, declared}
 use Rattle.book_http.specs.Numbers.{decimal_value}
-use Rattle.std.specs.List.{list_any}
+use Rattle.book_http.proofs.Words.{header_bytes, HeaderSpan}
 
 -- what holds where a list of fields has none
 abbrev pub no_field : HeaderSpan

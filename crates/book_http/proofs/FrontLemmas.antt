@@ -1,39 +1,27 @@
 -- What is served is found by the front of its paths, and whatever goes on behind that.
 use Rattle.std.proofs.Common.{◌≡◌, ◌∙◌, ℕ, suc, zero, ◌-◌, ◌<◌, Bool, true, false, cond, ◌&&◌, List}
-use Rattle.std.proofs.Common.{[], ◌∷◌, ◌++◌, length, Option, Some, None, IfSome, arith, refl, sym, ap}
-use Rattle.std.proofs.Common.{subst, append-nil}
-use Rattle.std.proofs.lemmas.Bool.{true≢false}
-use Rattle.std.proofs.lemmas.Bool.Decides.{nat_tests}
-use Rattle.std.proofs.lemmas.Str.Parse.{digit_at}
-use Rattle.std.specs.Char.{is_ascii_digit}
-use Rattle.std.specs.Int.{IsInRange}
-use Rattle.std.specs.List.{list_all}
-use Rattle.std.specs.Option.{option_and_then}
-use Rattle.std.specs.Prelude.{◌==◌, decimal, option_map}
+use Rattle.std.proofs.Common.{[], ◌∷◌, ◌++◌, length, Option, Some, None, IfSome, arith, refl, sym}
+use Rattle.std.proofs.Common.{ap, subst, append-nil, true≢false, option_and_then, ◌==◌, decimal}
+use Rattle.std.proofs.Common.{option_map}
 use Rattle.matchit.proofs.OnLiterals.{matchit_on_literals}
 use Rattle.matchit.specs.Rows.{RowsOf, param_token, catch_all_token}
 use Rattle.matchit.specs.Seek.{step, or_else, seek, param_step, has_slash}
-use Rattle.smf_frames.specs.declared.dump.Layout.{Layout}
-use Rattle.smf_frames.specs.declared.dump.Layout.TheVariants.{Rdw, Bdw}
-use Rattle.smf_text.specs.Day.{day_text_of}
+use Rattle.book_model.proofs.Std.{nat_tests, list_all}
 use Rattle.smf_text.proofs.DayOfTextLemmas.{day_text_begins}
+use Rattle.book_model.specs.Words.{Layout, Rdw, Bdw, day_text_of}
 use Rattle.book_reports.proofs.RecordNameLemmas.{name_begins}
-use Rattle.book_reports.specs.declared.what_if.StatementForm.{StatementForm}
-use Rattle.book_reports.specs.declared.what_if.StatementForm.TheVariants as shown_as
 use Rattle.report_rows.specs.ReportRows.{row_of}
-use Rattle.report_rows.specs.declared.about.About.{About}
-use Rattle.report_rows.specs.declared.about.About.TheVariants as about
-use Rattle.report_rows.specs.declared.report_row.ReportName.{ReportName}
-use Rattle.report_rows.specs.declared.report_row.ReportName.TheVariants as report
-use Rattle.report_rows.specs.declared.report_row.Shape.{Shape}
-use Rattle.report_rows.specs.declared.report_row.Shape.TheVariants.{OfCentre, OfDay, OfOffice}
-use Rattle.report_rows.specs.declared.report_row.Shape.TheVariants.{OfPeriod, OfRecord}
 use Rattle.book_http.specs.declared.endpoint.Endpoint.{Endpoint}
-use Rattle.book_http.specs.declared.endpoint.Endpoint.TheVariants as endpoint
-use Rattle.book_http.specs.Paths.{IsPathPeriod, Names, front_of, period_text, shape_of}
+use Rattle.book_http.proofs.Words.{digit_at, is_ascii_digit, IsInRange, StatementForm, About}
+use Rattle.book_http.proofs.Words.{ReportName, Shape, OfCentre, OfDay, OfOffice, OfPeriod, OfRecord}
+use Rattle.book_http.proofs.Words.{IsPathPeriod, Names, front_of, period_text, shape_of}
 use Rattle.book_http.specs.Routes.{Key, endpoint_of, route_rows}
 use Rattle.book_http.proofs.NamedPeriodLemmas.{after_number, text_begins}
 use Rattle.book_http.proofs.PeriodLemmas.{are_digits, decimal_digits, three_pass}
+use Rattle.book_reports.specs.declared.what_if.StatementForm.TheVariants as shown_as
+use Rattle.report_rows.specs.declared.about.About.TheVariants as about
+use Rattle.report_rows.specs.declared.report_row.ReportName.TheVariants as report
+use Rattle.book_http.specs.declared.endpoint.Endpoint.TheVariants as endpoint
 
 -- ---- rows of a router
 

@@ -1,32 +1,20 @@
 -- Details that are gathered before they are sent.
-use Rattle.std.proofs.Common.{◌≡◌, ◌∙◌, ◌≤◌, ℕ, true, List, [], ◌++◌, refl, sym, ap, subst, inl, inr}
-use Rattle.std.proofs.Common.{Some, Result, Ok, Err, append-nil, length}
-use Rattle.std.specs.Prelude.{IfOk}
-use Rattle.std.proofs.lemmas.Bool.{true≢false}
-use Rattle.book_model.specs.declared.fault.LedgerFault.{LedgerFault}
-use Rattle.book_model.specs.declared.fault.LedgerFault.TheVariants as fault
+use Rattle.std.proofs.Common.{◌≡◌, ◌∙◌, ◌≤◌, ℕ, true, List, [], ◌++◌, refl, sym, ap, subst, inl}
+use Rattle.std.proofs.Common.{inr, Some, Result, Ok, Err, append-nil, length, IfOk, true≢false}
 use Rattle.book_model.specs.Words.{after_all}
-use Rattle.book_core.specs.Calls.{Calls}
-use Rattle.book_core.specs.Ledgers.{Seen}
-use Rattle.book_core.specs.Transition.{IsTransition, Then, Transition}
-use Rattle.book_core.proofs.TransitionLemmas.{work_as, work_then}
-use Rattle.book_lists.specs.declared.fault.ReportFault.{ReportFault}
-use Rattle.book_lists.specs.declared.fault.ReportFault.TheVariants.{Write, Memory, Ledger}
-use Rattle.book_lists.specs.Streamed.{WritesAnswerUntil, WritesUntilOrRefuses}
-use Rattle.book_lists.specs.Streamed.{is_hindrance, refusal_in}
-use Rattle.book_lists.proofs.ReadingLemmas.{IsAlike, Tells, fault_alike, goes_on, made}
-use Rattle.book_lists.proofs.ReadingLemmas.{reopens_alike}
+use Rattle.book_core.specs.Words.{Calls, Seen, IsTransition, Then, Transition}
+use Rattle.book_lists.specs.Streamed.{is_hindrance}
+use Rattle.book_lists.proofs.ReadingLemmas.{IsAlike, Tells, made, reopens_alike}
 use Rattle.book_lists.proofs.WritingLemmas.{same_value}
-use Rattle.book_reports.specs.declared.streamed_details.DetailReport.{DetailReport}
-use Rattle.book_reports.specs.BookTexts.{shown_by}
-use Rattle.book_reports.specs.StreamedDetails.{detail_answer, detail_length_outcome}
-use Rattle.book_reports.specs.StreamedDetails.{detail_text_outcome}
-use Rattle.office.specs.Requests.{Response, Text, response_outcome}
-use Rattle.report_rows.specs.declared.report_row.BodyKind.{BodyKind}
 use Rattle.book_http.specs.declared.status.Status.TheVariants.{Done}
-use Rattle.book_http.specs.Answer.{AnswersDetails, form_kind, gathered, most_gathered, office_reply}
-use Rattle.book_http.specs.Replies.{Reply}
-use Rattle.book_http.specs.Served.{AreShort, IsMeasured}
+use Rattle.book_http.proofs.Words.{LedgerFault, work_as, work_then, ReportFault, Write, Memory}
+use Rattle.book_http.proofs.Words.{Ledger, WritesAnswerUntil, WritesUntilOrRefuses, refusal_in}
+use Rattle.book_http.proofs.Words.{fault_alike, goes_on, DetailReport, shown_by, detail_answer}
+use Rattle.book_http.proofs.Words.{detail_length_outcome, detail_text_outcome, Response, Text}
+use Rattle.book_http.proofs.Words.{response_outcome, BodyKind, AnswersDetails, form_kind, gathered}
+use Rattle.book_http.proofs.Words.{most_gathered, office_reply, Reply, IsMeasured}
+use Rattle.book_http.specs.Served.{AreShort}
+use Rattle.book_model.specs.declared.fault.LedgerFault.TheVariants as fault
 
 -- what may hinder any report tells nothing of it
 hindered_tells : (why : LedgerFault) (answer : Result Response LedgerFault)

@@ -1,48 +1,31 @@
 -- What requests do to the books, one after another.
-use Rattle.std.proofs.Common.{◌≡◌, ◌∙◌, ℕ, Bool, true, false, List, [], ◌++◌, None}
-use Rattle.std.proofs.Common.{not, refl, sym, ap, subst, inl, inr, Option, Result, Ok, Err}
-use Rattle.std.specs.Str.{is_utf8}
-use Rattle.httparse.specs.Grammar.{RequestHead}
-use Rattle.smf_frames.specs.declared.dump.Layout.{Layout}
-use Rattle.book_model.specs.Words.{front, Book, Event, Outcome, after_all, book_after, Naming}
-use Rattle.book_model.specs.MadeByCalls.{AreMadeOf}
-use Rattle.book_model.proofs.StepLemmas.{books_follow_history}
-use Rattle.book_model.specs.declared.fault.LedgerFault.{LedgerFault}
-use Rattle.book_core.specs.Calls.{Calls, listed}
-use Rattle.book_core.specs.Ledgers.{Seen}
-use Rattle.book_core.specs.Transition.{IsTransition, Transition}
+use Rattle.std.proofs.Common.{◌≡◌, ◌∙◌, ℕ, Bool, true, false, List, [], ◌++◌, None, not, refl, sym}
+use Rattle.std.proofs.Common.{ap, subst, inl, inr, Option, Result, Ok, Err}
+use Rattle.book_model.specs.Words.{Layout, front, Book, Event, Outcome, after_all, book_after}
+use Rattle.book_model.specs.Words.{Naming, AreMadeOf}
+use Rattle.book_model.proofs.Lemmas.{books_follow_history}
+use Rattle.book_core.specs.Words.{Calls, listed, Seen, IsTransition, Transition, MakesAnswered}
 use Rattle.book_core.proofs.FollowLemmas.{called_events, follows, after_all-book_of}
 use Rattle.book_core.proofs.FollowLemmas.{history_goes_on}
-use Rattle.book_core.specs.Follow.{MakesAnswered}
-use Rattle.book_import.specs.declared.receipt.Receipt.{Receipt}
-use Rattle.book_import.specs.Dumps.{stop_after}
 use Rattle.book_import.specs.Imports.{Imports}
 use Rattle.book_import.proofs.RepeatLemmas.{twice_is_once}
 use Rattle.book_reports.specs.declared.report.Report.{Report}
-use Rattle.book_reports.specs.declared.streamed_details.DetailReport.{DetailReport}
-use Rattle.book_reports.specs.declared.what_if.WhatIf.{WhatIf}
-use Rattle.book_reports.specs.BookTexts.{report_outcome}
-use Rattle.book_reports.specs.StreamedDetails.{detail_text_outcome}
-use Rattle.book_reports.specs.WhatIfTexts.{what_if_report}
-use Rattle.office.specs.Requests.{Dump, Response, Ruling, Count, Text, response_outcome}
-use Rattle.office.specs.Requests.{Receives, whole_dump}
+use Rattle.office.specs.Requests.{Dump, Ruling, Count, Receives}
 use Rattle.office.proofs.LawLemmas.{receives_answered}
-use Rattle.report_rows.specs.declared.report_row.BodyKind.{BodyKind}
-use Rattle.report_rows.specs.declared.report_row.BodyKind.TheVariants as kinds
-use Rattle.book_http.specs.Asked.{asked}
-use Rattle.book_http.specs.Answer.{office_reply, AnswersOffice, AnswersReport, AnswersImport}
-use Rattle.book_http.specs.Answer.{AnswersDetails, AnswersWhatIf, AnswersAsked, Prices}
-use Rattle.book_http.specs.Answer.{UnlessBad}
-use Rattle.book_http.specs.Answer.{Answers, done, no_memory, no_head, a_head, form_kind}
-use Rattle.book_http.specs.Head.{HasHead}
-use Rattle.book_http.specs.Laws.{IsUnhindered, RequestTwiceIsOnce, RequestsMakeHistory}
-use Rattle.book_http.specs.Replies.{Reply}
-use Rattle.book_http.specs.Requested.{AnswersRequest, RequestSeen, Settles}
-use Rattle.book_http.specs.Requested.{WantsDetails, WantsImport, WantsReport, WantsWhatIf}
-use Rattle.book_http.specs.Requested.{wanted_by}
+use Rattle.book_http.proofs.Words.{is_utf8, RequestHead, LedgerFault, Receipt, stop_after}
+use Rattle.book_http.proofs.Words.{DetailReport, WhatIf, report_outcome, detail_text_outcome}
+use Rattle.book_http.proofs.Words.{what_if_report, Response, Text, response_outcome, whole_dump}
+use Rattle.book_http.proofs.Words.{BodyKind, asked, office_reply, AnswersOffice, AnswersReport}
+use Rattle.book_http.proofs.Words.{AnswersImport, AnswersDetails, AnswersWhatIf, AnswersAsked}
+use Rattle.book_http.proofs.Words.{Prices, UnlessBad, Answers, done, no_memory, no_head, a_head}
+use Rattle.book_http.proofs.Words.{form_kind, HasHead, IsUnhindered, Reply, AnswersRequest}
+use Rattle.book_http.proofs.Words.{RequestSeen, Settles, WantsDetails, WantsImport, WantsReport}
+use Rattle.book_http.proofs.Words.{WantsWhatIf, wanted_by, SendsAsRead}
+use Rattle.book_http.specs.Laws.{RequestTwiceIsOnce, RequestsMakeHistory}
 use Rattle.book_http.specs.declared.served.Served.{Served}
-use Rattle.book_http.specs.Served.{IsDone, SendsAsRead}
+use Rattle.book_http.specs.Served.{IsDone}
 use Rattle.book_http.proofs.HeadLemmas.{head_unique}
+use Rattle.report_rows.specs.declared.report_row.BodyKind.TheVariants as kinds
 
 -- a text that is no event makes none
 pub text_none : (kind : BodyKind) (text : Book → Outcome (List ℕ)) (reply : Reply) (was : Bool)

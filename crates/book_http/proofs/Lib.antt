@@ -1,3 +1,4 @@
+mod Words
 pub mod AnswerLemmas
 pub mod AskedLemmas
 pub mod BodyLemmas

@@ -1,13 +1,10 @@
 -- Numbers of few digits.
-use Rattle.std.proofs.Common.{◌≡◌, ℕ, ◌+◌, ◌*◌, ◌-◌, ◌<◌, ◌≤◌, ◌^◌, arith}
-use Rattle.std.proofs.Common.{List, length, take, get_or}
-use Rattle.std.proofs.lemmas.Int.Digits.{digits_more, digits_value_more}
-use Rattle.std.proofs.lemmas.List.{length-take}
+use Rattle.std.proofs.Common.{◌≡◌, ℕ, ◌+◌, ◌*◌, ◌-◌, ◌<◌, ◌≤◌, ◌^◌, arith, List, length, take}
+use Rattle.std.proofs.Common.{get_or, length-take}
 use Rattle.std.proofs.lemmas.Str.{digit_value_digit}
-use Rattle.std.specs.Char.{digit_value}
-use Rattle.std.specs.Str.Parse.{AllDigits, digits_value}
-use Rattle.std.proofs.lemmas.Str.Parse.{digit_from_value, digits_value_short}
-use Rattle.std.proofs.lemmas.Str.Parse.{numerals_by_value, tells_digits}
+use Rattle.std.proofs.lemmas.Str.Parse.{digit_from_value, tells_digits}
+use Rattle.book_http.proofs.Words.{digits_more, digits_value_more, digit_value, AllDigits}
+use Rattle.book_http.proofs.Words.{digits_value, digits_value_short, numerals_by_value}
 
 -- that many digits write a number below that power of ten
 pub few_digits : (most : ℕ) (text : List ℕ) → AllDigits 10 text → length text ≤ most

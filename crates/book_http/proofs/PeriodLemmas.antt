@@ -2,25 +2,23 @@
 use Rattle.std.proofs.Common.{◌≡◌, ◌≢◌, ℕ, ◌<◌, ◌≤◌, ◌^◌, Bool, true, false, ◌&&◌, arith, rules}
 use Rattle.std.proofs.Common.{◌+◌, List, [], ◌∷◌, ◌++◌, length, map, take, drop, get_or, codes}
 use Rattle.std.proofs.Common.{Option, Some, None, IfSome, refl, sym, ap, ◌∙◌, take-append-drop, Bor}
-use Rattle.std.proofs.lemmas.Bool.{true≢false}
-use Rattle.std.proofs.lemmas.Bool.Decides.{nat_tests}
-use Rattle.std.proofs.Math.Seq.{take-append_seam, drop-append_seam}
+use Rattle.std.proofs.Common.{true≢false, MatchOption, decimal, nat_eq, nat_lt, nat_le, cond}
+use Rattle.std.proofs.Common.{option_map}
+use Rattle.std.proofs.Math.Seq.{drop-append_seam}
 use Rattle.std.proofs.lemmas.Fmt.{decimal-digits_of, decimal-digits_value, decimal_digit}
 use Rattle.std.proofs.lemmas.Fmt.{decimal_is_IsNumeral, digits_decimal, length-decimal-le}
 use Rattle.std.proofs.lemmas.Int.Digits.{first_digits_of}
 use Rattle.std.proofs.lemmas.Slice.Eq.{bytes_eq-Decides}
-use Rattle.std.proofs.lemmas.Str.Parse.{IsNumeralModel, digit_at, digits_value_short}
-use Rattle.std.proofs.lemmas.Str.Parse.{numerals_by_value}
-use Rattle.std.specs.Char.{is_ascii_digit}
-use Rattle.std.specs.Int.{IsInRange}
-use Rattle.std.specs.List.{list_all, starts_with}
-use Rattle.std.specs.Option.{MatchOption}
-use Rattle.std.specs.Prelude.{decimal, nat_eq, nat_lt, nat_le, cond, option_map}
+use Rattle.std.proofs.lemmas.Str.Parse.{IsNumeralModel}
+use Rattle.std.specs.List.{starts_with}
 use Rattle.std.specs.Int.Digits.{digits_of}
-use Rattle.std.specs.Str.Parse.{IsNumeral, digits_value}
+use Rattle.std.specs.Str.Parse.{IsNumeral}
 use Rattle.std.specs.Str.Pattern.{FindsTextPrefix, StripsPrefix}
+use Rattle.book_model.proofs.Std.{nat_tests, list_all}
 use Rattle.book_http.specs.Numbers.{is_number, decimal_value}
-use Rattle.book_http.specs.Paths.{IsPathPeriod}
+use Rattle.book_http.proofs.Words.{take-append_seam, digit_at, digits_value_short}
+use Rattle.book_http.proofs.Words.{numerals_by_value, is_ascii_digit, IsInRange, digits_value}
+use Rattle.book_http.proofs.Words.{IsPathPeriod}
 use Rattle.book_http.specs.Routes.{path_rest, period}
 use Rattle.book_http.proofs.SlashLemmas.{HasNoSlash}
 

@@ -1,25 +1,23 @@
 -- One more read, and reads after reads.
-use Rattle.std.proofs.Common.{◌≡◌, ◌∙◌, ℕ, ◌+◌, List, [], ◌∷◌, ◌++◌, length, Option, refl}
-use Rattle.std.proofs.Common.{◌<◌, ◌≤◌, ◌-◌, take, drop, ap, Ok, Err, arith, append-nil}
-use Rattle.std.proofs.Common.{false, sym, subst, length-take-le, length-append, append_assoc}
-use Rattle.std.specs.Prelude.{Bool, Result}
-use Rattle.std.proofs.lemmas.List.{length-take, length-drop, drop-append-le}
+use Rattle.std.proofs.Common.{◌≡◌, ◌∙◌, ℕ, ◌+◌, List, [], ◌∷◌, ◌++◌, length, Option, refl, ◌<◌, ◌≤◌}
+use Rattle.std.proofs.Common.{◌-◌, take, drop, ap, Ok, Err, arith, append-nil, false, sym, subst}
+use Rattle.std.proofs.Common.{length-take-le, length-append, append_assoc, Bool, Result}
+use Rattle.std.proofs.Common.{length-take, length-drop}
+use Rattle.std.proofs.lemmas.List.{drop-append-le}
 use Rattle.std.proofs.KnownBytes.{Consumes-kept, Consumes-nil, Consumes-trans}
 use Rattle.std.specs.Io.KnownBytes.{Consumes, ReadConsumes}
 use Rattle.std.specs.declared.io.Error.{Error}
-use Rattle.httparse.specs.Grammar.{RequestHead, HasNoRequest, MayBecomeRequest}
 use Rattle.streams.specs.declared.source.Source.{Source}
 use Rattle.streams.specs.AnswerFlags.{is_end, is_failed_read}
-use Rattle.streams.specs.Sources.{has_ended, has_failed, reader_of, reads_of}
+use Rattle.streams.specs.Sources.{reader_of}
 use Rattle.book_http.proofs.PieceLemmas.{grown_front}
 use Rattle.book_http.proofs.HeadLemmas.{head_before}
-use Rattle.book_http.specs.Asked.{asked}
-use Rattle.book_http.specs.Head.{HasHead}
+use Rattle.book_http.proofs.Words.{RequestHead, HasNoRequest, MayBecomeRequest, has_ended}
+use Rattle.book_http.proofs.Words.{has_failed, reads_of, asked, HasHead, for_head, IsDueForBody}
+use Rattle.book_http.proofs.Words.{IsDueForHead, ReadsOn, put_mid}
 use Rattle.book_http.specs.Reads.{ReadOutcome, ReadCall, bytes_given, bytes_read, reader_after}
-use Rattle.book_http.specs.Reads.{ended_after, failed_after, MayGoOn}
-use Rattle.book_http.specs.Reads.{AreDue, AreReadsBetween, IsDue, for_head, for_body, IsDueOn}
-use Rattle.book_http.specs.Reads.{IsDueForBody, IsDueForHead, ReadsOn}
-use borrow.Rule.Slice.PartMut.{put_mid}
+use Rattle.book_http.specs.Reads.{ended_after, failed_after, MayGoOn, AreDue, AreReadsBetween}
+use Rattle.book_http.specs.Reads.{IsDue, for_body, IsDueOn}
 
 -- what one read took
 read_taken : (had left : Option (List ℕ)) (answer : Result ℕ Error) (given : List ℕ)

@@ -1,21 +1,17 @@
 -- What is asked by the bytes that were taken, whatever follows them.
 use Rattle.std.proofs.Common.{◌≡◌, ◌∙◌, ℕ, ◌<◌, ◌≤◌, Bool, true, List, [], ◌++◌, length, take, refl}
 use Rattle.std.proofs.Common.{sym, ap, subst, arith, inl, inr, length-append, append-nil, IfOk}
-use Rattle.std.proofs.Common.{Result, Ok, Err}
-use Rattle.std.specs.Prelude.{if◌then◌else◌}
-use Rattle.std.proofs.lemmas.Bool.{le-ltb, lt-ltb}
-use Rattle.std.proofs.lemmas.List.{take-append-le}
-use Rattle.httparse.specs.Grammar.{RequestHead}
+use Rattle.std.proofs.Common.{Result, Ok, Err, if◌then◌else◌, le-ltb, lt-ltb}
+use Rattle.book_model.proofs.Std.{take-append-le}
 use Rattle.book_http.specs.declared.body.BodyFault.{BodyFault}
 use Rattle.book_http.specs.declared.body.BodyFault.TheVariants.{Short, Read, Memory}
 use Rattle.book_http.specs.declared.requested.ReadFailed.{ReadFailed}
 use Rattle.book_http.specs.declared.status.Status.TheVariants.{BadRequest}
-use Rattle.book_http.specs.Asked.{asked}
-use Rattle.book_http.specs.Bodies.{BodyComes, body_status}
-use Rattle.book_http.specs.Head.{HasHead, NoHeadComes}
-use Rattle.book_http.specs.Replies.{refusal}
-use Rattle.book_http.specs.Requested.{IsAsking, IsAskingAfter, IsUnlessMemory, RequestSeen, Settles}
-use Rattle.book_http.specs.Requested.{WholeRequest, headed, headless, request_seen, wanted_with}
+use Rattle.book_http.proofs.Words.{RequestHead, asked, BodyComes, HasHead, NoHeadComes, refusal}
+use Rattle.book_http.proofs.Words.{IsAsking, RequestSeen, Settles, WholeRequest, headed, headless}
+use Rattle.book_http.proofs.Words.{request_seen}
+use Rattle.book_http.specs.Bodies.{body_status}
+use Rattle.book_http.specs.Requested.{IsAskingAfter, IsUnlessMemory, wanted_with}
 use Rattle.book_http.proofs.HeadLemmas.{head_before}
 
 -- what comes with its whole body is asked, whatever follows

@@ -1,29 +1,21 @@
 -- A request after one that was hindered.
-use Rattle.std.proofs.Common.{◌≡◌, ◌∙◌, ◌⊎◌, inl, inr, ℕ, Bool, false, List, [], ◌++◌}
-use Rattle.std.proofs.Common.{None, sym, ap, subst, append-nil}
-use Rattle.httparse.specs.Grammar.{RequestHead}
-use Rattle.smf_frames.specs.declared.dump.Layout.{Layout}
-use Rattle.book_model.specs.Words.{front, Book, Event, after_all, Naming}
-use Rattle.book_import.specs.declared.receipt.Receipt.{Receipt}
-use Rattle.book_import.specs.declared.receipt.Stop.{Stop}
-use Rattle.book_import.specs.Dumps.{stop_after}
-use Rattle.book_import.specs.Imports.{Handles}
+use Rattle.std.proofs.Common.{◌≡◌, ◌∙◌, ◌⊎◌, inl, inr, ℕ, Bool, false, List, [], ◌++◌, None, sym}
+use Rattle.std.proofs.Common.{ap, subst, append-nil}
+use Rattle.book_model.specs.Words.{Layout, front, Book, Event, after_all, Naming}
 use Rattle.book_import.specs.Laws.{book_after_import}
-use Rattle.book_import.specs.Repeats as imports
 use Rattle.book_import.proofs.RetryLemmas.{stops_are_mended}
 use Rattle.book_import.proofs.RepeatLemmas.{is_whole}
-use Rattle.office.specs.Requests.{whole_dump}
-use Rattle.report_rows.specs.declared.report_row.BodyKind.TheVariants as kinds
-use Rattle.book_http.specs.Asked.{asked}
-use Rattle.book_http.specs.Answer.{office_reply, AnswersImport, AnswersAsked, Answers}
-use Rattle.book_http.specs.Answer.{done, no_memory, no_head, a_head}
-use Rattle.book_http.specs.Head.{HasHead, HasNoHead}
-use Rattle.book_http.specs.Laws.{IsUnhindered, IsWhole, RequestsAreMended}
-use Rattle.book_http.specs.Replies.{Reply}
-use Rattle.book_http.specs.Requested.{AnswersRequest, RequestSeen, Settles, WantsDetails}
-use Rattle.book_http.specs.Requested.{WantsImport, WantsReport, WantsWhatIf, wanted_by}
+use Rattle.book_http.proofs.Words.{RequestHead, Receipt, Stop, stop_after, Handles, whole_dump}
+use Rattle.book_http.proofs.Words.{asked, office_reply, AnswersImport, AnswersAsked, Answers, done}
+use Rattle.book_http.proofs.Words.{no_memory, no_head, a_head, HasHead, IsUnhindered, Reply}
+use Rattle.book_http.proofs.Words.{AnswersRequest, RequestSeen, Settles, WantsDetails, WantsImport}
+use Rattle.book_http.proofs.Words.{WantsReport, WantsWhatIf, wanted_by}
+use Rattle.book_http.specs.Head.{HasNoHead}
+use Rattle.book_http.specs.Laws.{IsWhole, RequestsAreMended}
 use Rattle.book_http.proofs.LawLemmas.{asked_alike, details_none, import_counted, report_none}
 use Rattle.book_http.proofs.LawLemmas.{what_if_none}
+use Rattle.book_import.specs.Repeats as imports
+use Rattle.report_rows.specs.declared.report_row.BodyKind.TheVariants as kinds
 
 -- an import that nothing hindered leaves the books of a whole one
 import_left : (naming : Naming) (stop : Stop) (records : List (List ℕ)) (before : Book)

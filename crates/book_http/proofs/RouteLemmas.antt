@@ -1,11 +1,10 @@
 -- What a path is found to lead to is what has that path, and what has it is found.
 use Rattle.std.proofs.Common.{◌≡◌, ◌∙◌, List, ◌++◌, refl, ap, ℕ, Option, Some, None, IfSome, subst}
-use Rattle.std.specs.Option.{option_and_then}
-use Rattle.std.specs.Prelude.{option_map}
-use Rattle.report_rows.specs.declared.about.About.{About}
+use Rattle.std.proofs.Common.{option_and_then, option_map}
 use Rattle.book_http.specs.declared.endpoint.Endpoint.{Endpoint}
-use Rattle.book_http.specs.Paths.{IsPathOf, Names, front_of, shape_of}
-use Rattle.book_http.specs.Routes.{asked_behind, asked_in, endpoint_of, path_rest, route, route_at}
+use Rattle.book_http.proofs.Words.{About, Names, front_of, shape_of, route}
+use Rattle.book_http.specs.Paths.{IsPathOf}
+use Rattle.book_http.specs.Routes.{asked_behind, asked_in, endpoint_of, path_rest, route_at}
 use Rattle.book_http.specs.Routes.{route_on, thing_in}
 use Rattle.book_http.proofs.FrontLemmas.{place_found}
 use Rattle.book_http.proofs.PeriodLemmas.{rest_found, rest_named}

@@ -1,30 +1,26 @@
 -- One request, from what its bytes ask to what was sent.
-use Rattle.std.proofs.Common.{◌≡◌, ◌∙◌, ℕ, Bool, true, false, List, [], ◌++◌, length, take, refl, sym}
-use Rattle.std.proofs.Common.{ap, subst, inl, inr, append-nil}
-use Rattle.std.specs.Prelude.{if◌then◌else◌, nat_lt}
-use Rattle.std.proofs.lemmas.Bool.{true≢false}
+use Rattle.std.proofs.Common.{◌≡◌, ◌∙◌, ℕ, Bool, true, false, List, [], ◌++◌, length, take, refl}
+use Rattle.std.proofs.Common.{sym, ap, subst, inl, inr, append-nil, if◌then◌else◌, nat_lt}
+use Rattle.std.proofs.Common.{true≢false}
 use Rattle.streams.specs.InputOutput.{Output}
 use Rattle.book_model.specs.Words.{Naming}
-use Rattle.book_core.specs.Ledgers.{Books, Seen}
-use Rattle.book_core.specs.Transition.{IsTransition, NoEvent}
-use Rattle.book_core.proofs.TransitionLemmas.{Implies, no_work, work_as}
-use Rattle.book_reports.specs.declared.streamed_details.DetailReport.{DetailReport}
+use Rattle.book_core.specs.Words.{Books, Seen, IsTransition, NoEvent}
+use Rattle.book_core.proofs.TransitionLemmas.{Implies}
 use Rattle.book_http.specs.declared.asked.Asked.{Asked}
-use Rattle.book_http.specs.declared.asked.Asked.TheVariants as asks
 use Rattle.book_http.specs.declared.served.Served.{Served}
-use Rattle.book_http.specs.declared.served.Served.TheVariants as served
 use Rattle.book_http.specs.declared.status.Status.TheVariants.{BadRequest}
-use Rattle.book_http.specs.Answer.{Answers, AnswersDetails, RefusesRequest, a_head, done, no_head}
-use Rattle.book_http.specs.Answer.{no_memory}
-use Rattle.book_http.specs.Asked.{asked}
-use Rattle.book_http.specs.Replies.{Reply, refusal}
-use Rattle.book_http.specs.Requested.{AnswersRequest, AreAsking, IsAsking, RequestSeen, Settles}
-use Rattle.book_http.specs.Requested.{WantsDetails, WantsImport, WantsWhatIf, WholeRequest}
-use Rattle.book_http.specs.Requested.{headed, headless, request_seen, wanted_by}
-use Rattle.book_http.specs.Served.{AnswersLong, AsksDetails, IsReplied, IsSent, IsServed}
-use Rattle.book_http.specs.Served.{IsStreamed, SendsAsRead, SendsReplyAsRead, ServesAsked}
-use Rattle.book_http.specs.Served.{is_unanswered}
+use Rattle.book_http.proofs.Words.{no_work, work_as, DetailReport, Answers, AnswersDetails}
+use Rattle.book_http.proofs.Words.{RefusesRequest, a_head, done, no_head, no_memory, asked, Reply}
+use Rattle.book_http.proofs.Words.{refusal, AnswersRequest, IsAsking, RequestSeen, Settles}
+use Rattle.book_http.proofs.Words.{WantsDetails, WantsImport, WantsWhatIf, WholeRequest, headed}
+use Rattle.book_http.proofs.Words.{headless, request_seen, wanted_by, AnswersLong, SendsAsRead}
+use Rattle.book_http.proofs.Words.{SendsReplyAsRead, is_unanswered}
+use Rattle.book_http.specs.Requested.{AreAsking}
+use Rattle.book_http.specs.Served.{AsksDetails, IsReplied, IsSent, IsServed, IsStreamed}
+use Rattle.book_http.specs.Served.{ServesAsked}
 use Rattle.book_http.proofs.LawLemmas.{request_done, sent_done}
+use Rattle.book_http.specs.declared.asked.Asked.TheVariants as asks
+use Rattle.book_http.specs.declared.served.Served.TheVariants as served
 
 -- ---- what answers a request answers its bytes
 

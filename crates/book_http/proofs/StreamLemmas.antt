@@ -1,39 +1,27 @@
 -- Details, whose text is sent while it is read.
 use Rattle.std.proofs.Common.{◌≡◌, ◌∙◌, ℕ, ◌<◌, ◌≤◌, Bool, false, List, [], ◌++◌, length, take}
 use Rattle.std.proofs.Common.{refl, sym, ap, subst, arith, ◌||◌, Option, None, Result, Ok, Err}
-use Rattle.std.proofs.Common.{length-append}
-use Rattle.std.proofs.lemmas.Bool.{true≢false}
-use Rattle.std.proofs.lemmas.List.{take-append-le}
-use Rattle.std.specs.Io.KnownBytes.{Appends}
-use Rattle.std.proofs.KnownBytes.{Appends-trans}
-use Rattle.book_model.specs.declared.fault.LedgerFault.{LedgerFault}
+use Rattle.std.proofs.Common.{length-append, true≢false}
+use Rattle.book_model.proofs.Std.{take-append-le}
 use Rattle.book_model.specs.Words.{Naming, after_all}
-use Rattle.book_core.specs.Calls.{Calls, IsCall, Reopens}
-use Rattle.book_core.specs.Ledgers.{Seen}
-use Rattle.book_core.specs.Transition.{IsTransition, NoEvent, Then, Transition}
-use Rattle.book_core.proofs.TransitionLemmas.{no_work, work_as, work_then}
-use Rattle.book_lists.specs.declared.fault.ReportFault.{ReportFault}
-use Rattle.book_lists.specs.declared.fault.ReportFault.TheVariants.{Write, Memory, Ledger}
-use Rattle.book_lists.specs.Streamed.{WritesAnswerUntil, WritesUntilOrRefuses}
-use Rattle.book_lists.specs.Streamed.{refusal_in}
+use Rattle.book_core.specs.Words.{Calls, IsCall, Reopens, Seen, IsTransition, NoEvent, Then}
+use Rattle.book_core.specs.Words.{Transition}
 use Rattle.book_lists.specs.Writing.{WritesUntil}
 use Rattle.book_lists.proofs.CursorLemmas.{refused_back, shown_back}
-use Rattle.book_lists.proofs.ReadingLemmas.{fault_alike, fault_tells, goes_on, read_as}
-use Rattle.book_reports.specs.declared.streamed_details.DetailReport.{DetailReport}
-use Rattle.book_reports.specs.BookTexts.{shown_by}
-use Rattle.book_reports.specs.StreamedDetails.{detail_answer, detail_length_outcome}
-use Rattle.book_reports.specs.StreamedDetails.{detail_text_outcome}
-use Rattle.office.specs.Requests.{Text, response_outcome}
-use Rattle.report_rows.specs.declared.report_row.BodyKind.{BodyKind}
+use Rattle.book_lists.proofs.ReadingLemmas.{fault_tells, read_as}
 use Rattle.book_http.specs.declared.served.Served.{Served}
-use Rattle.book_http.specs.declared.served.Served.TheVariants as served
 use Rattle.book_http.specs.declared.status.Status.TheVariants.{Done}
-use Rattle.book_http.specs.Answer.{AnswersDetails, form_kind, most_gathered}
-use Rattle.book_http.specs.AnswerHead.{answer_head}
-use Rattle.book_http.specs.Replies.{Reply, success}
-use Rattle.book_http.specs.Served.{AnswersLong, IsMeasured, IsSentAsRead, SendsDetails}
-use Rattle.book_http.specs.Served.{SendsReplyAsRead, is_cut, is_unanswered, served_as}
+use Rattle.book_http.proofs.Words.{Appends, Appends-trans, LedgerFault, no_work, work_as, work_then}
+use Rattle.book_http.proofs.Words.{ReportFault, Write, Memory, Ledger, WritesAnswerUntil}
+use Rattle.book_http.proofs.Words.{WritesUntilOrRefuses, refusal_in, fault_alike, goes_on}
+use Rattle.book_http.proofs.Words.{DetailReport, shown_by, detail_answer, detail_length_outcome}
+use Rattle.book_http.proofs.Words.{detail_text_outcome, Text, response_outcome, BodyKind}
+use Rattle.book_http.proofs.Words.{AnswersDetails, form_kind, most_gathered, answer_head, Reply}
+use Rattle.book_http.proofs.Words.{AnswersLong, IsMeasured, SendsReplyAsRead, is_unanswered}
+use Rattle.book_http.specs.Replies.{success}
+use Rattle.book_http.specs.Served.{IsSentAsRead, SendsDetails, is_cut, served_as}
 use Rattle.book_http.proofs.AnswerLemmas.{front_behind}
+use Rattle.book_http.specs.declared.served.Served.TheVariants as served
 
 -- ---- what measures details
 

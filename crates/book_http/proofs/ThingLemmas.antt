@@ -1,20 +1,16 @@
 -- What a text names in a path is what has that text there, and nothing else.
-use Rattle.std.proofs.Common.{◌≡◌, ◌∙◌, ℕ, Bool, true, false, cond, List, [], ◌∷◌, length, refl, ap, arith}
-use Rattle.std.proofs.Common.{Option, Some, None, IfSome}
-use Rattle.std.proofs.lemmas.Bool.Decides.{nat_tests}
-use Rattle.std.specs.Prelude.{◌==◌, decimal, option_map}
-use Rattle.smf_text.specs.Day.{IsDay, day_of_text_of, day_text_of}
+use Rattle.std.proofs.Common.{◌≡◌, ◌∙◌, ℕ, Bool, true, false, cond, List, [], ◌∷◌, length, refl, ap}
+use Rattle.std.proofs.Common.{arith, Option, Some, None, IfSome, ◌==◌, decimal, option_map}
+use Rattle.book_model.proofs.Std.{nat_tests}
 use Rattle.smf_text.proofs.DayOfTextLemmas.{day_found, day_named}
+use Rattle.book_model.specs.Words.{IsDay, day_of_text_of, day_text_of}
 use Rattle.book_reports.specs.RecordNames.{name_in}
-use Rattle.report_rows.specs.declared.about.About.{About}
-use Rattle.report_rows.specs.declared.about.About.TheVariants as about
-use Rattle.report_rows.specs.declared.report_row.Shape.{Shape}
-use Rattle.report_rows.specs.declared.report_row.Shape.TheVariants.{OfCentre, OfDay, OfOffice}
-use Rattle.report_rows.specs.declared.report_row.Shape.TheVariants.{OfPeriod, OfRecord}
-use Rattle.book_http.specs.Paths.{IsPathPeriod, Names}
-use Rattle.book_http.specs.Routes.{office_in, period, period_in, thing_in}
+use Rattle.book_http.proofs.Words.{About, Shape, OfCentre, OfDay, OfOffice, OfPeriod, OfRecord}
+use Rattle.book_http.proofs.Words.{IsPathPeriod, Names, period}
+use Rattle.book_http.specs.Routes.{office_in, period_in, thing_in}
 use Rattle.book_http.proofs.NamedPeriodLemmas.{IsNamedBy, text_named, text_names}
 use Rattle.book_http.proofs.PeriodLemmas.{period_found, period_named}
+use Rattle.report_rows.specs.declared.about.About.TheVariants as about
 
 -- ---- what is found has its text there
 

@@ -1,41 +1,31 @@
 -- A request has one answer, by its bytes and the book before it.
-use Rattle.std.proofs.Common.{◌≡◌, ◌≢◌, ◌∙◌, ℕ, Bool, true, false, List, [], ◌∷◌, take}
-use Rattle.std.proofs.Common.{Result, Ok, Err, None, not, refl, sym, ap, subst}
-use Rattle.std.specs.Str.{is_utf8}
-use Rattle.smf_frames.specs.declared.dump.Layout.{Layout}
-use Rattle.book_model.specs.Words.{front, Book, Event, Outcome, Naming}
-use Rattle.book_model.specs.declared.fault.LedgerFault.{LedgerFault}
-use Rattle.book_model.specs.declared.fault.LedgerFault.TheVariants.{Full, NoSuchPeriod, NoSuchRecord}
-use Rattle.book_model.specs.declared.fault.LedgerFault.TheVariants.{NoSuchTariff, TariffRefused}
-use Rattle.book_core.specs.Calls.{Calls}
-use Rattle.book_core.specs.Transition.{Transition}
-use Rattle.book_import.specs.declared.receipt.Receipt.{Receipt}
-use Rattle.book_import.specs.declared.receipt.Stop.{Stop}
+use Rattle.std.proofs.Common.{◌≡◌, ◌≢◌, ◌∙◌, ℕ, Bool, true, false, List, [], ◌∷◌, take, Result, Ok}
+use Rattle.std.proofs.Common.{Err, None, not, refl, sym, ap, subst}
+use Rattle.book_model.specs.Words.{Layout, front, Book, Event, Outcome, Naming}
+use Rattle.book_model.specs.declared.fault.LedgerFault.TheVariants.{Full, NoSuchPeriod}
+use Rattle.book_model.specs.declared.fault.LedgerFault.TheVariants.{NoSuchRecord, NoSuchTariff}
+use Rattle.book_model.specs.declared.fault.LedgerFault.TheVariants.{TariffRefused}
+use Rattle.book_core.specs.Words.{Calls, Transition}
 use Rattle.book_import.specs.declared.receipt.Stop.TheVariants.{End, Frame, Read, ReadLimit, Ledger}
-use Rattle.book_import.specs.Dumps.{stop_after}
-use Rattle.book_import.specs.Handled.{Imported, Answering, answers_of, handle, handle_all, continue_with}
-use Rattle.book_import.specs.Handled.{nothing_imported}
-use Rattle.book_import.specs.Imports.{Handles, GivesReceipt, whole, out_of_memory, store_failed}
+use Rattle.book_import.specs.Handled.{Imported, Answering, answers_of, handle, handle_all}
+use Rattle.book_import.specs.Handled.{continue_with, nothing_imported}
+use Rattle.book_import.specs.Imports.{GivesReceipt, whole, out_of_memory, store_failed}
 use Rattle.book_import.specs.Receipts.{is_stop_of_books}
-use Rattle.book_reports.specs.declared.what_if.WhatIf.{WhatIf}
-use Rattle.book_reports.specs.BookTexts.{report_outcome}
-use Rattle.book_reports.specs.StreamedDetails.{detail_text_outcome}
-use Rattle.book_reports.specs.WhatIfTexts.{what_if_report}
-use Rattle.office.specs.Requests.{Response, Text, response_outcome, whole_dump}
-use Rattle.report_rows.specs.declared.report_row.BodyKind.{BodyKind}
-use Rattle.report_rows.specs.declared.report_row.BodyKind.TheVariants as kinds
 use Rattle.book_http.specs.declared.asked.Asked.{Asked}
 use Rattle.book_http.specs.declared.status.Status.TheVariants.{Unavailable}
-use Rattle.book_http.specs.Answer.{office_reply, form_kind, AnswersOffice}
-use Rattle.book_http.specs.Answer.{AnswersImport, AnswersWhatIf, AnswersAsked}
-use Rattle.book_http.specs.Answer.{Prices, RefusesRequest, UnlessBad, UnlessMemory, done}
-use Rattle.book_http.specs.Answer.{no_memory, no_head, a_head}
-use Rattle.book_http.specs.Asked.{asked}
-use Rattle.book_http.specs.Requested.{AnswersRequest, RequestSeen, Settles, WantsDetails}
-use Rattle.book_http.specs.Requested.{WantsImport, WantsReport, WantsWhatIf, wanted_by}
+use Rattle.book_http.proofs.Words.{is_utf8, LedgerFault, Receipt, Stop, stop_after, Handles, WhatIf}
+use Rattle.book_http.proofs.Words.{report_outcome, detail_text_outcome, what_if_report, Response}
+use Rattle.book_http.proofs.Words.{Text, response_outcome, whole_dump, BodyKind, office_reply}
+use Rattle.book_http.proofs.Words.{form_kind, AnswersOffice, AnswersImport, AnswersWhatIf}
+use Rattle.book_http.proofs.Words.{AnswersAsked, Prices, RefusesRequest, UnlessBad, done, no_memory}
+use Rattle.book_http.proofs.Words.{no_head, a_head, asked, AnswersRequest, RequestSeen, Settles}
+use Rattle.book_http.proofs.Words.{WantsDetails, WantsImport, WantsReport, WantsWhatIf, wanted_by}
+use Rattle.book_http.proofs.Words.{Reply}
+use Rattle.book_http.specs.Answer.{UnlessMemory}
 use Rattle.book_http.specs.Laws.{IsSame, AnswersAreOne}
-use Rattle.book_http.specs.Replies.{Reply, receipt_reply, import_status}
+use Rattle.book_http.specs.Replies.{receipt_reply, import_status}
 use Rattle.book_http.proofs.LawLemmas.{asked_alike, import_counted, text_none}
+use Rattle.report_rows.specs.declared.report_row.BodyKind.TheVariants as kinds
 
 -- a text that is not unavailable is the definitions' one, or their refusal of it
 reply_tells : (kind : BodyKind) (outcome : Book → Outcome Response) (told : Result Response LedgerFault)

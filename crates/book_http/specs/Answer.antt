@@ -4,34 +4,33 @@ use Rattle.std.specs.Prelude.{◌≡◌, ◌<◌, ℕ, Bool, true, false, not, L
 use Rattle.std.specs.Prelude.{if◌then◌else◌, Result, Ok, Err}
 use Rattle.std.specs.Str.{is_utf8}
 use Rattle.httparse.specs.Grammar.{RequestHead}
-use Rattle.smf_frames.specs.declared.dump.Layout.{Layout}
 use Rattle.book_model.specs.declared.fault.LedgerFault.{LedgerFault}
-use Rattle.book_model.specs.declared.fault.LedgerFault.TheVariants.{Full, NoSuchPeriod, NoSuchRecord}
-use Rattle.book_model.specs.declared.fault.LedgerFault.TheVariants.{NoSuchTariff, TariffRefused}
-use Rattle.book_model.specs.Words.{Naming, Book, Event}
-use Rattle.book_core.specs.Calls.{Calls}
-use Rattle.book_core.specs.Transition.{Transition, NoEvent}
-use Rattle.book_model.specs.declared.fault.LedgerFault.TheVariants as fault
+use Rattle.book_model.specs.declared.fault.LedgerFault.TheVariants.{Full, NoSuchPeriod}
+use Rattle.book_model.specs.declared.fault.LedgerFault.TheVariants.{NoSuchRecord, NoSuchTariff}
+use Rattle.book_model.specs.declared.fault.LedgerFault.TheVariants.{TariffRefused}
+use Rattle.book_model.specs.Words.{Layout, Naming, Book, Event}
+use Rattle.book_core.specs.Words.{Calls, Transition, NoEvent}
 use Rattle.book_lists.specs.declared.fault.ReportFault.{ReportFault}
 use Rattle.book_lists.specs.declared.fault.ReportFault.TheVariants.{Write, Memory, Ledger}
 use Rattle.book_reports.specs.declared.report.Report.{Report}
 use Rattle.book_reports.specs.declared.streamed_details.DetailReport.{DetailReport}
 use Rattle.book_reports.specs.declared.what_if.StatementForm.{StatementForm}
-use Rattle.book_reports.specs.declared.what_if.StatementForm.TheVariants as shown_as
 use Rattle.book_reports.specs.declared.what_if.WhatIf.{WhatIf}
 use Rattle.book_reports.specs.StreamedDetails.{detail_text_outcome}
 use Rattle.book_reports.specs.WhatIfTexts.{what_if_report}
-use Rattle.office.specs.declared.request.Asked.TheVariants as requests
-use Rattle.office.specs.Requests as tells
 use Rattle.office.specs.Requests.{Response, Asks, Receives, response_outcome, whole_dump, no_dump}
 use Rattle.report_rows.specs.declared.report_row.BodyKind.{BodyKind}
 use Rattle.report_rows.specs.declared.report_row.BodyKind.TheVariants.{Text, Csv}
 use Rattle.book_http.specs.declared.asked.Asked.{Asked}
-use Rattle.book_http.specs.declared.asked.Asked.TheVariants as asks
 use Rattle.book_http.specs.declared.status.Status.TheVariants.{BadRequest, NotFound, Unavailable}
 use Rattle.book_http.specs.Asked.{asked}
 use Rattle.book_http.specs.Head.{HasHead, HasNoHead}
 use Rattle.book_http.specs.Replies.{Reply, success, refusal, receipt_reply, reply_of}
+use Rattle.book_model.specs.declared.fault.LedgerFault.TheVariants as fault
+use Rattle.book_reports.specs.declared.what_if.StatementForm.TheVariants as shown_as
+use Rattle.office.specs.declared.request.Asked.TheVariants as requests
+use Rattle.office.specs.Requests as tells
+use Rattle.book_http.specs.declared.asked.Asked.TheVariants as asks
 
 -- the kind of body of details, and of what a period would have cost
 abbrev pub form_kind : StatementForm → BodyKind

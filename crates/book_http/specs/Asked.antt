@@ -3,34 +3,33 @@ use Rattle.std.specs.Prelude.{ℕ, ◌≤◌, Bool, true, false, List, nat_lt, b
 use Rattle.std.specs.Prelude.{Option, Some, None, Result, Ok, Err}
 use Rattle.httparse.specs.Grammar.{RequestHead}
 use Rattle.book_reports.specs.declared.report.Report.{Report}
-use Rattle.book_reports.specs.declared.report.Report.TheVariants as made
 use Rattle.book_reports.specs.declared.what_if.StatementForm.{StatementForm}
-use Rattle.report_rows.specs.Abouts.{report_about}
-use Rattle.report_rows.specs.ReportRows.{kind_in, row_of}
+use Rattle.report_rows.specs.ReportRows.{report_about, kind_in, row_of}
 use Rattle.report_rows.specs.declared.about.About.{About}
-use Rattle.report_rows.specs.declared.about.About.TheVariants as about
 use Rattle.report_rows.specs.declared.report_row.BodyKind.{BodyKind}
 use Rattle.report_rows.specs.declared.report_row.BodyKind.TheVariants.{Page}
 use Rattle.report_rows.specs.declared.report_row.ReportName.{ReportName}
-use Rattle.report_rows.specs.declared.report_row.ReportName.TheVariants as report
 use Rattle.book_http.specs.declared.answer.Answer.TheVariants.{Refusal, OtherMethod}
 use Rattle.book_http.specs.declared.asked.Asked.{Asked}
-use Rattle.book_http.specs.declared.asked.Asked.TheVariants as asks
 use Rattle.book_http.specs.declared.endpoint.Endpoint.{Endpoint}
-use Rattle.book_http.specs.declared.endpoint.Endpoint.TheVariants as endpoint
 use Rattle.book_http.specs.declared.framing.Framing.{Framing}
 use Rattle.book_http.specs.declared.framing.Framing.TheVariants.{Unframed, Framed, Faulty}
 use Rattle.book_http.specs.declared.method.Method.{Method}
 use Rattle.book_http.specs.declared.method.Method.TheVariants.{Get, Post}
 use Rattle.book_http.specs.declared.status.Status.{Status}
-use Rattle.book_http.specs.declared.status.Status.TheVariants.{BadRequest, Forbidden}
-use Rattle.book_http.specs.declared.status.Status.TheVariants.{NotFound, LengthRequired, TooLarge}
+use Rattle.book_http.specs.declared.status.Status.TheVariants.{BadRequest, Forbidden, NotFound}
+use Rattle.book_http.specs.declared.status.Status.TheVariants.{LengthRequired, TooLarge}
 use Rattle.book_http.specs.Bodies.{most_body_bytes}
 use Rattle.book_http.specs.Framing.{framing}
 use Rattle.book_http.specs.Hosts.{is_foreign}
 use Rattle.book_http.specs.Methods.{method_text}
 use Rattle.book_http.specs.Requests.{has_origin}
 use Rattle.book_http.specs.Routes.{path_of, route}
+use Rattle.book_reports.specs.declared.report.Report.TheVariants as made
+use Rattle.report_rows.specs.declared.about.About.TheVariants as about
+use Rattle.report_rows.specs.declared.report_row.ReportName.TheVariants as report
+use Rattle.book_http.specs.declared.asked.Asked.TheVariants as asks
+use Rattle.book_http.specs.declared.endpoint.Endpoint.TheVariants as endpoint
 
 -- the size of a body that is taken: the head gives it, and it keeps within the limit
 abbrev pub body_size : Framing → Result ℕ Status
@@ -38,20 +37,17 @@ body_size Faulty = Err BadRequest
 body_size Unframed = Err LengthRequired
 body_size (Framed size) = if nat_lt most_body_bytes size then Err TooLarge else Ok size
 
--- what a page in a browser submits is refused, whatever its body's length
-abbrev pub posted_size : Bool → Framing → Result ℕ Status
-posted_size true body = Err Forbidden
-posted_size false body = body_size body
-
 -- a body of a size that is taken, or the refusal of another
 abbrev pub asked_body : (ℕ → Asked ℕ) → Result ℕ Status → Asked ℕ
 asked_body takes (Ok size) = takes size
 asked_body takes (Err status) = asks.Settled (Refusal status)
 
--- to read a report no body is due: a dump and a tariff are submitted alike
+-- To read a report no body is due; a dump and a tariff are submitted alike. What a page in a browser
+-- submits is refused, whatever its body's length.
 abbrev pub due_size : Method → Bool → Framing → Result ℕ Status
 due_size Get origin body = Ok 0
-due_size Post origin body = posted_size origin body
+due_size Post true body = Err Forbidden
+due_size Post false body = body_size body
 
 -- the details of a period, which are written while they are read
 abbrev pub details_of : StatementForm → About → Asked ℕ
@@ -99,14 +95,11 @@ asked_by place thing method origin body =
     if bytes_eq method (method_text (method_of place)) then asked_on place thing origin body
     else asks.Settled (OtherMethod (method_of place))
 
-abbrev pub asked_at : Option (Endpoint × About) → List ℕ → Bool → Framing → Asked ℕ
-asked_at None method origin body = asks.Settled (Refusal NotFound)
-asked_at (Some found) method origin body = asked_by found.0 found.1 method origin body
-
--- nothing is asked for by the name of another machine
+-- nothing is asked for by the name of another machine, or where a path leads nowhere
 abbrev pub asked_here : Bool → Option (Endpoint × About) → List ℕ → Bool → Framing → Asked ℕ
 asked_here true found method origin body = asks.Settled (Refusal Forbidden)
-asked_here false found method origin body = asked_at found method origin body
+asked_here false None method origin body = asks.Settled (Refusal NotFound)
+asked_here false (Some found) method origin body = asked_by found.0 found.1 method origin body
 
 -- a faulty length is refused before anything else is looked at
 abbrev pub asked_framed : Framing → Bool → Option (Endpoint × About) → List ℕ → Bool → Asked ℕ

@@ -1,37 +1,26 @@
 -- The paths that are served: a front, and behind it what names a period, a day or a record.
-use Rattle.std.specs.Prelude.{◌≡◌, ℕ, ◌≤◌, List, [], ◌++◌, codes, decimal}
-use Rattle.std.specs.Prelude.{Option, Some, None, IfSome}
-use Rattle.smf_frames.specs.declared.dump.Layout.{Layout}
-use Rattle.smf_frames.specs.declared.dump.Layout.TheVariants.{Rdw, Bdw}
-use Rattle.book_model.specs.Words.{IsDay, IsName, day_text_of}
+use Rattle.std.specs.Prelude.{◌≡◌, ℕ, ◌≤◌, List, [], ◌++◌, codes, decimal, Option, Some, None}
+use Rattle.std.specs.Prelude.{IfSome}
+use Rattle.book_model.specs.Words.{Rdw, Bdw, IsDay, IsName, day_text_of}
 use Rattle.book_reports.specs.RecordNames.{name_in}
-use Rattle.book_reports.specs.declared.what_if.StatementForm.{StatementForm}
-use Rattle.book_reports.specs.declared.what_if.StatementForm.TheVariants as shown_as
 use Rattle.report_rows.specs.ReportRows.{path_in, row_of}
 use Rattle.report_rows.specs.declared.about.About.{About}
-use Rattle.report_rows.specs.declared.about.About.TheVariants as about
 use Rattle.report_rows.specs.declared.report_row.Shape.{Shape}
 use Rattle.report_rows.specs.declared.report_row.Shape.TheVariants.{OfCentre, OfDay, OfOffice}
 use Rattle.report_rows.specs.declared.report_row.Shape.TheVariants.{OfPeriod, OfRecord}
 use Rattle.book_http.specs.declared.endpoint.Endpoint.{Endpoint}
+use Rattle.book_reports.specs.declared.what_if.StatementForm.TheVariants as shown_as
+use Rattle.report_rows.specs.declared.about.About.TheVariants as about
 use Rattle.book_http.specs.declared.endpoint.Endpoint.TheVariants as endpoint
-
--- where it is served what a period would have cost by a tariff that is submitted
-abbrev pub what_if_path : StatementForm → List ℕ
-what_if_path shown_as.Text = codes "/what-if/"
-what_if_path shown_as.Table = codes "/what-if-csv/"
-
--- where dumps are submitted
-abbrev pub import_path : Layout → List ℕ
-import_path Rdw = codes "/import"
-import_path Bdw = codes "/import-bdw"
 
 -- the front of the paths of what is served, if it is: that of a report as its row says
 abbrev pub front_of : Endpoint → Option (List ℕ)
 front_of (endpoint.Report name form) = path_in (row_of name) form
 front_of endpoint.Office = Some (codes "/")
-front_of (endpoint.WhatIf form) = Some (what_if_path form)
-front_of (endpoint.Import layout) = Some (import_path layout)
+front_of (endpoint.WhatIf shown_as.Text) = Some (codes "/what-if/")
+front_of (endpoint.WhatIf shown_as.Table) = Some (codes "/what-if-csv/")
+front_of (endpoint.Import Rdw) = Some (codes "/import")
+front_of (endpoint.Import Bdw) = Some (codes "/import-bdw")
 
 -- what its paths name behind that
 abbrev pub shape_of : Endpoint → Shape

@@ -2,31 +2,30 @@
 -- the fronts, and then what it names behind its front. That this finds what Paths says, and nothing else,
 -- is a clause of the function that looks it up.
 use Rattle.std.specs.Prelude.{ℕ, Bool, true, false, if◌then◌else◌, List, [], ◌∷◌, ◌==◌, ◌++◌, codes}
-use Rattle.std.specs.Prelude.{length, drop, nat_eq}
-use Rattle.std.specs.Prelude.{Option, Some, None, option_and_then, option_map, Result, Ok, Err}
-use Rattle.std.specs.List.{before_first, fold, starts_with}
+use Rattle.std.specs.Prelude.{length, drop, nat_eq, Option, Some, None, option_and_then, option_map}
+use Rattle.std.specs.Prelude.{Result, Ok, Err, fold}
+use Rattle.std.specs.List.{before_first, starts_with}
 use Rattle.matchit.specs.Order.{placed}
 use Rattle.matchit.specs.Route.{Scan, parse_route}
 use Rattle.matchit.specs.Rows.{RowsOf}
 use Rattle.matchit.specs.Router.{RouteOf, route_from}
 use Rattle.matchit.specs.Seek.{first}
 use Rattle.matchit.specs.declared.error.InsertError.{InsertError}
-use Rattle.smf_frames.specs.declared.dump.Layout.TheVariants.{Rdw, Bdw}
-use Rattle.smf_text.specs.Day.{day_of_text_of}
+use Rattle.book_model.specs.Words.{Rdw, Bdw, day_of_text_of}
 use Rattle.book_reports.specs.BookTexts.{centre_named}
 use Rattle.book_reports.specs.RecordNames.{name_in}
-use Rattle.book_reports.specs.declared.what_if.StatementForm.TheVariants as shown_as
 use Rattle.report_rows.specs.ReportRows.{reports}
 use Rattle.report_rows.specs.declared.about.About.{About}
-use Rattle.report_rows.specs.declared.about.About.TheVariants as about
 use Rattle.report_rows.specs.declared.report_row.ReportName.{ReportName}
 use Rattle.report_rows.specs.declared.report_row.Shape.{Shape}
 use Rattle.report_rows.specs.declared.report_row.Shape.TheVariants.{OfCentre, OfDay, OfOffice}
 use Rattle.report_rows.specs.declared.report_row.Shape.TheVariants.{OfPeriod, OfRecord}
 use Rattle.book_http.specs.declared.endpoint.Endpoint.{Endpoint}
-use Rattle.book_http.specs.declared.endpoint.Endpoint.TheVariants as endpoint
 use Rattle.book_http.specs.Numbers.{decimal_value}
 use Rattle.book_http.specs.Paths.{front_of, shape_of}
+use Rattle.book_reports.specs.declared.what_if.StatementForm.TheVariants as shown_as
+use Rattle.report_rows.specs.declared.about.About.TheVariants as about
+use Rattle.book_http.specs.declared.endpoint.Endpoint.TheVariants as endpoint
 
 -- a target up to a question mark; nothing is decoded
 abbrev pub path_of : List ℕ → List ℕ
@@ -71,29 +70,17 @@ period_by number (Some name) = period_of_centre number (centre_named name)
 unfoldable pub period_in : List ℕ → Option (ℕ × Option (List ℕ))
 period_in text = period_by (period (before_slash text)) (after_slash text)
 
--- the same as what a report is about, and what else a text may name
-abbrev pub centre_in : List ℕ → Option About
-centre_in text = option_map (λ named. about.OfCentre named.0 named.1) (period_in text)
-
-abbrev pub number_in : List ℕ → Option About
-number_in text = option_map about.OfPeriod (period text)
-
+-- no text names the books
 abbrev pub office_in : List ℕ → Option About
 office_in text = if length text == 0 then Some about.OfOffice else None
 
-abbrev pub day_in : List ℕ → Option About
-day_in text = option_map about.OfDay (day_of_text_of text)
-
-abbrev pub record_in : List ℕ → Option About
-record_in text = option_map about.OfRecord (name_in text)
-
--- by the shape of the path
+-- what a text names, by the shape of the path
 unfoldable pub thing_in : Shape → List ℕ → Option About
-thing_in OfCentre text = centre_in text
-thing_in OfPeriod text = number_in text
+thing_in OfCentre text = option_map (λ named. about.OfCentre named.0 named.1) (period_in text)
+thing_in OfPeriod text = option_map about.OfPeriod (period text)
 thing_in OfOffice text = office_in text
-thing_in OfDay text = day_in text
-thing_in OfRecord text = record_in text
+thing_in OfDay text = option_map about.OfDay (day_of_text_of text)
+thing_in OfRecord text = option_map about.OfRecord (name_in text)
 
 -- ---- what a path leads to at an endpoint
 

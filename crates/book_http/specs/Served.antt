@@ -1,13 +1,11 @@
 -- What became of one request, however its bytes came.
-use Rattle.std.specs.Prelude.{◌≡◌, ◌⊎◌, ◌<◌, ◌≤◌, ℕ, Bool, true, false, List, [], ◌++◌, length, take}
-use Rattle.std.specs.Prelude.{IfOk, Option, None, Result, Ok, Err}
+use Rattle.std.specs.Prelude.{◌≡◌, ◌⊎◌, ◌<◌, ◌≤◌, ℕ, Bool, true, false, List, [], ◌++◌, length}
+use Rattle.std.specs.Prelude.{take, IfOk, Option, None, Result, Ok, Err}
 use Rattle.std.specs.Io.KnownBytes.{Appends}
 use Rattle.httparse.specs.Grammar.{RequestHead}
 use Rattle.streams.specs.InputOutput.{Output}
 use Rattle.book_model.specs.Words.{Book, Event, Naming}
-use Rattle.book_core.specs.Calls.{Calls}
-use Rattle.book_core.specs.Ledgers.{Seen, Books}
-use Rattle.book_core.specs.Transition.{Transition, IsTransition}
+use Rattle.book_core.specs.Words.{Calls, Seen, Books, Transition, IsTransition}
 use Rattle.book_core.specs.Follow.{FollowsHistory}
 use Rattle.book_lists.specs.declared.fault.ReportFault.{ReportFault}
 use Rattle.book_lists.specs.declared.fault.ReportFault.TheVariants.{Write}
@@ -15,7 +13,6 @@ use Rattle.book_reports.specs.declared.streamed_details.DetailReport.{DetailRepo
 use Rattle.book_reports.specs.StreamedDetails.{WritesSomeDetails, detail_answer}
 use Rattle.book_reports.specs.StreamedDetails.{detail_length_outcome}
 use Rattle.book_http.specs.declared.answer.Answer.{Answer}
-use Rattle.book_http.specs.declared.asked.Asked.TheVariants as asks
 use Rattle.book_http.specs.declared.served.Served.{Served}
 use Rattle.book_http.specs.declared.served.Served.TheVariants.{Closed, ReadFault, WriteFault}
 use Rattle.book_http.specs.declared.served.Served.TheVariants.{Answered, Cut}
@@ -29,6 +26,7 @@ use Rattle.book_http.specs.Head.{HasHead}
 use Rattle.book_http.specs.Replies.{Reply, reply_bytes, reply_of, success}
 use Rattle.book_http.specs.Requested.{AnswersRequest, WholeRequest, request_seen}
 use Rattle.book_http.specs.Statuses.{status_code}
+use Rattle.book_http.specs.declared.asked.Asked.TheVariants as asks
 
 -- Such work was done, and where the books were those of a history, they are those of that history
 -- with the events of the work added.

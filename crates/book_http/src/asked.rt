@@ -44,27 +44,16 @@ fn body_size(framing: Framing) -> Result<u64, Status>
     }
 }
 
-/// The same where the head may name the origin of its sender: a page in a browser may submit
-/// nothing.
-fn posted_size(has_origin: bool, framing: Framing) -> Result<u64, Status>
-    ensures size { result ≡ spec.posted_size has_origin framing }
-    ensures limit { IfOk result (λ size. size ≤ most_body_bytes) }
-{
-    if has_origin {
-        Err(Status::Forbidden)
-    } else {
-        body_size(framing)
-    }
-}
-
-/// The size of the body that is due by a method: to read a report none is.
+/// The size of the body that is due by a method: to read a report none is. Where the head names the
+/// origin of its sender, that is a page in a browser, which may submit nothing.
 fn due_size(method: Method, has_origin: bool, framing: Framing) -> Result<u64, Status>
     ensures size { result ≡ spec.due_size method has_origin framing }
     ensures limit { IfOk result (λ size. size ≤ most_body_bytes) }
 {
     match method {
         Method::Get => Ok(0),
-        Method::Post => posted_size(has_origin, framing),
+        Method::Post if has_origin => Err(Status::Forbidden),
+        Method::Post => body_size(framing),
     }
 }
 
@@ -178,23 +167,8 @@ fn asked_by(
     }
 }
 
-/// What is asked where a path leads, if it leads anywhere.
-fn asked_at(
-    found: Option<(Endpoint, About)>,
-    method: &[u8],
-    has_origin: bool,
-    framing: Framing,
-) -> Asked<u64>
-    ensures asked { result ≡ spec.asked_at found method.now has_origin framing }
-    ensures limit { IsServable result }
-{
-    match found {
-        Some((place, thing)) => asked_by(place, thing, method, has_origin, framing),
-        None => Asked::Settled(Answer::Refusal(Status::NotFound)),
-    }
-}
-
-/// The same where the head may name another machine: by such a name nothing is asked for.
+/// What is asked where a path leads, if it leads anywhere. A head may name another machine: by such
+/// a name nothing is asked for.
 fn asked_here(
     is_foreign: bool,
     found: Option<(Endpoint, About)>,
@@ -208,7 +182,10 @@ fn asked_here(
     if is_foreign {
         Asked::Settled(Answer::Refusal(Status::Forbidden))
     } else {
-        asked_at(found, method, has_origin, framing)
+        match found {
+            Some((place, thing)) => asked_by(place, thing, method, has_origin, framing),
+            None => Asked::Settled(Answer::Refusal(Status::NotFound)),
+        }
     }
 }
 

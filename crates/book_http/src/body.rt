@@ -1,7 +1,6 @@
 //! The body of a request, read in pieces of any size.
 
-ghost use Rattle.std.specs.Prelude.{◌≡◌, ◌+◌, ◌≤◌, ◌^◌, ◌++◌, false, true};
-ghost use Rattle.std.specs.Prelude.{length, take, IsErrOf};
+ghost use Rattle.std.specs.Prelude.{◌≡◌, ◌+◌, ◌≤◌, ◌^◌, ◌++◌, false, true, length, take, IsErrOf};
 ghost use Rattle.streams.specs.AnswerFlags.{NothingUnread};
 ghost use Rattle.streams.specs.Sources.{reader_of, reads_of, has_failed, has_ended};
 ghost use Rattle.book_http.specs.Bodies.{BodyComes, Fills, is_failed_body, most_body_bytes};

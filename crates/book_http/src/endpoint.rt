@@ -20,26 +20,6 @@ pub enum Endpoint {
     Import(Layout),
 }
 
-/// Where it is served what a period would have cost.
-fn what_if_path(form: StatementForm) -> &'static str
-    ensures { result.now ≡ spec.what_if_path form }
-{
-    match form {
-        StatementForm::Text => "/what-if/",
-        StatementForm::Table => "/what-if-csv/",
-    }
-}
-
-/// Where dumps are submitted.
-fn import_path(layout: Layout) -> &'static str
-    ensures { result.now ≡ spec.import_path layout }
-{
-    match layout {
-        Layout::Rdw => "/import",
-        Layout::Bdw => "/import-bdw",
-    }
-}
-
 /// The front of the paths of an endpoint, if it is served: that of a report as its row says.
 pub fn front_of(place: Endpoint) -> Option<&'static str>
     ensures { option_map (λ front. front.now) result ≡ spec.front_of place }
@@ -47,8 +27,10 @@ pub fn front_of(place: Endpoint) -> Option<&'static str>
     match place {
         Endpoint::Report(name, form) => row_of(name).path_in(form),
         Endpoint::Office => Some("/"),
-        Endpoint::WhatIf(form) => Some(what_if_path(form)),
-        Endpoint::Import(layout) => Some(import_path(layout)),
+        Endpoint::WhatIf(StatementForm::Text) => Some("/what-if/"),
+        Endpoint::WhatIf(StatementForm::Table) => Some("/what-if-csv/"),
+        Endpoint::Import(Layout::Rdw) => Some("/import"),
+        Endpoint::Import(Layout::Bdw) => Some("/import-bdw"),
     }
 }
 

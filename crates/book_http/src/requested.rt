@@ -1,11 +1,9 @@
 //! A request that was read whole. Of its body no byte is read that is not asked for.
 
-ghost use Rattle.std.specs.Prelude.{◌≡◌, ◌+◌, ◌≤◌, ◌^◌, IfOk, IsErrOf, IsUtf8};
-ghost use Rattle.std.specs.Prelude.{false, true, is_err};
+ghost use Rattle.std.specs.Prelude.{◌≡◌, ◌+◌, ◌≤◌, ◌^◌, IfOk, IsErrOf, IsUtf8, false, true, is_err};
 ghost use Rattle.httparse.specs.Grammar.{RequestHead};
 ghost use Rattle.streams.specs.AnswerFlags.{NothingUnread};
 ghost use Rattle.streams.specs.Sources.{reader_of, reads_of, has_failed, has_ended};
-ghost use Rattle.book_http.specs.Asked as spec;
 ghost use Rattle.book_http.specs.Asked.{IsServable};
 ghost use Rattle.book_http.specs.Bodies.{body_status, is_failed_read, most_body_bytes};
 ghost use Rattle.book_http.specs.Head.{most_head_bytes};
@@ -14,6 +12,7 @@ ghost use Rattle.book_http.specs.Replies.{refusal};
 ghost use Rattle.book_http.specs.Requested.{AsksAfter, IsReadAs, Settles, request_seen};
 ghost use Rattle.book_http.specs.Requests.{DescribesHead};
 ghost use Rattle.book_http.specs.Served.{is_failed};
+ghost use Rattle.book_http.specs.Asked as spec;
 
 use crate::answer::Answer;
 use crate::asked::{Asked, asked_framed};

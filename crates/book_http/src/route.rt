@@ -70,77 +70,40 @@ fn period_in(text: &str) -> Option<(u16, Option<Name>)>
     }
 }
 
-/// A period, of a centre if one is named after it.
-fn centre_in(text: &str) -> Option<About>
-    ensures { result ≡ spec.centre_in text.now }
-{
-    let (period, centre) = period_in(text)?;
-    Some(About::OfCentre { period, centre })
-}
-
-/// A period of the whole office.
-fn number_in(text: &str) -> Option<About>
-    ensures { result ≡ spec.number_in text.now }
-{
-    let number = period(text.as_bytes())?;
-    Some(About::OfPeriod(number))
-}
-
-/// The books, where nothing is named.
-fn office_in(text: &str) -> Option<About>
-    ensures { result ≡ spec.office_in text.now }
-{
-    if text.is_empty() {
-        Some(About::OfOffice)
-    } else {
-        None
-    }
-}
-
-/// The tariff of a day.
-fn day_in(text: &str) -> Option<About>
-    ensures { result ≡ spec.day_in text.now }
-{
-    let day = day_of_text(text)?;
-    Some(About::OfDay(day))
-}
-
-/// A record, by digits that spell its name.
-fn record_in(text: &str) -> Option<About>
-    ensures { result ≡ spec.record_in text.now }
-{
-    let name = name_of_text(text)?;
-    Some(About::OfRecord(name))
-}
-
-/// What a text names in a path.
+/// What a text names in a path. The books are named by no text.
 #[tactic(auto, unfolding(crate::specs::Routes::thing_in))]
 fn thing_in(shape: Shape, text: &str) -> Option<About>
     ensures { result ≡ spec.thing_in shape text.now }
 {
     match shape {
-        Shape::OfCentre => centre_in(text),
-        Shape::OfPeriod => number_in(text),
-        Shape::OfOffice => office_in(text),
-        Shape::OfDay => day_in(text),
-        Shape::OfRecord => record_in(text),
+        Shape::OfCentre => {
+            let (period, centre) = period_in(text)?;
+            Some(About::OfCentre { period, centre })
+        }
+        Shape::OfPeriod => {
+            let number = period(text.as_bytes())?;
+            Some(About::OfPeriod(number))
+        }
+        Shape::OfOffice if text.is_empty() => Some(About::OfOffice),
+        Shape::OfOffice => None,
+        Shape::OfDay => {
+            let day = day_of_text(text)?;
+            Some(About::OfDay(day))
+        }
+        Shape::OfRecord => {
+            let name = name_of_text(text)?;
+            Some(About::OfRecord(name))
+        }
     }
 }
 
-/// An endpoint, and what a path names behind its front.
-fn asked_in(place: Endpoint, rest: &str) -> Option<(Endpoint, About)>
-    ensures { result ≡ spec.asked_in place rest.now }
-{
-    let thing = thing_in(shape_of(place), rest)?;
-    Some((place, thing))
-}
-
-/// What a path asks for at an endpoint with this front.
+/// An endpoint with this front, and what a path names behind that.
 fn asked_behind(place: Endpoint, front: &str, path: &str) -> Option<(Endpoint, About)>
     ensures { result ≡ spec.asked_behind place front.now path.now }
 {
     let rest = path_rest(front, path)?;
-    asked_in(place, rest)
+    let thing = thing_in(shape_of(place), rest)?;
+    Some((place, thing))
 }
 
 /// What a path asks for at an endpoint.

@@ -1,26 +1,19 @@
 -- Reports that books may refuse, written while books are read: what they come to by calls that
 -- answered, and by one that was refused.
-use Rattle.std.proofs.Common.{◌≡◌, ◌<◌, ◌∙◌, ◌⊎◌, true, List, [], ◌++◌, length, refl, sym, ap, subst}
-use Rattle.std.proofs.Common.{Option, None, Result, Ok, Err, inl, inr, ℕ}
-use Rattle.std.specs.Prelude.{IfErr}
-use Rattle.std.proofs.KnownBytes.{Appends-nil}
-use Rattle.book_model.specs.declared.fault.LedgerFault.{LedgerFault}
-use Rattle.book_model.specs.declared.fault.LedgerFault.TheVariants as ledger
+use Rattle.std.proofs.Common.{◌≡◌, ◌<◌, ◌∙◌, ◌⊎◌, true, List, [], ◌++◌, length, refl, sym, ap}
+use Rattle.std.proofs.Common.{subst, Option, None, Result, Ok, Err, inl, inr, ℕ, IfErr}
 use Rattle.book_model.specs.Words.{Book, Event, Naming, Outcome, after_all}
-use Rattle.book_core.specs.Ledgers.{Seen}
-use Rattle.book_core.specs.Calls.{Calls, IsCall, Makes, Reopens, listed}
-use Rattle.book_core.specs.Transition.{IsTransition, Then}
-use Rattle.book_core.proofs.TransitionLemmas.{work_as, work_then}
+use Rattle.book_core.specs.Words.{Seen, Calls, IsCall, Makes, Reopens, listed, IsTransition, Then}
 use Rattle.book_lists.specs.declared.fault.ReportFault.{ReportFault}
-use Rattle.book_lists.specs.declared.fault.ReportFault.TheVariants as report
-use Rattle.book_lists.specs.Faults.{report_fault_of}
-use Rattle.book_lists.specs.Streamed.{WritesAnswerUntil, WritesUntilOrRefuses}
-use Rattle.book_lists.specs.Streamed.{is_hindrance, refusal_in}
-use Rattle.book_lists.specs.Writing.{WritesUntil, is_write_or_memory}
+use Rattle.book_lists.proofs.Words.{Appends-nil, LedgerFault, work_as, work_then, report_fault_of}
+use Rattle.book_lists.proofs.Words.{WritesAnswerUntil, WritesUntilOrRefuses, is_hindrance}
+use Rattle.book_lists.proofs.Words.{refusal_in, WritesUntil, is_write_or_memory}
 use Rattle.book_lists.proofs.ReadingLemmas.{IsReading, reopens_alike}
 use Rattle.book_lists.proofs.ShownLemmas.{Saw, Shows}
 use Rattle.book_lists.proofs.StreamingLemmas.{alike_refusal, stays_plain, unrefused_hinders}
 use Rattle.book_lists.proofs.StreamingLemmas.{was_open}
+use Rattle.book_model.specs.declared.fault.LedgerFault.TheVariants as ledger
+use Rattle.book_lists.specs.declared.fault.ReportFault.TheVariants as report
 
 -- a fault of the ledger, as a report passes it on, is a hindrance, or that fault
 abbrev pub IsRefusedBy : {A : Type 0} → LedgerFault → Result A LedgerFault → Type 0

@@ -1,16 +1,13 @@
 -- Lists that are read one item at a time: all calls show one book.
-use Rattle.std.proofs.Common.{◌≡◌, ◌∙◌, ℕ, ◌+◌, List, [], ◌∷◌, ◌++◌, map, take, refl, sym, ap, subst}
-use Rattle.std.proofs.Common.{Option, Some, None, Result, Ok, Err}
-use Rattle.std.specs.Prelude.{option_map, slice_get}
-use Rattle.book_model.specs.declared.fault.LedgerFault.{LedgerFault}
-use Rattle.book_model.specs.declared.fault.LedgerFault.TheVariants.{Memory}
+use Rattle.std.proofs.Common.{◌≡◌, ◌∙◌, ℕ, ◌+◌, List, [], ◌∷◌, ◌++◌, map, take, refl, sym, ap}
+use Rattle.std.proofs.Common.{subst, Option, Some, None, Result, Ok, Err, option_map, slice_get}
 use Rattle.book_model.specs.Words.{Book, Naming, Outcome, no_event}
-use Rattle.book_core.specs.Ledgers.{Seen}
-use Rattle.book_core.specs.Calls.{IsCall}
-use Rattle.book_lists.specs.Cursors.{Folds, IsNext, last_of}
-use Rattle.book_lists.specs.Shown.{shown_by}
+use Rattle.book_core.specs.Words.{Seen, IsCall}
+use Rattle.book_lists.proofs.Words.{LedgerFault, Memory, IsNext, shown_by}
+use Rattle.book_lists.specs.Cursors.{Folds, last_of}
 use Rattle.book_lists.proofs.FrontLemmas.{IsFront, front_all, front_taken}
-use Rattle.book_lists.proofs.ReadingLemmas.{by_names, call_failed, fault_alike, fault_tells, read_as}
+use Rattle.book_lists.proofs.ReadingLemmas.{by_names, call_failed, fault_alike, fault_tells}
+use Rattle.book_lists.proofs.ReadingLemmas.{read_as}
 use Rattle.book_lists.proofs.ShownLemmas.{Shows, answers, answers_none, refused_next, shown}
 use Rattle.book_lists.proofs.ShownLemmas.{shown_as, then_shown}
 use Rattle.book_lists.proofs.WritingLemmas.{same_value}
@@ -219,9 +216,9 @@ pub folded : {S I X A : Type 0} {view : I → X} {old new : Seen}
 folded {result = Ok state} show sum it makes =
     read_as (λ book. refl) (λ book. refl) (record { reopen = refl; store = refl })
     (λ book said. ap (shown_by sum) said ∙ ap Ok (sym (makes state it.items it.has))) it.read
-folded {view = view} {result = Err fault} show sum it makes =
+folded {S = S} {view = view} {result = Err fault} show sum it makes =
     read_as (λ book. refl) (λ book. refl) (fault_alike fault)
-    (λ book. fault_tells (λ state. map view it.items) show fault (ap (shown_by sum))) it.read
+    (λ book. fault_tells (λ (state : S). map view it.items) show fault (ap (shown_by sum))) it.read
 
 -- ---- items that the definitions see as they are
 

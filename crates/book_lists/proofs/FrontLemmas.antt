@@ -1,9 +1,7 @@
 -- A list that is read from the front, one element after another.
 use Rattle.std.proofs.Common.{◌≡◌, ◌∙◌, ◌≤◌, ℕ, zero, suc, ◌+◌, List, [], ◌∷◌, ◌++◌, length, take}
-use Rattle.std.proofs.Common.{ap, arith, sym, take_all, Option, Some, None}
-use Rattle.std.specs.Prelude.{slice_get}
-use Rattle.std.proofs.lemmas.List.{take_more}
-use Rattle.std.proofs.lemmas.Option.{get_or_from_slice_get, slice_get_within}
+use Rattle.std.proofs.Common.{ap, arith, sym, take_all, Option, Some, None, slice_get}
+use Rattle.book_model.proofs.Std.{take_more, get_or_from_slice_get, slice_get_within}
 
 -- one further
 pub next_taken : {X : Type 0} (xs : List X) (i : ℕ) (x : X) → slice_get xs i ≡ Some x

@@ -1,3 +1,4 @@
+mod Words
 pub mod WritingLemmas
 pub mod ReadingLemmas
 pub mod ShownLemmas

@@ -1,14 +1,11 @@
 -- Lists that are read from a ledger, and what is made from them: a reading call stands for another.
-use Rattle.std.proofs.Common.{◌≡◌, ◌∙◌, Bool, false, List, [], ◌++◌, refl, sym, ap, subst}
-use Rattle.std.proofs.Common.{◌||◌, inl, inr, None, Result, Ok, Err}
-use Rattle.std.specs.Result.{IsErrAnd}
-use Rattle.book_model.specs.declared.fault.LedgerFault.{LedgerFault}
-use Rattle.book_model.specs.declared.fault.LedgerFault.TheVariants.{Memory, Store, Reopen}
+use Rattle.std.proofs.Common.{◌≡◌, ◌∙◌, Bool, false, List, [], ◌++◌, refl, sym, ap, subst, ◌||◌}
+use Rattle.std.proofs.Common.{inl, inr, None, Result, Ok, Err, IsErrAnd}
+use Rattle.book_model.specs.declared.fault.LedgerFault.TheVariants.{Store, Reopen}
 use Rattle.book_model.specs.Words.{Book, Event, Naming, after_all, Outcome}
-use Rattle.book_core.specs.Ledgers.{Seen}
-use Rattle.book_core.specs.Transition.{Then}
-use Rattle.book_core.specs.Calls.{Calls, IsCall, Makes, Reopens, listed, is_store, is_reopen}
-use Rattle.book_core.proofs.TransitionLemmas.{work_then, work_as}
+use Rattle.book_core.specs.Words.{Seen, Then, Calls, IsCall, Makes, Reopens, listed, is_store}
+use Rattle.book_core.specs.Words.{is_reopen}
+use Rattle.book_lists.proofs.Words.{LedgerFault, Memory, work_then, work_as}
 
 -- a call is one of an outcome by other names too, if they are the same
 pub by_names : {V A : Type 0} {view : V → A} {old new : Seen} {result : Result V LedgerFault}

@@ -1,16 +1,11 @@
 -- Calls of a ledger that change nothing, one after another: they show one book, whatever book that is.
-use Rattle.std.proofs.Common.{◌≡◌, ◌∙◌, Bool, false, List, [], ◌++◌, refl, sym, ap, subst}
-use Rattle.std.proofs.Common.{◌||◌, Result, Ok, Err}
-use Rattle.std.specs.Result.{IsErrAnd}
-use Rattle.book_model.specs.declared.fault.LedgerFault.{LedgerFault}
-use Rattle.book_model.specs.declared.fault.LedgerFault.TheVariants.{Memory}
+use Rattle.std.proofs.Common.{◌≡◌, ◌∙◌, Bool, false, List, [], ◌++◌, refl, sym, ap, subst, ◌||◌}
+use Rattle.std.proofs.Common.{Result, Ok, Err, IsErrAnd}
 use Rattle.book_model.specs.Words.{Book, Event, Outcome, after_all}
-use Rattle.book_core.specs.Ledgers.{Seen}
-use Rattle.book_core.specs.Calls.{Calls, IsCall, Reopens, listed}
-use Rattle.book_core.specs.Transition.{IsTransition, Then}
-use Rattle.book_core.proofs.TransitionLemmas.{work_as, work_then}
+use Rattle.book_core.specs.Words.{Seen, Calls, IsCall, Reopens, listed, IsTransition, Then}
 use Rattle.book_lists.proofs.ReadingLemmas.{IsAlike, IsReading, Tells, fault_alike, fault_tells}
 use Rattle.book_lists.proofs.ReadingLemmas.{goes_on, made, passed_on, reopens_alike, told}
+use Rattle.book_lists.proofs.Words.{LedgerFault, Memory, work_as, work_then}
 
 -- no event was made, and this is known of the book; an open ledger stays so
 pub record Saw (Known : Book → Type 0) (was : Bool) (before : Book) (events : List Event) (is : Bool)

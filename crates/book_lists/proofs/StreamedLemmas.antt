@@ -1,14 +1,11 @@
 -- Texts that are written in part.
 use Rattle.std.proofs.Common.{◌≡◌, ◌∙◌, ℕ, ◌<◌, ◌-◌, List, [], ◌∷◌, ◌++◌, length, take, drop, arith}
 use Rattle.std.proofs.Common.{refl, sym, ap, subst, append_assoc, append-nil, length-append}
-use Rattle.std.proofs.Common.{length-drop, Option, Result, Ok, Err}
-use Rattle.std.proofs.lemmas.List.{take-append-drop}
+use Rattle.std.proofs.Common.{length-drop, Option, Result, Ok, Err, take-append-drop}
 use Rattle.std.proofs.Math.Seq.{take-append_seam}
-use Rattle.std.specs.Io.KnownBytes.{Appends}
-use Rattle.std.proofs.KnownBytes.{Appends-nil, Appends-trans}
 use Rattle.book_lists.specs.declared.fault.ReportFault.{ReportFault}
-use Rattle.book_lists.specs.Streamed.{WritesFirst}
-use Rattle.book_lists.specs.Writing.{WritesPrefix, WritesUntil}
+use Rattle.book_lists.proofs.Words.{Appends, Appends-nil, Appends-trans, WritesFirst, WritesPrefix}
+use Rattle.book_lists.proofs.Words.{WritesUntil}
 
 -- nothing was written
 pub none_written : (text : List ℕ) (held : Option (List ℕ)) → WritesFirst text text held held

@@ -1,16 +1,14 @@
 -- Texts that are written while books are read: how their results leave the books.
 use Rattle.std.proofs.Common.{◌≡◌, ◌∙◌, Bool, true, false, true≢false, refl, sym, Result, Ok, Err}
-use Rattle.std.specs.Prelude.{IfErr}
-use Rattle.book_model.specs.declared.fault.LedgerFault.{LedgerFault}
-use Rattle.book_model.specs.declared.fault.LedgerFault.TheVariants as ledger
-use Rattle.book_core.specs.Calls.{Reopens}
+use Rattle.std.proofs.Common.{IfErr}
+use Rattle.book_core.specs.Words.{Reopens}
 use Rattle.book_lists.specs.declared.fault.ReportFault.{ReportFault}
-use Rattle.book_lists.specs.declared.fault.ReportFault.TheVariants as report
-use Rattle.book_lists.specs.Faults.{report_fault_of}
-use Rattle.book_lists.specs.Streamed.{is_hindrance, refusal_in}
-use Rattle.book_lists.specs.Writing.{is_write_or_memory}
+use Rattle.book_lists.proofs.Words.{LedgerFault, report_fault_of, is_hindrance, refusal_in}
+use Rattle.book_lists.proofs.Words.{is_write_or_memory}
 use Rattle.book_lists.proofs.ReadingLemmas.{IsAlike, reopens_alike}
 use Rattle.book_lists.proofs.ShownLemmas.{answered, stays_open}
+use Rattle.book_model.specs.declared.fault.LedgerFault.TheVariants as ledger
+use Rattle.book_lists.specs.declared.fault.ReportFault.TheVariants as report
 
 -- a result that is no refusal of the ledger is like an answer of it
 unrefused : (result : Result (Unit {0}) ReportFault)

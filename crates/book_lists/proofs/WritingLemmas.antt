@@ -2,18 +2,16 @@
 -- fault.
 use Rattle.std.proofs.Common.{◌≡◌, ◌≢◌, ℕ, ◌+◌, ◌-◌, ◌<◌, List, [], ◌∷◌, ◌++◌, length, take, drop}
 use Rattle.std.proofs.Common.{Option, Result, Ok, Err, refl, sym, ap, subst, ◌∙◌, append_assoc}
-use Rattle.std.proofs.Common.{append-nil, arith, length-drop, take-add, take_all}
-use Rattle.std.specs.Prelude.{OnOk, OnErr, IfErr}
-use Rattle.std.specs.List.{concat}
+use Rattle.std.proofs.Common.{append-nil, arith, length-drop, take-add, take_all, OnOk, OnErr}
+use Rattle.std.proofs.Common.{IfErr}
 use Rattle.std.specs.Result.{result_unwrap_or}
-use Rattle.std.specs.Io.KnownBytes.{Appends}
-use Rattle.std.proofs.KnownBytes.{Appends-nil, Appends-trans}
-use Rattle.book_model.specs.declared.fault.LedgerFault.{LedgerFault}
-use Rattle.book_model.specs.declared.fault.LedgerFault.TheVariants as ledger
+use Rattle.book_model.proofs.Std.{concat}
 use Rattle.book_lists.specs.declared.fault.ReportFault.{ReportFault}
 use Rattle.book_lists.specs.declared.fault.ReportFault.TheVariants.{Write, Memory}
-use Rattle.book_lists.specs.Faults.{report_fault_of}
+use Rattle.book_lists.proofs.Words.{Appends, Appends-nil, Appends-trans, LedgerFault}
+use Rattle.book_lists.proofs.Words.{report_fault_of}
 use Rattle.book_lists.specs.Writing.{WritesTexts, WritesUpTo}
+use Rattle.book_model.specs.declared.fault.LedgerFault.TheVariants as ledger
 
 -- one more write appends the bytes that it took to those so far
 pub taken_more : (first before after : Option (List ℕ)) (text : List ℕ) (written count : ℕ)

@@ -1,25 +1,18 @@
 -- Lists that are written while they are read.
-use Rattle.std.proofs.Common.{◌≡◌, ◌∙◌, ℕ, ◌+◌, ◌<◌, true, List, [], ◌∷◌, ◌++◌, length, map, take, drop}
-use Rattle.std.proofs.Common.{refl, sym, ap, subst, append_assoc, append-nil, length-append, arith}
-use Rattle.std.proofs.Common.{Option, Some, None, Result, Ok, Err, inl, inr}
-use Rattle.std.specs.Prelude.{IfErr, flat_map, option_map}
-use Rattle.std.specs.Io.KnownBytes.{Appends}
-use Rattle.std.proofs.KnownBytes.{Appends-nil}
-use Rattle.std.proofs.lemmas.List.{take-append-drop}
-use Rattle.book_model.specs.declared.fault.LedgerFault.{LedgerFault}
+use Rattle.std.proofs.Common.{◌≡◌, ◌∙◌, ℕ, ◌+◌, ◌<◌, true, List, [], ◌∷◌, ◌++◌, length, map, take}
+use Rattle.std.proofs.Common.{drop, refl, sym, ap, subst, append_assoc, append-nil, length-append}
+use Rattle.std.proofs.Common.{arith, Option, Some, None, Result, Ok, Err, inl, inr, IfErr, flat_map}
+use Rattle.std.proofs.Common.{option_map, take-append-drop}
 use Rattle.book_model.specs.Words.{Book, Naming, after_all, no_event}
-use Rattle.book_core.specs.Ledgers.{Seen}
-use Rattle.book_core.specs.Calls.{IsCall, Reopens}
-use Rattle.book_core.specs.Transition.{IsTransition, Then}
-use Rattle.book_core.proofs.TransitionLemmas.{work_as, work_then}
+use Rattle.book_core.specs.Words.{Seen, IsCall, Reopens, IsTransition, Then}
 use Rattle.book_lists.specs.declared.fault.ReportFault.{ReportFault}
-use Rattle.book_lists.specs.Cursors.{IsNext}
-use Rattle.book_lists.specs.Faults.{report_fault_of}
-use Rattle.book_lists.specs.Shown.{shown_by}
-use Rattle.book_lists.specs.Streamed.{WritesAnswerUntil, WritesUntilOrRefuses}
-use Rattle.book_lists.specs.Streamed.{WritesFirst, WritesSome, refusal_in}
-use Rattle.book_lists.specs.Writing.{WritesPrefix, WritesUntil, is_write_or_memory}
-use Rattle.book_lists.specs.WrittenLists.{IsWrittenAs, WritesList, list_answer, list_text, parts_from}
+use Rattle.book_lists.proofs.Words.{Appends, Appends-nil, LedgerFault, work_as, work_then, IsNext}
+use Rattle.book_lists.proofs.Words.{report_fault_of, shown_by, WritesAnswerUntil}
+use Rattle.book_lists.proofs.Words.{WritesUntilOrRefuses, WritesFirst, refusal_in, WritesPrefix}
+use Rattle.book_lists.proofs.Words.{WritesUntil, is_write_or_memory}
+use Rattle.book_lists.specs.Streamed.{WritesSome}
+use Rattle.book_lists.specs.WrittenLists.{IsWrittenAs, WritesList, list_answer, list_text}
+use Rattle.book_lists.specs.WrittenLists.{parts_from}
 use Rattle.book_lists.proofs.AnsweringLemmas.{HasBytes, IsRefusedBy, answer_refused, answer_unread}
 use Rattle.book_lists.proofs.AnsweringLemmas.{answer_written, cut_by}
 use Rattle.book_lists.proofs.CursorLemmas.{HasRead, first_read, first_refused, map_push}

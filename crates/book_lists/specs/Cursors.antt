@@ -1,10 +1,9 @@
 -- A list of the books that is read one item at a time, and what is made of it.
-use Rattle.std.specs.Prelude.{◌≡◌, ℕ, List, [], ◌∷◌, map, take, slice_get}
-use Rattle.std.specs.Prelude.{Option, None, Some, IfOk, Result, Ok}
+use Rattle.std.specs.Prelude.{◌≡◌, ℕ, List, [], ◌∷◌, map, take, slice_get, Option, None, Some, IfOk}
+use Rattle.std.specs.Prelude.{Result, Ok}
 use Rattle.book_model.specs.declared.fault.LedgerFault.{LedgerFault}
 use Rattle.book_model.specs.Words.{Book, no_event}
-use Rattle.book_core.specs.Ledgers.{Seen}
-use Rattle.book_core.specs.Calls.{IsCall}
+use Rattle.book_core.specs.Words.{Seen, IsCall}
 use Rattle.book_lists.specs.Shown.{shown_by}
 
 -- the last of some items, if there are any

@@ -1,20 +1,18 @@
 -- The details of a ledger come in turn.
-use Rattle.std.proofs.Common.{◌≡◌, ◌∙◌, ℕ, List, [], ◌∷◌, refl, ap, subst, take}
-use Rattle.std.proofs.Common.{Option, Some, None, Result, Ok, Err}
-use Rattle.std.specs.Prelude.{slice_get}
-use Rattle.std.specs.List.Sorted.{IsStrictlySortedBy}
-use Rattle.std.specs.Option.{ok_or, option_map}
+use Rattle.std.specs.Prelude.{◌≡◌, ℕ, List, [], ◌∷◌, refl, take, Option, Some, None, Result, Ok}
+use Rattle.std.specs.Prelude.{Err, slice_get, ok_or, option_map}
+use Rattle.std.proofs.Common.{◌∙◌, ap, subst}
+use Rattle.book_model.specs.Std.{IsStrictlySortedBy}
 use Rattle.book_model.specs.declared.detail.Detail.{Detail}
 use Rattle.book_model.specs.declared.fault.LedgerFault.{LedgerFault}
 use Rattle.book_model.specs.declared.fault.LedgerFault.TheVariants.{NoSuchPeriod}
-use Rattle.book_model.specs.Words.{Book, Naming, Period, by_detail, details_asked}
-use Rattle.book_model.specs.Words.{details_of, details_outcome, next_after, next_detail_outcome}
-use Rattle.book_model.specs.Words.{period_of}
+use Rattle.book_model.specs.Words.{Book, Naming, Period, by_detail, details_asked, details_of}
+use Rattle.book_model.specs.Words.{details_outcome, next_after, next_detail_outcome, period_of}
 use Rattle.book_model.proofs.DetailLemmas.{asked_rise, details_rise}
 use Rattle.book_model.proofs.DetailOrder.{walked}
-use Rattle.book_model.proofs.DetailOrder as order
 use Rattle.book_lists.specs.Cursors.{IsNext, last_of}
 use Rattle.book_lists.specs.Shown.{shown_by}
+use Rattle.book_model.proofs.DetailOrder as order
 
 -- an answer has one value
 same_value : {A : Type 0} {one other : A}

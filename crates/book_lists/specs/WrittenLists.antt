@@ -3,8 +3,7 @@
 use Rattle.std.specs.Prelude.{◌≡◌, ℕ, ◌+◌, List, [], ◌∷◌, ◌++◌, map, Option, Result}
 use Rattle.book_model.specs.declared.fault.LedgerFault.{LedgerFault}
 use Rattle.book_model.specs.Words.{Book, Naming}
-use Rattle.book_core.specs.Ledgers.{Seen}
-use Rattle.book_core.specs.Transition.{IsTransition}
+use Rattle.book_core.specs.Words.{Seen, IsTransition}
 use Rattle.book_lists.specs.declared.fault.ReportFault.{ReportFault}
 use Rattle.book_lists.specs.Shown.{shown_by}
 use Rattle.book_lists.specs.Streamed.{WritesAnswerUntil}

@@ -50,8 +50,8 @@ fn flush_much<W: Writer + Drop>(
     Ok(())
 }
 
-/// Adds a part to what waits. Where much waits, that is written before: so of a text whose parts
-/// are not empty something waits until its end.
+/// Adds a part to what waits. Where much waits, that is written before a part that has bytes: so
+/// something waits until the end of a text.
 pub(crate) fn push_part<W: Writer + Drop>(
     waiting: &mut Vec<u8>,
     part: &[u8],
@@ -60,12 +60,15 @@ pub(crate) fn push_part<W: Writer + Drop>(
     requires { has_failed sink.old ≡ false }
     ensures written { WritesAllBut (waiting.old.items ++ part.now) waiting.new.items
         (W.contents (writer_of sink.old)) (W.contents (writer_of sink.new)) result }
-    ensures left { 0 < length part.now
+    ensures left { 0 < length waiting.old.items
         → LeavesSome (waiting.old.items ++ part.now) waiting.new.items
         (W.contents (writer_of sink.old)) (W.contents (writer_of sink.new)) result }
     ensures failed { has_failed sink.new ≡ is_write_fault result }
     ensures fault { IfErr result (λ fault. is_write_or_memory fault ≡ true) }
 {
+    if part.is_empty() {
+        return Ok(());
+    }
     flush_much(waiting, sink)?;
     waiting.extend_from_slice(part)?;
     Ok(())

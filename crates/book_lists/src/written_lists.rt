@@ -4,9 +4,8 @@
 ghost use Rattle.std.specs.Prelude.{◌≡◌, ◌++◌, ◌<◌, ◌∷◌, [], ℕ, List, IfErr, IfOk, OnOk, false};
 ghost use Rattle.std.specs.Prelude.{length, true};
 ghost use Rattle.streams.specs.Sinks.{has_failed, writer_of};
-ghost use Rattle.book_core.specs.Calls.{Reopens};
-ghost use Rattle.book_lists.specs.Streamed.{LeavesSome, WritesAllBut, WritesSome};
-ghost use Rattle.book_lists.specs.Streamed.{refusal_in};
+ghost use Rattle.book_core.specs.Words.{Reopens};
+ghost use Rattle.book_lists.specs.Streamed.{LeavesSome, WritesAllBut, WritesSome, refusal_in};
 ghost use Rattle.book_lists.specs.WrittenLists.{WritesList, list_text};
 ghost use Rattle.book_lists.specs.Writing.{WritesPrefix, WritesUntil, is_write_fault};
 ghost use Rattle.book_lists.specs.Writing.{is_write_or_memory};
@@ -45,28 +44,6 @@ pub trait Lines<Item>: Step<Item> {
     ghost some: { (lines : Self) → 0 < length (above lines) };
 }
 
-/// Adds a part to what waits, which is written before where it is much. A part without bytes changes
-/// nothing.
-fn push_lines<W: Writer + Drop>(
-    waiting: &mut Vec<u8>,
-    lines: &[u8],
-    sink: &mut Sink<W>,
-) -> Result<(), ReportFault>
-    requires { has_failed sink.old ≡ false }
-    ensures written { WritesAllBut (waiting.old.items ++ lines.now) waiting.new.items
-        (W.contents (writer_of sink.old)) (W.contents (writer_of sink.new)) result }
-    ensures left { 0 < length waiting.old.items
-        → LeavesSome (waiting.old.items ++ lines.now) waiting.new.items
-        (W.contents (writer_of sink.old)) (W.contents (writer_of sink.new)) result }
-    ensures failed { has_failed sink.new ≡ is_write_fault result }
-    ensures fault { IfErr result (λ fault. is_write_or_memory fault ≡ true) }
-{
-    if lines.is_empty() {
-        return Ok(());
-    }
-    push_part(waiting, lines, sink)
-}
-
 /// Counts one more item, and adds its part to what waits.
 fn push_item<Item, S: Lines<Item>, W: Writer + Drop>(
     alloc: Global,
@@ -91,7 +68,7 @@ fn push_item<Item, S: Lines<Item>, W: Writer + Drop>(
 {
     lines.add(alloc, state, item)?;
     let line = lines.line(alloc, number, item)?;
-    push_lines(waiting, &line, sink)
+    push_part(waiting, &line, sink)
 }
 
 /// Adds what stands below the items to what waits, and writes it all.

@@ -1,24 +1,17 @@
 -- A bill, whose parts are read from one book.
-use Rattle.std.proofs.Common.{◌≡◌, ap, ℕ, List, Option, Some, None, Result, Ok, Err}
-use Rattle.std.specs.Option.{ok_or, option_map}
-use Rattle.book_model.specs.declared.bill.BilledLine.{BilledLine}
-use Rattle.book_model.specs.declared.bill.HeldBack.{HeldBack}
-use Rattle.book_model.specs.declared.detail.Detail.{Detail}
-use Rattle.book_model.specs.declared.fault.LedgerFault.{LedgerFault}
-use Rattle.book_model.specs.declared.fault.LedgerFault.TheVariants.{NoSuchPeriod}
+use Rattle.std.proofs.Common.{◌≡◌, ap, ℕ, List, Option, Some, None, Result, Ok, Err, ok_or}
+use Rattle.std.proofs.Common.{option_map}
 use Rattle.book_model.specs.Words.{Book, Naming, Period, bill_of, billed_lines, details_asked}
 use Rattle.book_model.specs.Words.{details_of, lines_of, period_of}
-use Rattle.book_lists.specs.Shown.{shown_by}
 use Rattle.book_lists.proofs.CursorLemmas.{refused_back}
-use Rattle.book_lists.proofs.WritingLemmas.{same_value}
 use Rattle.book_reports.specs.declared.bill_tariffs.KeptTariffs.{KeptTariffs}
 use Rattle.book_reports.specs.declared.bill_work.PeriodWork.{PeriodWork}
-use Rattle.book_reports.specs.BillLines.{billed_outcome}
+use Rattle.book_reports.proofs.Words.{BilledLine, HeldBack, Detail, LedgerFault, NoSuchPeriod}
+use Rattle.book_reports.proofs.Words.{shown_by, same_value, billed_outcome, tariffs_outcome}
+use Rattle.book_reports.proofs.Words.{tariffs_shown, work_outcome, work_seen, work_shown}
+use Rattle.book_reports.proofs.Words.{closed_through}
 use Rattle.book_reports.specs.Bills.{PeriodBillSeen, bill_with, period_bill_outcome}
-use Rattle.book_reports.specs.BillTariffs.{tariffs_outcome, tariffs_shown}
-use Rattle.book_reports.specs.BillWork.{work_outcome, work_seen, work_shown}
 use Rattle.book_reports.specs.HeldBack.{held_back_outcome}
-use Rattle.book_reports.specs.Shown.{closed_through}
 
 -- of a period that is not there nothing is answered
 pub unanswered : {A B : Type 0} (f : Period → A) (show : Period → B) (found : Option Period)

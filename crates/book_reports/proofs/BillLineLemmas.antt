@@ -1,29 +1,18 @@
 -- The adjustment lines of a bill, and the periods that they speak of.
 use Rattle.std.proofs.Common.{◌≡◌, ◌∙◌, ℕ, ◌+◌, ◌<◌, ◌≤◌, ◌&&◌, Bool, true, false, cond, List, []}
-use Rattle.std.proofs.Common.{◌∷◌, ◌++◌, length, map, refl, sym, ap, subst, append-nil, get_or, take}
-use Rattle.std.proofs.Common.{take_all, true≢false, Option, Some, None, Result, Ok, Err}
-use Rattle.std.specs.Prelude.{if◌then◌else◌, filter, nat_lt}
-use Rattle.std.specs.List.{last_or}
-use Rattle.std.specs.Option.{ok_or, option_and_then, option_map}
-use Rattle.std.specs.Result.{result_ok}
-use Rattle.std.proofs.lemmas.List.{map-append, take_more}
-use Rattle.std.proofs.lemmas.List.Elements.{filter-append}
-use Rattle.book_model.specs.declared.bill.BilledLine.{BilledLine}
-use Rattle.book_model.specs.declared.fault.LedgerFault.{LedgerFault}
-use Rattle.book_model.specs.declared.fault.LedgerFault.TheVariants.{NoSuchRecord}
-use Rattle.book_model.specs.declared.line.Line.{Line}
-use Rattle.book_model.specs.declared.trail.Trail.{Trail}
+use Rattle.std.proofs.Common.{◌∷◌, ◌++◌, length, map, refl, sym, ap, subst, append-nil, get_or}
+use Rattle.std.proofs.Common.{take, take_all, true≢false, Option, Some, None, Result, Ok, Err}
+use Rattle.std.proofs.Common.{if◌then◌else◌, filter, nat_lt, ok_or, option_and_then, option_map}
+use Rattle.book_model.proofs.Std.{last_or, result_ok, map-append, take_more, filter-append}
 use Rattle.book_model.specs.declared.trail.Turn.{Turn}
 use Rattle.book_model.specs.Words.{Book, Naming, TrailSeen, adjustments_outcome, billed_line}
 use Rattle.book_model.specs.Words.{charged_before, is_charge, line_alone, period_by_trail}
 use Rattle.book_model.specs.Words.{trail_outcome, trail_shown}
-use Rattle.book_core.specs.Calls.{IsCall}
-use Rattle.book_core.specs.Ledgers.{Seen}
-use Rattle.report_texts.specs.Centres.{lines_of_centre}
-use Rattle.book_lists.proofs.ReadingLemmas.{fault_alike, fault_tells, read_as}
-use Rattle.book_lists.proofs.WritingLemmas.{same_value}
-use Rattle.book_reports.specs.BillLines.{billed_outcome, is_unheld, line_period_outcome}
-use Rattle.book_reports.specs.BookTexts.{shown_by}
+use Rattle.book_core.specs.Words.{IsCall, Seen}
+use Rattle.book_reports.proofs.Words.{BilledLine, LedgerFault, NoSuchRecord, Line, Trail}
+use Rattle.book_reports.proofs.Words.{lines_of_centre, fault_alike, fault_tells, read_as}
+use Rattle.book_reports.proofs.Words.{same_value, billed_outcome, is_unheld, shown_by}
+use Rattle.book_reports.specs.BillLines.{line_period_outcome}
 
 -- ---- the last charge before a period
 

@@ -1,32 +1,30 @@
 -- The coverage of a period, one more record at a time; and its rows, day by day.
 use Rattle.std.proofs.Common.{◌≡◌, ◌∙◌, ℕ, ℤ, ◌+◌, List, [], ◌∷◌, ◌++◌, length, map, refl, sym, ap}
-use Rattle.std.proofs.Common.{subst, fold, int_cmp, length-append, nat_cmp, unwrap_or}
-use Rattle.std.proofs.Common.{Option, Some, None}
-use Rattle.std.specs.Prelude.{All, flat_map}
+use Rattle.std.proofs.Common.{subst, fold, int_cmp, length-append, nat_cmp, unwrap_or, Option, Some}
+use Rattle.std.proofs.Common.{None, All, flat_map}
 use Rattle.std.specs.BTreeMap.{insert_entry, is_at}
 use Rattle.std.specs.BTreeSet.{insert_key}
 use Rattle.std.specs.Cmp.{both_tied}
 use Rattle.std.specs.Map.{lookup}
 use Rattle.std.specs.Option.{ForSome}
 use Rattle.std.proofs.lemmas.List.{map_push}
-use Rattle.std.proofs.lemmas.List.Elements.{All-map, All-push}
 use Rattle.std.proofs.lemmas.Map.Lookups.{exact_pairs, exact_signed}
-use Rattle.book_model.proofs.Std.{IsTotalOrder, eq_by_cmp, exact_bytes, int_cmp_total}
-use Rattle.book_model.proofs.Std.{nat_list_cmp_total, on_total, slice_cmp, texts_ties, then_total}
+use Rattle.book_model.proofs.Std.{All-map, All-push, IsTotalOrder, eq_by_cmp, exact_bytes}
+use Rattle.book_model.proofs.Std.{int_cmp_total, nat_list_cmp_total, on_total, slice_cmp}
+use Rattle.book_model.proofs.Std.{texts_ties, then_total}
 use Rattle.book_model.specs.Words.{IsDay, by_bytes, members, set_of}
 use Rattle.book_core.proofs.GroupLemmas.{groups-none, groups-push, lookup-groups}
 use Rattle.report_texts.specs.Coverage.{begins_on, coverage_rows, day_of_first, day_of_last}
-use Rattle.report_texts.specs.Coverage.{day_rows, days_between, earlier, ends_on, later, place_of, row_at}
-use Rattle.report_texts.specs.Coverage.{row_of, row_with, same_place, systems_of, those}
+use Rattle.report_texts.specs.Coverage.{day_rows, earlier, ends_on, later, place_of, row_at, row_of}
+use Rattle.report_texts.specs.Coverage.{row_with, same_place, systems_of, those}
 use Rattle.report_texts.specs.declared.coverage_rows.CoveragePlace.{CoveragePlace}
-use Rattle.report_texts.specs.declared.coverage_rows.CoverageRow.{CoverageRow}
-use Rattle.report_texts.specs.declared.coverage_rows.SystemDetail.{SystemDetail}
 use Rattle.report_texts.proofs.ChargeLemmas.{one_more}
-use Rattle.report_texts.proofs.CoverageLemmas.{begins_late, dated, days_shown, ends_early}
-use Rattle.report_texts.proofs.CoverageLemmas.{first_shown, last_shown}
+use Rattle.report_texts.proofs.CoverageLemmas.{begins_late, dated, days_shown, first_shown}
+use Rattle.report_texts.proofs.CoverageLemmas.{last_shown}
 use Rattle.book_reports.specs.declared.coverage_sums.CoverageSums.{CoverageSums}
-use Rattle.book_reports.specs.CoverageSums.{IsCoverageOf, SystemDetails, by_place, first_with}
-use Rattle.book_reports.specs.CoverageSums.{keyed_coverage, row_among, row_on, rows_on}
+use Rattle.book_reports.proofs.Words.{days_between, CoverageRow, SystemDetail, ends_early}
+use Rattle.book_reports.proofs.Words.{IsCoverageOf, SystemDetails, row_on, rows_on}
+use Rattle.book_reports.specs.CoverageSums.{by_place, first_with, keyed_coverage, row_among}
 use Rattle.std.specs.FinMap as finite
 
 -- ---- places

@@ -1,26 +1,16 @@
 -- The coverage of a period, of calls that show one book.
-use Rattle.std.proofs.Common.{◌≡◌, ◌∙◌, ℕ, ◌-◌, ℤ, List, map, refl, sym, ap, subst}
-use Rattle.std.proofs.Common.{Option, Result, Ok, Err}
-use Rattle.std.specs.Prelude.{IfOk}
-use Rattle.std.specs.Result.{IsErrAnd}
-use Rattle.book_model.specs.declared.fault.LedgerFault.{LedgerFault}
-use Rattle.book_model.specs.declared.fault.LedgerFault.TheVariants.{Memory}
+use Rattle.std.proofs.Common.{◌≡◌, ◌∙◌, ℕ, ◌-◌, ℤ, List, map, refl, sym, ap, subst, Option, Result}
+use Rattle.std.proofs.Common.{Ok, Err, IfOk, IsErrAnd}
 use Rattle.book_model.specs.Words.{no_event}
-use Rattle.book_core.specs.Calls.{IsCall}
-use Rattle.book_core.specs.Ledgers.{Seen}
-use Rattle.book_lists.specs.Cursors.{Folds}
-use Rattle.book_lists.specs.Shown.{shown_by}
-use Rattle.book_lists.proofs.CursorLemmas.{map_same}
-use Rattle.book_lists.proofs.ReadingLemmas.{by_names}
-use Rattle.book_lists.proofs.ShownLemmas.{answers, answers_none, both_shown, refused_next, shown}
-use Rattle.book_lists.proofs.ShownLemmas.{then_stays}
-use Rattle.book_lists.proofs.WritingLemmas.{same_value}
+use Rattle.book_core.specs.Words.{IsCall, Seen}
 use Rattle.book_reports.specs.declared.coverage_sums.CoverageSums.{CoverageSums}
 use Rattle.book_reports.specs.declared.period_days.PeriodDays.{PeriodDays}
 use Rattle.book_reports.specs.declared.what_if.StatementForm.{StatementForm}
 use Rattle.book_reports.specs.Coverage.{around_outcome, closes_around, coverage_answer, coverage_by}
-use Rattle.book_reports.specs.CoverageSums.{IsCoverageOf, SystemDetails}
-use Rattle.book_reports.specs.Shown.{closed_through, closed_through_outcome}
+use Rattle.book_reports.proofs.Words.{LedgerFault, Memory, Folds, shown_by, map_same, by_names}
+use Rattle.book_reports.proofs.Words.{answers, answers_none, both_shown, refused_next, shown}
+use Rattle.book_reports.proofs.Words.{then_stays, same_value, IsCoverageOf, SystemDetails}
+use Rattle.book_reports.proofs.Words.{closed_through, closed_through_outcome}
 use Rattle.book_reports.specs.SystemDetails.{system_details}
 
 -- ---- the closes around a period

@@ -1,31 +1,21 @@
 -- The text of details, which is written as they are read.
 use Rattle.std.proofs.Common.{◌≡◌, ◌∙◌, ℕ, ◌<◌, ℤ, List, ◌++◌, length, refl, sym, ap, subst}
-use Rattle.std.proofs.Common.{append-nil, Option, Result, Ok, Err, inl, inr}
-use Rattle.std.specs.Prelude.{flat_map}
-use Rattle.book_model.specs.declared.detail.Detail.{Detail}
-use Rattle.book_model.specs.declared.fault.LedgerFault.{LedgerFault}
+use Rattle.std.proofs.Common.{append-nil, Option, Result, Ok, Err, inl, inr, flat_map}
 use Rattle.book_model.specs.Words.{Book, details_outcome}
-use Rattle.book_core.specs.Ledgers.{Seen}
-use Rattle.book_core.specs.Calls.{IsCall}
-use Rattle.book_core.specs.Transition.{IsTransition}
+use Rattle.book_core.specs.Words.{Seen, IsCall, IsTransition}
 use Rattle.report_texts.specs.DetailTables.{detail_row, details_heading}
-use Rattle.book_lists.specs.declared.fault.ReportFault.{ReportFault}
-use Rattle.book_lists.specs.Faults.{report_fault_of}
-use Rattle.book_lists.specs.Streamed.{WritesAnswerUntil}
-use Rattle.book_lists.specs.WrittenLists.{list_answer, list_text}
-use Rattle.book_lists.proofs.AnsweringLemmas.{answer_unread}
 use Rattle.book_lists.proofs.CursorLemmas.{shown_back}
-use Rattle.book_lists.proofs.ShownLemmas.{shown}
-use Rattle.book_lists.proofs.WritingLemmas.{same_value}
-use Rattle.book_lists.proofs.WrittenListLemmas.{parts_each, text_some, then_written}
+use Rattle.book_lists.proofs.WrittenListLemmas.{text_some}
 use Rattle.book_reports.specs.declared.streamed_details.DetailReport.{DetailReport}
 use Rattle.book_reports.specs.declared.what_if.StatementForm.{StatementForm}
+use Rattle.book_reports.proofs.Words.{Detail, LedgerFault, ReportFault, report_fault_of}
+use Rattle.book_reports.proofs.Words.{WritesAnswerUntil, list_answer, list_text, answer_unread}
+use Rattle.book_reports.proofs.Words.{shown, same_value, parts_each, then_written, closed_through}
+use Rattle.book_reports.proofs.Words.{closed_through_outcome, shown_by, details_end, details_head}
+use Rattle.book_reports.proofs.Words.{details_part, details_text, sums_of}
+use Rattle.book_reports.specs.StreamedDetails.{WritesDetails, detail_answer, end_in, head_in}
+use Rattle.book_reports.specs.StreamedDetails.{part_in, some_above_details, text_in}
 use Rattle.book_reports.specs.declared.what_if.StatementForm.TheVariants as form
-use Rattle.book_reports.specs.BookTexts.{closed_through, closed_through_outcome, shown_by}
-use Rattle.book_reports.specs.StreamedDetails.{WritesDetails, detail_answer}
-use Rattle.book_reports.specs.StreamedDetails.{details_end, details_head, details_part}
-use Rattle.book_reports.specs.StreamedDetails.{details_text, end_in, head_in, part_in, sums_of}
-use Rattle.book_reports.specs.StreamedDetails.{some_above_details, text_in}
 
 -- the parts are the text
 whole_in : (shape : StatementForm) (report : DetailReport) (through : Option ℤ)

@@ -1,25 +1,17 @@
 -- How many bytes the text of details has, by those that were counted.
 use Rattle.std.proofs.Common.{◌≡◌, ◌∙◌, ℕ, ◌+◌, ℤ, List, ◌++◌, length, map, refl, sym, ap, subst}
-use Rattle.std.proofs.Common.{length-append, Option, Result, Ok, Err}
-use Rattle.std.specs.Prelude.{IfErr, IfOk, flat_map}
-use Rattle.book_model.specs.declared.detail.Detail.{Detail}
-use Rattle.book_model.specs.declared.fault.LedgerFault.{LedgerFault}
-use Rattle.book_model.specs.declared.fault.LedgerFault.TheVariants.{Memory}
+use Rattle.std.proofs.Common.{length-append, Option, Result, Ok, Err, IfErr, IfOk, flat_map}
 use Rattle.book_model.specs.Words.{details_outcome}
-use Rattle.book_core.specs.Ledgers.{Seen}
-use Rattle.book_core.specs.Calls.{IsCall}
-use Rattle.book_lists.specs.Cursors.{Folds}
-use Rattle.book_lists.proofs.CursorLemmas.{map_same}
-use Rattle.book_lists.proofs.ReadingLemmas.{by_names}
-use Rattle.book_lists.proofs.ShownLemmas.{answers, answers_none, both_shown, refused_next, shown}
-use Rattle.book_lists.proofs.ShownLemmas.{then_stays}
-use Rattle.book_lists.proofs.WritingLemmas.{same_value}
+use Rattle.book_core.specs.Words.{Seen, IsCall}
 use Rattle.book_reports.specs.declared.detail_lengths.Counted.{Counted}
 use Rattle.book_reports.specs.declared.streamed_details.DetailReport.{DetailReport}
-use Rattle.book_reports.specs.BookTexts.{closed_through, closed_through_outcome, shown_by}
+use Rattle.book_reports.proofs.Words.{Detail, LedgerFault, Memory, Folds, map_same, by_names}
+use Rattle.book_reports.proofs.Words.{answers, answers_none, both_shown, refused_next, shown}
+use Rattle.book_reports.proofs.Words.{then_stays, same_value, closed_through}
+use Rattle.book_reports.proofs.Words.{closed_through_outcome, shown_by, details_end, details_head}
+use Rattle.book_reports.proofs.Words.{details_part, details_text, sums_of}
 use Rattle.book_reports.specs.DetailLengths.{AreCounted}
-use Rattle.book_reports.specs.StreamedDetails.{detail_length_outcome, details_end, details_head}
-use Rattle.book_reports.specs.StreamedDetails.{details_part, details_text, sums_of}
+use Rattle.book_reports.specs.StreamedDetails.{detail_length_outcome}
 use Rattle.book_reports.proofs.DetailLemmas.{whole_text}
 
 -- with what stands above and below these are the bytes of the text

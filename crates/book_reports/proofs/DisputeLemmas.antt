@@ -1,40 +1,31 @@
 -- The text of the disputes, which are counted and then written as they are read.
-use Rattle.std.proofs.Common.{◌≡◌, ◌∙◌, ℕ, zero, suc, ◌+◌, ◌-◌, ◌≤◌, ◌<◌, List, [], ◌∷◌, ◌++◌, length}
-use Rattle.std.proofs.Common.{map, refl, sym, ap, subst, append_assoc, arith, Option, Result, Ok, Err}
-use Rattle.std.proofs.Common.{inl}
-use Rattle.std.specs.Prelude.{flat_map}
-use Rattle.std.proofs.lemmas.List.{length-map}
+use Rattle.std.proofs.Common.{◌≡◌, ◌∙◌, ℕ, zero, suc, ◌+◌, ◌-◌, ◌≤◌, ◌<◌, List, [], ◌∷◌, ◌++◌}
+use Rattle.std.proofs.Common.{length, map, refl, sym, ap, subst, append_assoc, arith, Option}
+use Rattle.std.proofs.Common.{Result, Ok, Err, inl, flat_map}
+use Rattle.book_model.proofs.Std.{length-map}
 use Rattle.book_model.specs.declared.dispute.Dispute.{Dispute}
-use Rattle.book_model.specs.declared.fault.LedgerFault.{LedgerFault}
 use Rattle.book_model.specs.Words.{Disputed, dispute_shown, disputes_in}
-use Rattle.book_core.specs.Ledgers.{Seen}
-use Rattle.book_core.specs.Calls.{IsCall}
-use Rattle.book_core.specs.Transition.{IsTransition}
+use Rattle.book_core.specs.Words.{Seen, IsCall, IsTransition}
 use Rattle.report_texts.specs.DisputeLists.{dispute_lines}
 use Rattle.report_texts.specs.DisputeTables.{member_heading, rows_from}
 use Rattle.report_texts.specs.Figures.{dispute_count}
-use Rattle.book_lists.specs.declared.fault.ReportFault.{ReportFault}
-use Rattle.book_lists.specs.Faults.{report_fault_of}
-use Rattle.book_lists.specs.Streamed.{WritesAnswerUntil}
-use Rattle.book_lists.specs.WrittenLists.{list_answer, list_text, parts_from}
-use Rattle.book_lists.proofs.AnsweringLemmas.{answer_unread, only_hinders}
-use Rattle.book_lists.proofs.ShownLemmas.{shown}
+use Rattle.book_lists.proofs.AnsweringLemmas.{only_hinders}
 use Rattle.book_lists.proofs.StreamedLemmas.{some_before}
-use Rattle.book_lists.proofs.WrittenListLemmas.{parts_as, then_written}
-use Rattle.book_lists.proofs.WritingLemmas.{same_value}
-use Rattle.book_reports.specs.declared.streamed_disputes.DisputeForm.{DisputeForm}
-use Rattle.book_reports.specs.declared.streamed_disputes.DisputeForm.TheVariants as form
-use Rattle.book_reports.specs.StreamedAnswers.{answered_by}
-use Rattle.book_reports.specs.StreamedDisputes.{WritesDisputes, counted_part, dispute_count_outcome}
-use Rattle.book_reports.specs.StreamedDisputes.{dispute_report, disputes_head, disputes_part}
-use Rattle.book_reports.specs.StreamedDisputes.{disputes_text, filled, lines_from, missing_lines}
-use Rattle.book_reports.specs.StreamedDisputes.{part_left, some_above_disputes}
+use Rattle.book_reports.specs.declared.what_if.StatementForm.{StatementForm}
+use Rattle.book_reports.proofs.Words.{LedgerFault, ReportFault, report_fault_of, WritesAnswerUntil}
+use Rattle.book_reports.proofs.Words.{list_answer, list_text, parts_from, answer_unread, shown}
+use Rattle.book_reports.proofs.Words.{parts_as, then_written, same_value, answered_by, counted_part}
+use Rattle.book_reports.proofs.Words.{dispute_count_outcome, disputes_text, filled, missing_lines}
+use Rattle.book_reports.specs.StreamedDisputes.{WritesDisputes, dispute_report, disputes_head}
+use Rattle.book_reports.specs.StreamedDisputes.{disputes_part, lines_from, part_left}
+use Rattle.book_reports.specs.StreamedDisputes.{some_above_disputes}
+use Rattle.book_reports.specs.declared.what_if.StatementForm.TheVariants as form
 
 -- ---- the text
 
 -- the lines of a list are those of each dispute, and those of a table its rows
 list_lines : (number : ℕ) (disputes : List Disputed)
-    → lines_from form.List number disputes ≡ flat_map dispute_lines disputes
+    → lines_from form.Text number disputes ≡ flat_map dispute_lines disputes
 list_lines number [] = refl
 list_lines number (dispute ∷ others) =
     ap (λ lines. dispute_lines dispute ++ lines) (list_lines (number + 1) others)
@@ -45,30 +36,30 @@ table_rows number [] = refl
 table_rows number (dispute ∷ others) =
     ap (λ rows. disputes_part form.Table number dispute ++ rows) (table_rows (number + 1) others)
 
-whole_text : (form : DisputeForm) (disputes : List Disputed)
+whole_text : (form : StatementForm) (disputes : List Disputed)
     → disputes_head form (length disputes) ++ lines_from form 1 disputes ≡ disputes_text form disputes
-whole_text form.List disputes =
-    ap (λ lines. disputes_head form.List (length disputes) ++ lines) (list_lines 1 disputes)
+whole_text form.Text disputes =
+    ap (λ lines. disputes_head form.Text (length disputes) ++ lines) (list_lines 1 disputes)
 whole_text form.Table disputes = ap (λ rows. member_heading ++ rows) (table_rows 1 disputes)
 
 -- ---- the text of those that were counted
 
 -- after so many as were counted there are no lines,
-pub past_counted : (form : DisputeForm) (total number : ℕ) (dispute : Disputed) → total ≤ number
+pub past_counted : (form : StatementForm) (total number : ℕ) (dispute : Disputed) → total ≤ number
     → counted_part form total number dispute ≡ []
 past_counted form total number dispute past =
     let none : total - number ≡ 0 = omega (arith, past) in
     ap (λ left. part_left form left number dispute) none
 
 -- before there are those of each,
-pub still_counted : (form : DisputeForm) (total number : ℕ) (dispute : Disputed) → number < total
+pub still_counted : (form : StatementForm) (total number : ℕ) (dispute : Disputed) → number < total
     → counted_part form total number dispute ≡ disputes_part form (number + 1) dispute
 still_counted form total number dispute before =
     let more : total - number ≡ suc (total - (number + 1)) = omega (arith, before) in
     ap (λ left. part_left form left number dispute) more
 
 -- and of so many none is missing
-pub none_missing : (form : DisputeForm) (total number : ℕ) → total ≤ number
+pub none_missing : (form : StatementForm) (total number : ℕ) → total ≤ number
     → missing_lines form total number ≡ []
 none_missing form total number past =
     let none : total - number ≡ 0 = omega (arith, past) in
@@ -85,7 +76,7 @@ filled_whole [] = refl
 filled_whole (dispute ∷ others) = ap (λ others. dispute ∷ others) (filled_whole others)
 
 -- with those that are missing the lines are those of so many
-counted_lines : (form : DisputeForm) (total number : ℕ) (disputes : List Disputed)
+counted_lines : (form : StatementForm) (total number : ℕ) (disputes : List Disputed)
     → parts_from (counted_part form total) number disputes
     ++ missing_lines form total (number + length disputes)
     ≡ lines_from form (number + 1) (filled (total - number) disputes)
@@ -121,7 +112,7 @@ counted_lines form total number (dispute ∷ others) =
         ∙ sym (ap (λ left. lines_from form (number + 1) (filled left (dispute ∷ others))) is)
 
 -- so the text is that of so many disputes
-counted_text : (form : DisputeForm) (total : ℕ) (disputes : List Disputed)
+counted_text : (form : StatementForm) (total : ℕ) (disputes : List Disputed)
     → list_text (disputes_head form total) (counted_part form total)
     (λ disputes. missing_lines form total (length disputes)) disputes
     ≡ disputes_text form (filled total disputes)
@@ -138,7 +129,7 @@ counted_text form total disputes =
     (sym (filled_count total disputes))
     ∙ whole_text form (filled total disputes)
 
-pub listed_text : (form : DisputeForm) (total : ℕ) (disputes : List Dispute)
+pub listed_text : (form : StatementForm) (total : ℕ) (disputes : List Dispute)
     → list_text (disputes_head form total)
     (λ number dispute. counted_part form total number (dispute_shown dispute))
     (λ disputes. missing_lines form total (length disputes)) disputes
@@ -157,7 +148,7 @@ listed_text form total disputes =
 -- ---- what the calls did
 
 -- they were not counted
-pub text_uncounted : (form : DisputeForm) (old new : Seen) (fault : LedgerFault)
+pub text_uncounted : (form : StatementForm) (old new : Seen) (fault : LedgerFault)
     (held : Option (List ℕ))
     → IsCall (λ (count : ℕ). count) old new (Err fault) (dispute_count_outcome old.naming)
     → IsTransition old new (WritesDisputes form old.naming held held (Err (report_fault_of fault)))
@@ -171,7 +162,7 @@ text_uncounted form old new fault held call =
     (λ book said. inl (only_hinders (dispute_count old.naming book) fault said))
 
 -- they were, and those that are written then are the book's
-pub text_counted : (form : DisputeForm) (old mid new : Seen) (total : ℕ)
+pub text_counted : (form : StatementForm) (old mid new : Seen) (total : ℕ)
     (held holds : Option (List ℕ)) (result : Result (Unit {0}) ReportFault)
     → IsCall (λ (count : ℕ). count) old mid (Ok total) (dispute_count_outcome old.naming)
     → IsTransition mid new

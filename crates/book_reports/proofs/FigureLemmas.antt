@@ -1,22 +1,15 @@
 -- The figures of a period: lists and counts that are read from one book.
 use Rattle.std.proofs.Common.{◌≡◌, ◌∙◌, ℕ, Bool, true, false, true≢false, List, [], refl, sym, ap}
-use Rattle.std.proofs.Common.{subst, Option, Some, None, Result, Ok, Err}
-use Rattle.std.specs.Prelude.{Vec}
-use Rattle.std.specs.Global.{Global}
-use Rattle.std.specs.Option.{ok_or, option_map, option_map_or}
-use Rattle.book_model.specs.declared.fault.LedgerFault.{LedgerFault}
-use Rattle.book_model.specs.declared.fault.LedgerFault.TheVariants.{NoSuchPeriod}
-use Rattle.book_model.specs.declared.line.Line.{Line}
-use Rattle.book_model.specs.declared.row.ChargeRow.{ChargeRow}
+use Rattle.std.proofs.Common.{subst, Option, Some, None, Result, Ok, Err, Vec, Global, ok_or}
+use Rattle.std.proofs.Common.{option_map}
+use Rattle.book_model.proofs.Std.{option_map_or}
 use Rattle.book_model.specs.Words.{Book, Naming, Outcome, no_event}
-use Rattle.book_core.specs.Ledgers.{Seen}
-use Rattle.book_core.specs.Calls.{IsCall}
-use Rattle.report_texts.specs.Figures.{figures_by, lines_in}
-use Rattle.report_texts.specs.declared.figures.Figures.{Figures}
-use Rattle.book_lists.proofs.ReadingLemmas.{IsReading, fault_alike, fault_tells, read_as, read_then}
-use Rattle.book_lists.proofs.WritingLemmas.{same_value}
-use Rattle.book_reports.specs.BookTexts.{shown_by}
-use Rattle.book_reports.specs.Figures.{is_missing, lines_outcome}
+use Rattle.book_core.specs.Words.{Seen, IsCall}
+use Rattle.report_texts.specs.Figures.{lines_in}
+use Rattle.book_reports.proofs.Words.{LedgerFault, NoSuchPeriod, Line, ChargeRow, figures_by}
+use Rattle.book_reports.proofs.Words.{Figures, IsReading, fault_alike, fault_tells, read_as}
+use Rattle.book_reports.proofs.Words.{read_then, same_value, shown_by, lines_outcome}
+use Rattle.book_reports.specs.Figures.{is_missing}
 
 -- what is answered of a period, if there is one, and what is taken of it, if there is one
 abbrev pub answered : {X Y : Type 0} → (Book → X → List Y) → (Book → Option X) → Book

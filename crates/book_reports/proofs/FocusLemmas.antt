@@ -1,16 +1,12 @@
 -- The table of a period, whose parts are read from one book.
 use Rattle.std.proofs.Common.{◌≡◌, ℕ, ℤ, All, List, Option, Some, None, Ok, Err, slice_get, subst}
-use Rattle.std.specs.Option.{ok_or, option_map}
-use Rattle.book_model.specs.declared.fault.LedgerFault.{LedgerFault}
-use Rattle.book_model.specs.declared.fault.LedgerFault.TheVariants.{NoSuchPeriod}
-use Rattle.book_model.specs.declared.line.Line.{Line}
-use Rattle.book_model.specs.declared.row.ChargeRow.{ChargeRow}
+use Rattle.std.proofs.Common.{ok_or, option_map}
 use Rattle.book_model.specs.Words.{Book, Naming, Period, adjustments_outcome, charges_outcome}
 use Rattle.book_model.specs.Words.{lines_of, period_of, periods_outcome, rows_for}
 use Rattle.book_model.proofs.Std.{get_or_from_slice_get, slice_get_within}
-use Rattle.book_lists.proofs.WritingLemmas.{same_value}
 use Rattle.book_reports.specs.declared.bill_tariffs.KeptTariffs.{KeptTariffs}
-use Rattle.book_reports.specs.BillTariffs.{tariffs_outcome, tariffs_shown}
+use Rattle.book_reports.proofs.Words.{LedgerFault, NoSuchPeriod, Line, ChargeRow, same_value}
+use Rattle.book_reports.proofs.Words.{tariffs_outcome, tariffs_shown}
 use Rattle.book_reports.specs.FocusReports.{focus_of, focus_outcome, focus_with}
 use Rattle.book_reports.proofs.BillLemmas.{unanswered}
 

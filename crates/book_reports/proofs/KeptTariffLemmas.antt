@@ -1,22 +1,19 @@
 -- The tariffs in force on the days of a period, which are kept of all tariffs as they are read.
 use Rattle.std.proofs.Common.{◌≡◌, ◌∙◌, ◌||◌, ℤ, Bool, true, false, cond, List, [], ◌∷◌, ◌++◌, not}
-use Rattle.std.proofs.Common.{append-nil, refl, sym, ap, subst, true≢false, Option, Some, None}
-use Rattle.std.proofs.Common.{ℕ, Result, Ok, Err}
-use Rattle.std.specs.Prelude.{◌+ℤ◌, All, IfOk, if◌then◌else◌, int_lt, option_map, pos}
-use Rattle.std.specs.List.{cons_option, list_any}
-use Rattle.std.specs.Option.{option_map_or}
-use Rattle.std.specs.Result.{result_ok}
-use Rattle.std.proofs.lemmas.List.Elements.{All-push, filter-append, filter_map-append}
-use Rattle.std.proofs.lemmas.List.Folds.{list_any-append}
-use Rattle.book_model.specs.declared.bill.BilledTariff.{BilledTariff}
-use Rattle.book_model.specs.declared.fault.LedgerFault.{LedgerFault}
+use Rattle.std.proofs.Common.{append-nil, refl, sym, ap, subst, true≢false, Option, Some, None, ℕ}
+use Rattle.std.proofs.Common.{Result, Ok, Err, ◌+ℤ◌, All, IfOk, if◌then◌else◌, int_lt, option_map}
+use Rattle.std.proofs.Common.{pos}
+use Rattle.book_model.proofs.Std.{cons_option, list_any, option_map_or, result_ok, All-push}
+use Rattle.book_model.proofs.Std.{filter-append, filter_map-append, list_any-append}
 use Rattle.book_model.specs.Words.{IsDay, RulingSeen, TariffSeen, Terms, begins_by, billed_tariff}
 use Rattle.book_model.specs.Words.{in_force_from, letterhead_by, letterhead_in, letterhead_shown}
-use Rattle.book_model.specs.Words.{no_letterhead, tariff_by, tariffs_from, tariffs_through, terms_in}
+use Rattle.book_model.specs.Words.{no_letterhead, tariff_by, tariffs_from, tariffs_through}
+use Rattle.book_model.specs.Words.{terms_in}
 use Rattle.book_reports.specs.declared.bill_tariffs.KeptTariffs.{KeptTariffs}
 use Rattle.book_reports.specs.declared.period_days.PeriodDays.{PeriodDays}
-use Rattle.book_reports.specs.BillTariffs.{HasKept, has_begun_after, kept_of, left_by, tariffs_billed}
-use Rattle.book_reports.specs.BillTariffs.{tariffs_shown}
+use Rattle.book_reports.proofs.Words.{BilledTariff, LedgerFault, HasKept, kept_of, left_by}
+use Rattle.book_reports.proofs.Words.{tariffs_billed, tariffs_shown}
+use Rattle.book_reports.specs.BillTariffs.{has_begun_after}
 use Rattle.book_reports.proofs.BillLineLemmas.{last_push}
 
 -- ---- one more tariff

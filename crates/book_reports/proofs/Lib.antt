@@ -1,3 +1,4 @@
+mod Words
 pub mod NumberLemmas
 pub mod BookLemmas
 pub mod MadeLemmas

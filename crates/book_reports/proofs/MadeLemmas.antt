@@ -1,14 +1,10 @@
 -- What is made of an answer that was read.
 use Rattle.std.proofs.Common.{◌≡◌, ◌∙◌, refl, sym, ap, subst, Option, ℕ, ℤ, Result, Ok, Err}
-use Rattle.std.specs.declared.alloc.AllocError.{AllocError}
-use Rattle.book_model.specs.declared.fault.LedgerFault.{LedgerFault}
 use Rattle.book_model.specs.Words.{Book, no_event, Outcome}
-use Rattle.book_core.specs.Ledgers.{Seen}
-use Rattle.book_core.specs.Calls.{IsCall}
-use Rattle.book_lists.proofs.ReadingLemmas.{IsReading, Tells, fault_alike, fault_tells, read_as}
-use Rattle.book_lists.proofs.ReadingLemmas.{read_then}
-use Rattle.book_lists.proofs.WritingLemmas.{same_value}
-use Rattle.book_reports.specs.BookTexts.{IsMadeOf, closed_through, closed_through_outcome, shown_by}
+use Rattle.book_core.specs.Words.{Seen, IsCall}
+use Rattle.book_reports.proofs.Words.{AllocError, LedgerFault, IsReading, Tells, fault_alike}
+use Rattle.book_reports.proofs.Words.{fault_tells, read_as, read_then, same_value, IsMadeOf}
+use Rattle.book_reports.proofs.Words.{closed_through, closed_through_outcome, shown_by}
 
 module _ {V A U B : Type 0} {view : V → A} {show : U → B} {outcome : Book → Outcome A}
   where

@@ -1,20 +1,17 @@
 -- Pages, whose parts are read from one book.
 use Rattle.std.proofs.Common.{◌≡◌, ◌∙◌, ℕ, ◌+◌, ℤ, List, [], ◌∷◌, ◌++◌, length, map, ap, sym, arith}
 use Rattle.std.proofs.Common.{Ok}
-use Rattle.std.proofs.lemmas.List.{map-append}
 use Rattle.std.proofs.lemmas.List.FromFn.{map-range_with_len_more}
-use Rattle.book_model.specs.declared.line.Line.{Line}
-use Rattle.book_model.specs.declared.row.ChargeRow.{ChargeRow}
+use Rattle.book_model.proofs.Std.{map-append}
 use Rattle.book_model.specs.Words.{Book, Disputed, Naming, charges_outcome, disputes_outcome}
 use Rattle.book_model.specs.Words.{periods_outcome}
 use Rattle.page_texts.specs.declared.figures.PeriodFigures.{PeriodFigures}
-use Rattle.page_texts.specs.Figures.{FiguresSeen, figures_of, figures_seen}
-use Rattle.page_texts.specs.OfficePage.{office_page_text}
-use Rattle.page_texts.specs.PeriodPage.{period_page_text}
-use Rattle.report_texts.specs.Figures.{number_after, period_open}
-use Rattle.book_lists.specs.Shown.{shown_by}
-use Rattle.book_lists.proofs.WritingLemmas.{same_value}
-use Rattle.book_reports.specs.Figures.{lines_outcome, rows_outcome}
+use Rattle.page_texts.specs.Figures.{FiguresSeen}
+use Rattle.report_texts.specs.Figures.{period_open}
+use Rattle.book_reports.proofs.Words.{Line, ChargeRow, figures_of, figures_seen, office_page_text}
+use Rattle.book_reports.proofs.Words.{period_page_text, number_after, shown_by, same_value}
+use Rattle.book_reports.proofs.Words.{lines_outcome}
+use Rattle.book_reports.specs.Figures.{rows_outcome}
 use Rattle.book_reports.specs.Pages.{first_figures, office_page_outcome, page_figures}
 use Rattle.book_reports.specs.Pages.{page_figures_outcome, period_page_outcome}
 

@@ -1,13 +1,12 @@
 -- What digits spell a name.
-use Rattle.std.proofs.Common.{◌≡◌, ◌<◌, ◌*◌, ℕ, true, List, [], ◌∷◌, length, Some}
-use Rattle.std.proofs.Common.{Result, Ok, Err, IsOk, refl, arith}
-use Rattle.std.proofs.lemmas.List.Elements.{All-head}
+use Rattle.std.proofs.Common.{◌≡◌, ◌<◌, ◌*◌, ℕ, true, List, [], ◌∷◌, length, Some, Result, Ok, Err}
+use Rattle.std.proofs.Common.{IsOk, refl, arith}
 use Rattle.std.specs.List.{AllPass}
-use Rattle.std.specs.Result.{result_ok}
 use Rattle.hex.proofs.HexLemmas.{IsOk-decode_sized}
 use Rattle.hex.specs.Hex.{decode_sized, is_hex_digit}
 use Rattle.hex.specs.declared.error.FromHexError.{FromHexError}
-use Rattle.book_reports.specs.RecordNames.{name_in, name_length}
+use Rattle.book_model.proofs.Std.{All-head, result_ok}
+use Rattle.book_reports.proofs.Words.{name_in, name_length}
 
 -- where there is a name, the digits were read
 was_read : (read : Result (List ℕ) FromHexError) (name : List ℕ) → result_ok read ≡ Some name

@@ -1,25 +1,19 @@
 -- Answers that are passed on to a writer; and reports of ledgers in memory.
-use Rattle.std.proofs.Common.{◌≡◌, ◌∙◌, ℕ, ◌<◌, true, List, [], ◌∷◌, length, take, None}
-use Rattle.std.proofs.Common.{Result, Ok, Err, Vec, Global, refl, sym, ap, subst, append-nil}
-use Rattle.std.specs.Prelude.{IfErr}
+use Rattle.std.proofs.Common.{◌≡◌, ◌∙◌, ℕ, ◌<◌, true, List, [], ◌∷◌, length, take, None, Result, Ok}
+use Rattle.std.proofs.Common.{Err, Vec, Global, refl, sym, ap, subst, append-nil, IfErr}
 use Rattle.std.specs.Io.KnownBytes.{Appends}
 use Rattle.streams.specs.InputOutput.{Output}
-use Rattle.book_model.specs.declared.fault.LedgerFault.{LedgerFault}
-use Rattle.book_model.specs.declared.fault.LedgerFault.TheVariants.{Memory}
 use Rattle.book_model.specs.Words.{Answers, Book, Naming}
-use Rattle.book_core.specs.Calls.{IsCall}
-use Rattle.book_core.specs.Ledgers.{Books, in_memory}
+use Rattle.book_core.specs.Words.{IsCall, Books, in_memory}
 use Rattle.book_core.proofs.MemoryLemmas.{answers_in_memory, stays_in_memory}
-use Rattle.book_lists.specs.declared.fault.ReportFault.{ReportFault}
-use Rattle.book_lists.specs.declared.fault.ReportFault.TheVariants as report
-use Rattle.book_lists.specs.Writing.{WritesTexts, is_write_or_memory}
-use Rattle.book_lists.proofs.ReadingLemmas.{IsAlike, IsReading, Tells, fault_alike, fault_tells}
-use Rattle.book_lists.proofs.ReadingLemmas.{read_as}
+use Rattle.book_lists.specs.Writing.{is_write_or_memory}
 use Rattle.book_lists.proofs.WritingLemmas.{memory_not_write, nothing_written, prefix_written}
-use Rattle.book_lists.proofs.WritingLemmas.{same_value}
 use Rattle.book_reports.specs.declared.report.Report.{Report}
-use Rattle.book_reports.specs.BookTexts.{report_outcome, shown_by}
+use Rattle.book_reports.proofs.Words.{LedgerFault, Memory, ReportFault, WritesTexts, IsAlike}
+use Rattle.book_reports.proofs.Words.{IsReading, Tells, fault_alike, fault_tells, read_as}
+use Rattle.book_reports.proofs.Words.{same_value, report_outcome, shown_by}
 use Rattle.book_reports.specs.Reports.{IsPassedOn, IsReport}
+use Rattle.book_lists.specs.declared.fault.ReportFault.TheVariants as report
 
 -- an answer that is shown says what it said
 shown_alike : (answer : Result (Vec ℕ Global) LedgerFault)

@@ -1,25 +1,20 @@
 -- The list of rulings.
-use Rattle.std.proofs.Common.{◌≡◌, ◌∙◌, ℕ, Bool, true, List, [], ◌++◌, map, refl, sym, ap, append-nil}
-use Rattle.std.proofs.Common.{Some, Result, Ok, Err, Vec, Global, inl}
-use Rattle.book_model.specs.declared.fault.LedgerFault.{LedgerFault}
-use Rattle.book_model.specs.declared.fault.LedgerFault.TheVariants as ledger
+use Rattle.std.proofs.Common.{◌≡◌, ◌∙◌, ℕ, Bool, true, List, [], ◌++◌, map, refl, sym, ap}
+use Rattle.std.proofs.Common.{append-nil, Some, Result, Ok, Err, Vec, Global, inl}
 use Rattle.book_model.specs.declared.listed_ruling.ListedRuling.{ListedRuling}
 use Rattle.book_model.specs.Words.{Book, Event, Naming, Outcome, RulingSeen, ruling_shown}
-use Rattle.book_core.specs.Ledgers.{Seen}
-use Rattle.book_core.specs.Calls.{Calls, IsCall, Makes, Reopens}
-use Rattle.book_core.specs.Transition.{IsTransition}
+use Rattle.book_core.specs.Words.{Seen, Calls, IsCall, Makes, Reopens, IsTransition}
 use Rattle.book_core.proofs.TransitionLemmas.{work_as}
-use Rattle.report_texts.specs.RulingLists.{ruling_line, ruling_list_head, ruling_list_text}
-use Rattle.book_lists.specs.declared.fault.ReportFault.{ReportFault}
-use Rattle.book_lists.specs.declared.fault.ReportFault.TheVariants as report
+use Rattle.report_texts.specs.RulingLists.{ruling_list_head}
 use Rattle.book_lists.specs.Streamed.{is_hindrance, refusal_in}
-use Rattle.book_lists.specs.WrittenLists.{list_text, parts_from}
-use Rattle.book_lists.proofs.ReadingLemmas.{IsAlike, reopens_alike}
-use Rattle.book_lists.proofs.WrittenListLemmas.{parts_as, parts_each}
+use Rattle.book_lists.proofs.ReadingLemmas.{reopens_alike}
 use Rattle.book_reports.specs.declared.report.Report.TheVariants.{RulingList}
-use Rattle.book_reports.specs.BookTexts.{report_outcome}
-use Rattle.book_reports.specs.StreamedAnswers.{WritesRulings}
+use Rattle.book_reports.proofs.Words.{LedgerFault, ruling_line, ruling_list_text, ReportFault}
+use Rattle.book_reports.proofs.Words.{list_text, parts_from, IsAlike, parts_as, parts_each}
+use Rattle.book_reports.proofs.Words.{report_outcome, WritesRulings}
 use Rattle.book_reports.specs.StreamedRulings.{text_by}
+use Rattle.book_model.specs.declared.fault.LedgerFault.TheVariants as ledger
+use Rattle.book_lists.specs.declared.fault.ReportFault.TheVariants as report
 
 -- ---- texts
 

@@ -1,27 +1,18 @@
 -- The records of a period with their systems: two calls of a ledger for each, which show one book.
 use Rattle.std.proofs.Common.{◌≡◌, ◌∙◌, ℕ, List, refl, sym, ap, Option, Some, None, Result, Ok, Err}
-use Rattle.std.specs.Option.{ok_or, option_and_then, option_map}
-use Rattle.std.specs.Result.{IsErrAnd}
+use Rattle.std.proofs.Common.{ok_or, option_and_then, option_map, IsErrAnd}
 use Rattle.smf_frames.specs.Header.{header_of}
-use Rattle.book_model.specs.declared.detail.Detail.{Detail}
-use Rattle.book_model.specs.declared.fault.LedgerFault.{LedgerFault}
-use Rattle.book_model.specs.declared.fault.LedgerFault.TheVariants.{Memory, NoSuchRecord, Reopen}
-use Rattle.book_model.specs.declared.fault.LedgerFault.TheVariants.{Store}
-use Rattle.book_model.specs.declared.trail.Trail.{Trail}
-use Rattle.book_model.specs.RulingAnswers.{record_named}
-use Rattle.book_model.specs.Trails.{TrailSeen, reckoning_in, trail_by, trail_of}
-use Rattle.book_model.specs.Words.{Book, Naming, next_detail_outcome, no_event, trail_outcome}
-use Rattle.book_model.specs.Words.{trail_shown}
-use Rattle.tariff_rules.specs.declared.reckoning.Reckoning.{Reckoning}
-use Rattle.book_core.specs.Calls.{IsCall}
-use Rattle.book_core.specs.Ledgers.{Seen}
-use Rattle.report_texts.specs.declared.coverage_rows.SystemDetail.{SystemDetail}
-use Rattle.book_lists.specs.Shown.{shown_by}
-use Rattle.book_lists.proofs.ReadingLemmas.{IsAlike, Tells, by_names, call_failed, read_as}
-use Rattle.book_lists.proofs.ShownLemmas.{answers, both_shown, refused_next, shown}
-use Rattle.book_lists.proofs.WritingLemmas.{same_value}
-use Rattle.book_reports.specs.SystemDetails.{IsSystemBy, detail_in, hindrance, next_on_system}
-use Rattle.book_reports.specs.SystemDetails.{on_system, system_found, system_named, system_outcome}
+use Rattle.book_model.specs.declared.fault.LedgerFault.TheVariants.{Reopen, Store}
+use Rattle.book_model.specs.Words.{record_named, TrailSeen, reckoning_in, trail_by, trail_of, Book}
+use Rattle.book_model.specs.Words.{Naming, next_detail_outcome, no_event, trail_outcome}
+use Rattle.book_model.specs.Words.{trail_shown, Reckoning}
+use Rattle.book_core.specs.Words.{IsCall, Seen}
+use Rattle.book_reports.proofs.Words.{Detail, LedgerFault, Memory, NoSuchRecord, Trail}
+use Rattle.book_reports.proofs.Words.{SystemDetail, shown_by, IsAlike, Tells, by_names, call_failed}
+use Rattle.book_reports.proofs.Words.{read_as, answers, both_shown, refused_next, shown, same_value}
+use Rattle.book_reports.proofs.Words.{next_on_system}
+use Rattle.book_reports.specs.SystemDetails.{IsSystemBy, detail_in, hindrance, on_system}
+use Rattle.book_reports.specs.SystemDetails.{system_found, system_named, system_outcome}
 
 -- ---- the system of a record
 

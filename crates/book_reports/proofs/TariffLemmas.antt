@@ -1,28 +1,21 @@
 -- The text of the tariff that begins on a day, which is sought among the tariffs of a ledger.
 use Rattle.std.proofs.Common.{◌≡◌, ◌≢◌, ◌∙◌, ℕ, ◌+◌, ℤ, Bool, List, [], ◌∷◌, ◌++◌, take, drop, refl}
-use Rattle.std.proofs.Common.{sym, ap, take-append-drop, Option, Some, None, Result, Ok, Err}
-use Rattle.std.proofs.Common.{Vec, Global}
-use Rattle.std.specs.Prelude.{filter_map, if◌then◌else◌, option_map, slice_get, string_bytes}
-use Rattle.std.specs.List.{cons_option}
-use Rattle.std.specs.Option.{ok_or}
-use Rattle.std.specs.Ordering.{int_eq}
-use Rattle.std.proofs.lemmas.Bool.{false_from_ne_true}
+use Rattle.std.proofs.Common.{sym, ap, take-append-drop, Option, Some, None, Result, Ok, Err, Vec}
+use Rattle.std.proofs.Common.{Global, filter_map, if◌then◌else◌, option_map, slice_get}
+use Rattle.std.proofs.Common.{string_bytes, ok_or, int_eq}
 use Rattle.std.proofs.lemmas.Bool.Decides.{Decides-int_eq}
-use Rattle.std.proofs.lemmas.List.Elements.{filter_map-append}
-use Rattle.book_model.specs.declared.fault.LedgerFault.{LedgerFault}
-use Rattle.book_model.specs.declared.fault.LedgerFault.TheVariants.{Memory, NoSuchTariff}
+use Rattle.book_model.proofs.Std.{cons_option, false_from_ne_true, filter_map-append}
+use Rattle.book_model.specs.declared.fault.LedgerFault.TheVariants.{NoSuchTariff}
 use Rattle.book_model.specs.Words.{Book, Naming, RulingSeen, TariffSeen, tariffs_seen, text_on}
-use Rattle.book_core.specs.Ledgers.{Seen}
-use Rattle.book_core.specs.Calls.{IsCall}
+use Rattle.book_core.specs.Words.{Seen, IsCall}
 use Rattle.book_lists.specs.declared.tariff_cursors.ListedTariff.{ListedTariff}
-use Rattle.book_lists.specs.TariffsInTurn.{tariff_outcome, tariff_shown, tariffs_in_turn}
+use Rattle.book_lists.specs.TariffsInTurn.{tariff_outcome, tariffs_in_turn}
 use Rattle.book_lists.proofs.CursorLemmas.{HasRead, first_read, one_more_read}
 use Rattle.book_lists.proofs.FrontLemmas.{front_all, next_taken}
-use Rattle.book_lists.proofs.ReadingLemmas.{by_names}
-use Rattle.book_lists.proofs.ShownLemmas.{answers, answers_as, answers_none, refused_next}
-use Rattle.book_lists.proofs.WritingLemmas.{same_value}
+use Rattle.book_lists.proofs.ShownLemmas.{answers_as}
 use Rattle.book_reports.specs.declared.report.Report.TheVariants.{TariffText}
-use Rattle.book_reports.specs.BookTexts.{report_outcome}
+use Rattle.book_reports.proofs.Words.{LedgerFault, Memory, tariff_shown, by_names, answers}
+use Rattle.book_reports.proofs.Words.{answers_none, refused_next, same_value, report_outcome}
 
 -- the tariffs of a book, and each as a ledger is asked for it
 abbrev pub all_tariffs : Naming → Book → Result (List RulingSeen) LedgerFault

@@ -1,25 +1,19 @@
 -- A text of two lists, which are read from one book; and what a period would have cost by another
 -- tariff.
 use Rattle.std.proofs.Common.{◌≡◌, ◌≢◌, refl, sym, ap, subst, Option, List, ℕ, ℤ, Result, Ok, Err}
-use Rattle.std.specs.Result.{IsErrAnd}
-use Rattle.std.specs.declared.alloc.AllocError.{AllocError}
-use Rattle.sha2.specs.Sha256.{sha256}
-use Rattle.tariff_rules.specs.declared.fault.TariffFault.{TariffFault}
-use Rattle.tariff_rules.specs.declared.fault.TariffFault.TheVariants as tariff
-use Rattle.book_model.specs.declared.fault.LedgerFault.{LedgerFault}
+use Rattle.std.proofs.Common.{IsErrAnd}
 use Rattle.book_model.specs.Faults.{refusal_of}
-use Rattle.book_model.specs.Words.{Book, Outcome, Terms, no_event, terms_in}
-use Rattle.book_core.specs.Ledgers.{Seen}
-use Rattle.book_core.specs.Calls.{IsCall}
-use Rattle.book_lists.proofs.ReadingLemmas.{IsAlike, IsReading, Tells, call_failed}
-use Rattle.book_lists.proofs.ReadingLemmas.{passed_on, read_as, read_then}
-use Rattle.book_lists.proofs.WritingLemmas.{same_value}
-use Rattle.book_reports.specs.declared.what_if.StatementForm.TheVariants as shown_as
+use Rattle.book_model.specs.Words.{TariffFault, Book, Outcome, Terms, no_event, terms_in}
+use Rattle.book_core.specs.Words.{Seen, IsCall}
 use Rattle.book_reports.specs.declared.what_if.WhatIf.{WhatIf}
-use Rattle.book_reports.specs.BookTexts.{IsMadeOf, closed_through, closed_through_outcome}
+use Rattle.book_reports.proofs.Words.{AllocError, sha256, LedgerFault, IsAlike, IsReading, Tells}
+use Rattle.book_reports.proofs.Words.{call_failed, passed_on, read_as, read_then, same_value}
+use Rattle.book_reports.proofs.Words.{IsMadeOf, closed_through, closed_through_outcome}
 use Rattle.book_reports.specs.WhatIfTexts.{form_under, shown_by_both, table_under, text_under}
 use Rattle.book_reports.specs.WhatIfTexts.{what_if_by, what_if_report}
 use Rattle.book_reports.proofs.MadeLemmas.{call_made}
+use Rattle.tariff_rules.specs.declared.fault.TariffFault.TheVariants as tariff
+use Rattle.book_reports.specs.declared.what_if.StatementForm.TheVariants as shown_as
 
 -- what two answers of a book are shown as
 abbrev pub both : {A B C : Type 0} → (Book → Outcome A) → (Book → Outcome B) → (A → B → C) → Book

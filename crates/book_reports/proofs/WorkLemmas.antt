@@ -1,36 +1,24 @@
 -- What was worked in a period: the rows of its steps and of its jobs, of details that are read one
 -- after another.
-use Rattle.std.proofs.Common.{◌≡◌, ◌∙◌, ℕ, ◌+◌, ◌<◌, ◌^◌, ℤ, Bool, List}
-use Rattle.std.proofs.Common.{length, map, not, refl, sym, ap, subst, arith}
-use Rattle.std.proofs.Common.{Option, Result, Ok, Err}
-use Rattle.std.specs.Prelude.{All, IfOk, filter, sum_by}
+use Rattle.std.proofs.Common.{◌≡◌, ◌∙◌, ℕ, ◌+◌, ◌<◌, ◌^◌, ℤ, Bool, List, length, map, not, refl}
+use Rattle.std.proofs.Common.{sym, ap, subst, arith, Option, Result, Ok, Err, All, IfOk, filter}
+use Rattle.std.proofs.Common.{sum_by}
 use Rattle.std.specs.BTreeMap.{values}
-use Rattle.std.proofs.lemmas.List.{length-map}
-use Rattle.std.proofs.lemmas.List.Elements.{All-filter, All-map}
-use Rattle.std.proofs.lemmas.List.Filters.{length-filter_both, sum_by-filter_both}
-use Rattle.std.proofs.lemmas.List.Folds.{fold-map}
-use Rattle.tariff_rules.specs.declared.priced.Priced.{Priced}
+use Rattle.book_model.proofs.Std.{length-map, All-filter, All-map, length-filter_both}
+use Rattle.book_model.proofs.Std.{sum_by-filter_both, fold-map}
 use Rattle.book_model.specs.declared.bill.WorkRows.{WorkRows}
-use Rattle.book_model.specs.declared.detail.Detail.{Detail}
-use Rattle.book_model.specs.declared.fault.LedgerFault.{LedgerFault}
-use Rattle.book_model.specs.declared.fault.LedgerFault.TheVariants.{Memory}
-use Rattle.book_model.specs.declared.row.ChargeRow.{ChargeRow}
 use Rattle.book_model.specs.declared.row.RowKey.{RowKey}
-use Rattle.book_model.specs.Words.{AreRows, IsDay, details_outcome, is_step, jobs_of, steps_of}
-use Rattle.book_model.specs.Words.{work_rows}
-use Rattle.book_core.specs.Calls.{IsCall}
-use Rattle.book_core.specs.Ledgers.{Seen}
+use Rattle.book_model.specs.Words.{Priced, AreRows, IsDay, details_outcome, is_step, jobs_of}
+use Rattle.book_model.specs.Words.{steps_of, work_rows}
+use Rattle.book_core.specs.Words.{IsCall, Seen}
 use Rattle.book_core.proofs.KeyedRowLemmas.{rows_under_keys}
 use Rattle.book_core.proofs.ListLimits.{rows_shown, sum_by-rows_of_le}
-use Rattle.book_lists.specs.Cursors.{Folds}
-use Rattle.book_lists.proofs.CursorLemmas.{map_same}
-use Rattle.book_lists.proofs.ReadingLemmas.{by_names}
-use Rattle.book_lists.proofs.ShownLemmas.{answers, answers_none, both_shown, refused_next, shown}
-use Rattle.book_lists.proofs.ShownLemmas.{then_stays}
-use Rattle.book_lists.proofs.WritingLemmas.{same_value}
 use Rattle.book_reports.specs.declared.bill_work.WorkSums.{WorkSums}
-use Rattle.book_reports.specs.BillWork.{AreWork, IsWorkOf, work_outcome, work_seen, work_shown}
-use Rattle.book_reports.specs.BookTexts.{closed_through, closed_through_outcome, shown_by}
+use Rattle.book_reports.proofs.Words.{Detail, LedgerFault, Memory, ChargeRow, Folds, map_same}
+use Rattle.book_reports.proofs.Words.{by_names, answers, answers_none, both_shown, refused_next}
+use Rattle.book_reports.proofs.Words.{shown, then_stays, same_value, work_outcome, work_seen}
+use Rattle.book_reports.proofs.Words.{work_shown, closed_through, closed_through_outcome, shown_by}
+use Rattle.book_reports.specs.BillWork.{AreWork, IsWorkOf}
 use Rattle.book_reports.specs.WorkSums.{AreSumsOf, prices_of}
 
 -- ---- the rows of all

@@ -1,9 +1,8 @@
 -- The tariffs of a bill: those of the days of a period, as they are kept of all tariffs, which are read
 -- one after another.
 use Rattle.std.specs.Prelude.{◌≡◌, ◌+ℤ◌, ℕ, ℤ, pos, int_lt, not, Bool, false, if◌then◌else◌, All}
-use Rattle.std.specs.Prelude.{List, [], Option, Ok}
-use Rattle.std.specs.List.{filter_map}
-use Rattle.std.specs.Option.{option_map, option_map_or}
+use Rattle.std.specs.Prelude.{List, [], Option, Ok, filter_map, option_map}
+use Rattle.book_model.specs.Std.{option_map_or}
 use Rattle.book_model.specs.declared.bill.BilledTariff.{BilledTariff}
 use Rattle.book_model.specs.Words.{Book, IsDay, LetterheadSeen, Outcome, RulingSeen, billed_tariff}
 use Rattle.book_model.specs.Words.{letterhead_among, letterhead_shown, no_event, tariffs_from}

@@ -1,8 +1,6 @@
 -- The texts about books: each is read from a book, which is no event.
-use Rattle.std.specs.Prelude.{◌≡◌, ℕ, ℤ, if◌then◌else◌, List, Option, Some, None, Result}
-use Rattle.std.specs.Prelude.{Ok, Err, IfOk, IfErr}
-use Rattle.std.specs.Option.{ok_or}
-use Rattle.std.specs.Result.{MatchResult}
+use Rattle.std.specs.Prelude.{◌≡◌, ℕ, ℤ, if◌then◌else◌, List, Option, Some, None, Result, Ok, Err}
+use Rattle.std.specs.Prelude.{IfOk, IfErr, ok_or, MatchResult}
 use Rattle.std.specs.declared.alloc.AllocError.{AllocError}
 use Rattle.sha2.specs.Sha256.{sha256}
 use Rattle.smf_text.specs.Names.{is_name}
@@ -12,8 +10,8 @@ use Rattle.book_model.specs.declared.line.Line.{Line}
 use Rattle.book_model.specs.declared.row.ChargeRow.{ChargeRow}
 use Rattle.book_model.specs.Words.{Book, open_period, disputes_in, Outcome, no_event}
 use Rattle.book_model.specs.Words.{charges_outcome, adjustments_outcome, disputes_outcome}
-use Rattle.book_model.specs.Words.{periods_outcome, Naming, rows_for}
-use Rattle.book_model.specs.Words.{rulings_listed, tariff_text_on, trail_outcome}
+use Rattle.book_model.specs.Words.{periods_outcome, Naming, rows_for, rulings_listed}
+use Rattle.book_model.specs.Words.{tariff_text_on, trail_outcome}
 use Rattle.report_texts.specs.Statements.{statement_text}
 use Rattle.report_texts.specs.StatementTables.{statement_table}
 use Rattle.report_texts.specs.AdjustmentLists.{adjustment_list_text}
@@ -25,7 +23,6 @@ use Rattle.report_texts.specs.DisputeTables.{dispute_table}
 use Rattle.report_texts.specs.PeriodLists.{period_list_text}
 use Rattle.report_texts.specs.RulingLists.{ruling_list_text}
 use Rattle.report_texts.specs.RecordTexts.{record_text}
-pub use Rattle.book_lists.specs.Shown.{shown_by}
 use Rattle.book_reports.specs.declared.report.PeriodReport.{PeriodReport}
 use Rattle.book_reports.specs.declared.report.PeriodReport.TheVariants.{AdjustmentList, Statement}
 use Rattle.book_reports.specs.declared.report.PeriodReport.TheVariants.{AdjustmentTable}
@@ -33,13 +30,14 @@ use Rattle.book_reports.specs.declared.report.PeriodReport.TheVariants.{Statemen
 use Rattle.book_reports.specs.declared.report.Report.{Report}
 use Rattle.book_reports.specs.declared.report.Report.TheVariants.{Bill, Coverage, DisputeList}
 use Rattle.book_reports.specs.declared.report.Report.TheVariants.{DisputeTable, Focus, OfPeriod}
-use Rattle.book_reports.specs.declared.report.Report.TheVariants.{OfficePage}
-use Rattle.book_reports.specs.declared.report.Report.TheVariants.{PeriodList, PeriodPage, Record}
-use Rattle.book_reports.specs.declared.report.Report.TheVariants.{RulingList, TariffText}
+use Rattle.book_reports.specs.declared.report.Report.TheVariants.{OfficePage, PeriodList}
+use Rattle.book_reports.specs.declared.report.Report.TheVariants.{PeriodPage, Record, RulingList}
+use Rattle.book_reports.specs.declared.report.Report.TheVariants.{TariffText}
 use Rattle.book_reports.specs.Bills.{bill_answer}
 use Rattle.book_reports.specs.Coverage.{coverage_answer}
 use Rattle.book_reports.specs.FocusReports.{focus_answer}
 use Rattle.book_reports.specs.Pages.{office_page_answer, period_page_answer}
+pub use Rattle.book_lists.specs.Shown.{shown_by}
 pub use Rattle.book_reports.specs.Shown.{closed_through, closed_through_outcome}
 
 -- the centre that a text names, if it is a name

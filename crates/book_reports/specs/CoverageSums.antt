@@ -2,8 +2,7 @@
 use Rattle.std.specs.Prelude.{◌≡◌, ℕ, ℤ, All, List, [], map, Option, None, Some, unwrap_or}
 use Rattle.std.specs.BTreeMap.{is_at}
 use Rattle.std.specs.Map.{lookup}
-use Rattle.std.specs.Ordering.{int_cmp, ordering_then}
-use Rattle.std.specs.declared.cmp.Ordering.{Ordering}
+use Rattle.book_model.specs.Std.{int_cmp, ordering_then, Ordering}
 use Rattle.book_model.specs.Words.{IsDay, by_bytes, members, set_of}
 use Rattle.report_texts.specs.Coverage.{day_of_first, day_of_last, place_of, row_at, row_of}
 use Rattle.report_texts.specs.Coverage.{systems_of}

@@ -25,7 +25,6 @@ pub mod WhatIfTexts
 pub mod Figures
 pub mod Reports
 pub mod StreamedRulings
-pub mod StreamedAnswers
 pub mod StreamedDisputes
 pub mod StreamedDetails
 pub mod WorkSums

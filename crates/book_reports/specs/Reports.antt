@@ -4,8 +4,7 @@ use Rattle.std.specs.Prelude.{◌≡◌, ◌<◌, ℕ, List, length, take, Resul
 use Rattle.std.specs.Io.KnownBytes.{Appends}
 use Rattle.streams.specs.InputOutput.{Output}
 use Rattle.book_model.specs.declared.fault.LedgerFault.{LedgerFault}
-use Rattle.book_core.specs.Ledgers.{Books}
-use Rattle.book_core.specs.Calls.{IsCall}
+use Rattle.book_core.specs.Words.{Books, IsCall}
 use Rattle.book_lists.specs.declared.fault.ReportFault.{ReportFault}
 use Rattle.book_lists.specs.declared.fault.ReportFault.TheVariants.{Write}
 use Rattle.book_lists.specs.Faults.{report_fault_of}

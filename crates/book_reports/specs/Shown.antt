@@ -1,7 +1,6 @@
 -- The day that a period was closed through.
 use Rattle.std.specs.Prelude.{ℕ, ℤ, Option, Ok}
-use Rattle.book_model.specs.RulingAnswers.{through_of}
-use Rattle.book_model.specs.Words.{Book, Outcome, no_event}
+use Rattle.book_model.specs.Words.{through_of, Book, Outcome, no_event}
 
 -- the day that a period was closed through, if it is closed
 abbrev pub closed_through : Book → ℕ → Option ℤ

@@ -1,22 +1,21 @@
 -- The details of a period, or of one centre in it, as a list or as a table, which are written while
 -- they are read.
 use Rattle.std.specs.Prelude.{ℕ, ◌+◌, ◌<◌, ◌^◌, List, [], length, sum_by, Option, Result, ℤ}
+use Rattle.std.proofs.Common.{arith, length-append}
 use Rattle.book_model.specs.declared.detail.Detail.{Detail}
 use Rattle.book_model.specs.declared.fault.LedgerFault.{LedgerFault}
 use Rattle.book_model.specs.Words.{Book, Naming, Outcome, details_outcome, no_event}
-use Rattle.book_core.specs.Transition.{Transition}
+use Rattle.book_core.specs.Words.{Transition}
 use Rattle.report_texts.specs.DetailLists.{detail_head, detail_line, detail_list_text, detail_total}
-use Rattle.std.proofs.Common.{arith, length-append}
 use Rattle.report_texts.specs.Periods.{title_line}
 use Rattle.report_texts.specs.DetailTables.{detail_row, detail_table, details_heading}
 use Rattle.book_lists.specs.declared.fault.ReportFault.{ReportFault}
-use Rattle.book_lists.specs.Streamed.{WritesAnswerUntil}
-use Rattle.book_lists.specs.Streamed.{WritesSome}
+use Rattle.book_lists.specs.Streamed.{WritesAnswerUntil, WritesSome}
 use Rattle.book_reports.specs.declared.streamed_details.DetailReport.{DetailReport}
 use Rattle.book_reports.specs.declared.streamed_details.Sums.{Sums}
 use Rattle.book_reports.specs.declared.what_if.StatementForm.{StatementForm}
-use Rattle.book_reports.specs.declared.what_if.StatementForm.TheVariants as form
 use Rattle.book_reports.specs.BookTexts.{closed_through, shown_by}
+use Rattle.book_reports.specs.declared.what_if.StatementForm.TheVariants as form
 
 -- the text of some details, by the day that the period was closed through, if it was
 abbrev pub text_in : StatementForm → DetailReport → Option ℤ → List Detail → List ℕ

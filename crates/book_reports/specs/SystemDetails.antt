@@ -1,16 +1,14 @@
 -- The records that a period counts, each with the system that wrote it: a detail, and then what its
 -- trail says of the record.
 use Rattle.std.specs.Prelude.{◌≡◌, ℕ, List, [], map, Option, None, Some, Result, Ok, Err}
-use Rattle.std.specs.Option.{option_map}
-use Rattle.std.specs.Result.{MatchResult}
+use Rattle.std.specs.Prelude.{option_map, MatchResult}
 use Rattle.smf_frames.specs.Header.{header_of}
 use Rattle.book_model.specs.declared.detail.Detail.{Detail}
 use Rattle.book_model.specs.declared.fault.LedgerFault.{LedgerFault}
 use Rattle.book_model.specs.declared.fault.LedgerFault.TheVariants.{Memory, Reopen, Store}
 use Rattle.book_model.specs.declared.trail.Trail.{Trail}
-use Rattle.book_model.specs.RulingAnswers.{record_named}
-use Rattle.book_model.specs.Words.{Book, Naming, Outcome, details_outcome, next_detail_outcome}
-use Rattle.book_model.specs.Words.{no_event}
+use Rattle.book_model.specs.Words.{record_named, Book, Naming, Outcome, details_outcome}
+use Rattle.book_model.specs.Words.{next_detail_outcome, no_event}
 use Rattle.report_texts.specs.declared.coverage_rows.SystemDetail.{SystemDetail}
 use Rattle.book_lists.specs.Shown.{shown_by}
 

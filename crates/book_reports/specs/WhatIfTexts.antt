@@ -1,14 +1,13 @@
 -- What a period would have cost by another tariff, as a text about a book: which is no event.
 use Rattle.std.specs.Prelude.{ℕ, ℤ, List, Option, Some, None, Result, Ok, Err}
 use Rattle.sha2.specs.Sha256.{sha256}
-use Rattle.tariff_rules.specs.declared.fault.TariffFault.{TariffFault}
 use Rattle.book_model.specs.declared.fault.LedgerFault.{LedgerFault}
 use Rattle.book_model.specs.declared.fault.LedgerFault.TheVariants.{TariffRefused}
 use Rattle.book_model.specs.declared.row.ChargeRow.{ChargeRow}
-use Rattle.book_model.specs.Words.{Book, Outcome, no_event, Terms, terms_in}
+use Rattle.book_model.specs.Words.{TariffFault, Book, Outcome, no_event, Terms, terms_in}
 use Rattle.book_model.specs.Words.{charges_outcome, what_if_outcome}
-use Rattle.report_texts.specs.WhatIfs.{centre_what_if_table, centre_what_if_text}
-use Rattle.report_texts.specs.WhatIfs.{what_if_table, what_if_text}
+use Rattle.report_texts.specs.WhatIfs.{centre_what_if_table, centre_what_if_text, what_if_table}
+use Rattle.report_texts.specs.WhatIfs.{what_if_text}
 use Rattle.book_reports.specs.declared.what_if.StatementForm.{StatementForm}
 use Rattle.book_reports.specs.declared.what_if.StatementForm.TheVariants.{Text, Table}
 use Rattle.book_reports.specs.declared.what_if.WhatIf.{WhatIf}

@@ -1,9 +1,8 @@
 -- The charge rows of steps and of jobs, as details are summed up one at a time.
 use Rattle.std.specs.Prelude.{◌≡◌, ◌<◌, ◌^◌, All, List, map}
-use Rattle.tariff_rules.specs.declared.priced.Priced.{Priced}
 use Rattle.book_model.specs.declared.detail.Detail.{Detail}
-use Rattle.book_model.specs.Words.{IsDay, jobs_of, steps_of}
-use Rattle.book_core.specs.KeyedRows.{keyed_rows}
+use Rattle.book_model.specs.Words.{Priced, IsDay, jobs_of, steps_of}
+use Rattle.book_core.specs.Words.{keyed_rows}
 use Rattle.book_reports.specs.declared.bill_work.WorkSums.{WorkSums}
 use Rattle.book_reports.specs.declared.streamed_details.Sums.{Sums}
 use Rattle.book_reports.specs.StreamedDetails.{sums_of}

@@ -4,14 +4,13 @@
 ghost use Rattle.std.specs.Prelude.{◌≡◌, ◌++◌, ◌∷◌, [], IfErr, IfOk, IfSome, None, OnOk};
 ghost use Rattle.std.specs.BTreeMap.{values};
 ghost use Rattle.std.specs.Option.{ForSome};
-ghost use Rattle.book_model.specs.Words as words;
 ghost use Rattle.book_model.specs.Words.{IsDay};
-ghost use Rattle.book_core.specs.Calls.{IsCall};
-ghost use Rattle.book_core.specs.KeyedRows.{keyed_rows};
-ghost use Rattle.book_reports.specs.BillWork as spec;
+ghost use Rattle.book_core.specs.Words.{IsCall, keyed_rows};
 ghost use Rattle.book_reports.specs.BillWork.{AreWork};
-ghost use Rattle.book_reports.specs.StreamedDetails as streamed;
 ghost use Rattle.book_reports.specs.WorkSums.{Prices, SumsFit};
+ghost use Rattle.book_model.specs.Words as words;
+ghost use Rattle.book_reports.specs.BillWork as spec;
+ghost use Rattle.book_reports.specs.StreamedDetails as streamed;
 
 use crate::book_texts::closed_through;
 use crate::streamed_details::{NO_SUMS, Sums, with_detail};

@@ -98,3 +98,59 @@ pub fn dispute_list<L: Ledger, W: Writer + Drop>(
 {
     write_report(alloc, ledger, Report::DisputeList, sink)
 }
+
+// Those below are calls that no command uses: they are here for programs that link this crate.
+
+/// Writes the statement of a period as a table of comma-separated values.
+pub fn statement_csv<L: Ledger, W: Writer + Drop>(
+    alloc: Global,
+    ledger: &mut L,
+    period: u16,
+    sink: &mut Sink<W>,
+) -> Result<(), ReportFault>
+    requires { has_failed sink.old ≡ false }
+    ensures report { IsReport (Report.OfPeriod PeriodReport.StatementTable period None)
+        (books L.seen ledger.old ledger.new) (output W.contents sink.old sink.new) result }
+    ensures failed { has_failed sink.new ≡ is_write_fault result }
+{
+    let asked = Report::OfPeriod {
+        report: PeriodReport::StatementTable,
+        period,
+        centre: None,
+    };
+    write_report(alloc, ledger, asked, sink)
+}
+
+/// Writes the adjustments of a period.
+pub fn adjustment_list<L: Ledger, W: Writer + Drop>(
+    alloc: Global,
+    ledger: &mut L,
+    period: u16,
+    sink: &mut Sink<W>,
+) -> Result<(), ReportFault>
+    requires { has_failed sink.old ≡ false }
+    ensures report { IsReport (Report.OfPeriod PeriodReport.AdjustmentList period None)
+        (books L.seen ledger.old ledger.new) (output W.contents sink.old sink.new) result }
+    ensures failed { has_failed sink.new ≡ is_write_fault result }
+{
+    let asked = Report::OfPeriod {
+        report: PeriodReport::AdjustmentList,
+        period,
+        centre: None,
+    };
+    write_report(alloc, ledger, asked, sink)
+}
+
+/// Writes the list of periods.
+pub fn period_list<L: Ledger, W: Writer + Drop>(
+    alloc: Global,
+    ledger: &mut L,
+    sink: &mut Sink<W>,
+) -> Result<(), ReportFault>
+    requires { has_failed sink.old ≡ false }
+    ensures report { IsReport Report.PeriodList (books L.seen ledger.old ledger.new)
+        (output W.contents sink.old sink.new) result }
+    ensures failed { has_failed sink.new ≡ is_write_fault result }
+{
+    write_report(alloc, ledger, Report::PeriodList, sink)
+}

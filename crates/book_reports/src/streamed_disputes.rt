@@ -4,44 +4,35 @@
 ghost use Rattle.std.specs.Prelude.{◌≡◌, IfOk, false};
 ghost use Rattle.streams.specs.Sinks.{has_failed, writer_of};
 ghost use Rattle.book_model.specs.Words.{IsDispute, dispute_shown};
-ghost use Rattle.book_core.specs.Calls.{IsCall, Reopens};
-ghost use Rattle.book_core.specs.Transition.{IsTransition};
+ghost use Rattle.book_core.specs.Words.{IsCall, Reopens, IsTransition};
 ghost use Rattle.book_lists.specs.Streamed.{refusal_in};
 ghost use Rattle.book_lists.specs.Writing.{is_write_fault};
 ghost use Rattle.book_reports.specs.StreamedDisputes.{WritesDisputes, WritesSomeDisputes};
-ghost use Rattle.book_reports.specs.StreamedDisputes as spec;
 ghost use Rattle.book_reports.specs.StreamedDisputes.{dispute_count_outcome, disputes_head};
 ghost use Rattle.book_reports.specs.StreamedDisputes.{disputes_part};
+ghost use Rattle.book_reports.specs.StreamedDisputes as spec;
 
+use crate::what_if::StatementForm;
 use book_core::{Dispute, Ledger, LedgerFault, Sink};
 use book_lists::{DisputeCursor, Lines, ReportFault, Step, fold, write_list};
 use report_texts::{dispute_list_head, dispute_rows, dispute_table_head, push_dispute};
 use std::alloc::{AllocError, Global};
 use streams::Writer;
 
-/// How the disputes are written.
-#[derive(Clone, Copy)]
-pub enum DisputeForm {
-    /// A list for people.
-    List,
-    /// A table of comma-separated values.
-    Table,
-}
-
 /// What stands above so many disputes.
-fn head_of(alloc: Global, form: DisputeForm, count: u64) -> Result<Vec<u8>, AllocError>
+fn head_of(alloc: Global, form: StatementForm, count: u64) -> Result<Vec<u8>, AllocError>
     ensures { IfOk result (λ head. head.items ≡ disputes_head form count) }
 {
     match form {
-        DisputeForm::List => Ok(dispute_list_head(alloc, count)?.into_bytes()),
-        DisputeForm::Table => dispute_table_head(alloc),
+        StatementForm::Text => Ok(dispute_list_head(alloc, count)?.into_bytes()),
+        StatementForm::Table => dispute_table_head(alloc),
     }
 }
 
 /// The lines of the dispute of this number.
 fn part_of(
     alloc: Global,
-    form: DisputeForm,
+    form: StatementForm,
     number: u64,
     dispute: &Dispute,
 ) -> Result<Vec<u8>, AllocError>
@@ -50,61 +41,20 @@ fn part_of(
         part.items ≡ disputes_part form number (dispute_shown dispute.now)) }
 {
     match form {
-        DisputeForm::List => {
+        StatementForm::Text => {
             let mut text = String::new(alloc);
             push_dispute(alloc, &mut text, dispute)?;
             Ok(text.into_bytes())
         }
-        DisputeForm::Table => dispute_rows(alloc, number, dispute),
+        StatementForm::Table => dispute_rows(alloc, number, dispute),
     }
-}
-
-/// Counts disputes.
-struct CountStep;
-
-impl Step<Dispute> for CountStep {
-    ghost use Rattle.std.specs.Prelude.{◌≡◌, length};
-
-    type State = u64;
-
-    ghost Takes = { λ step dispute. Unit {0} };
-
-    ghost Has = { λ step count disputes. count ≡ length disputes };
-
-    fn begin(&self, _alloc: Global) -> Result<u64, AllocError> {
-        Ok(0)
-    }
-
-    fn add(
-        &self,
-        _alloc: Global,
-        count: &mut u64,
-        _dispute: &Dispute,
-    ) -> Result<(), LedgerFault> {
-        let Some(more) = count.checked_add(1) else {
-            return Err(LedgerFault::Memory);
-        };
-        *count = more;
-        Ok(())
-    }
-}
-
-/// How many disputes there are. Each is read for it, one at a time.
-pub(crate) fn count_disputes<L: Ledger>(
-    alloc: Global,
-    ledger: &mut L,
-) -> Result<u64, LedgerFault>
-    ensures { IsCall (λ count. count) (L.seen ledger.old) (L.seen ledger.new) result
-        (dispute_count_outcome (L.seen ledger.old).naming) }
-{
-    fold(alloc, ledger, &DisputeCursor, &CountStep)
 }
 
 /// The lines of a dispute after so many others, where so many were counted. Only a ledger that lies
 /// has more.
 fn counted_part(
     alloc: Global,
-    form: DisputeForm,
+    form: StatementForm,
     count: u64,
     number: u64,
     dispute: &Dispute,
@@ -122,7 +72,7 @@ fn counted_part(
 /// How disputes are shown, of which so many were counted.
 #[derive(Drop)]
 struct DisputeLines {
-    form: DisputeForm,
+    form: StatementForm,
     count: u64,
 }
 
@@ -188,6 +138,22 @@ impl Lines<Dispute> for DisputeLines {
     ghost some = { λ lines. some_above_disputes lines.form lines.count };
 }
 
+/// How many disputes there are. Each is read for it, one at a time: they are numbered as they are
+/// where they are shown.
+pub(crate) fn count_disputes<L: Ledger>(
+    alloc: Global,
+    ledger: &mut L,
+) -> Result<u64, LedgerFault>
+    ensures { IsCall (λ count. count) (L.seen ledger.old) (L.seen ledger.new) result
+        (dispute_count_outcome (L.seen ledger.old).naming) }
+{
+    let lines = DisputeLines {
+        form: StatementForm::Text,
+        count: 0,
+    };
+    fold(alloc, ledger, &DisputeCursor, &lines)
+}
+
 /// Writes the disputes: all of them, or, before a fault, a prefix of their text that is not the
 /// whole. They are counted first, since their number stands above the list, so what the ledger
 /// refuses comes before any byte; nobody changes the books meanwhile. Nothing is written after a
@@ -195,7 +161,7 @@ impl Lines<Dispute> for DisputeLines {
 pub fn write_disputes<L: Ledger, W: Writer + Drop>(
     alloc: Global,
     ledger: &mut L,
-    form: DisputeForm,
+    form: StatementForm,
     sink: &mut Sink<W>,
 ) -> Result<(), ReportFault>
     ensures written { IsTransition (L.seen ledger.old) (L.seen ledger.new)

@@ -4,13 +4,11 @@
 ghost use Rattle.std.specs.Prelude.{◌≡◌, IfOk, false};
 ghost use Rattle.streams.specs.Sinks.{has_failed, writer_of};
 ghost use Rattle.book_model.specs.Words.{HasDays, ruling_shown};
-ghost use Rattle.book_core.specs.Calls.{Reopens};
-ghost use Rattle.book_core.specs.Transition.{IsTransition};
+ghost use Rattle.book_core.specs.Words.{Reopens, IsTransition};
 ghost use Rattle.report_texts.specs.RulingLists.{ruling_line};
 ghost use Rattle.book_lists.specs.Streamed.{refusal_in};
 ghost use Rattle.book_lists.specs.Writing.{is_write_fault};
-ghost use Rattle.book_reports.specs.StreamedAnswers.{WritesRulings};
-ghost use Rattle.book_reports.specs.StreamedRulings.{WritesSomeRulings};
+ghost use Rattle.book_reports.specs.StreamedRulings.{WritesRulings, WritesSomeRulings};
 
 use book_core::{Ledger, LedgerFault, ListedRuling, Sink};
 use book_lists::{Lines, ReportFault, RulingCursor, Step, write_list};

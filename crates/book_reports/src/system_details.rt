@@ -2,9 +2,8 @@
 
 ghost use Rattle.std.specs.Prelude.{◌≡◌, IfOk, IfSome};
 ghost use Rattle.smf_frames.specs.Header.{header_of};
-ghost use Rattle.book_model.specs.Words.{IsDay, IsTrail, IsUsage, trail_shown};
-ghost use Rattle.book_core.specs.Calls.{IsCall};
-ghost use Rattle.book_model.specs.Words.{no_event};
+ghost use Rattle.book_model.specs.Words.{IsDay, IsTrail, IsUsage, trail_shown, no_event};
+ghost use Rattle.book_core.specs.Words.{IsCall};
 ghost use Rattle.book_reports.specs.SystemDetails as spec;
 
 use book_core::{Detail, Ledger, LedgerFault, Trail};

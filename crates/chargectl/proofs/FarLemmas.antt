@@ -9,8 +9,6 @@ use Rattle.book_model.specs.Words.{Book, Event, Naming, Outcome, after_all}
 use Rattle.book_core.specs.Words.{Calls, IsCall, Seen, IsTransition, Then}
 use Rattle.book_core.proofs.TransitionLemmas.{work_then}
 use Rattle.book_lists.proofs.ReadingLemmas.{IsReading, Tells, goes_on, read_as, read_then}
-use Rattle.book_lists.proofs.ReadingLemmas.{IsReading, Tells, goes_on, read_as, read_then}
-use Rattle.book_lists.proofs.WritingLemmas.{same_value}
 use Rattle.book_lists.proofs.WritingLemmas.{same_value}
 use Rattle.book_reports.specs.declared.figures.OpenPeriod.{OpenPeriod}
 use Rattle.book_reports.specs.Figures.{open_outcome}

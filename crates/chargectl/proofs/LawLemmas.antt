@@ -8,13 +8,12 @@ use Rattle.book_model.specs.Words.{same_bytes, Book, Event, IsMadeByCalls, Namin
 use Rattle.book_model.specs.Words.{book_after, book_of}
 use Rattle.book_model.specs.declared.fault.LedgerFault.TheVariants.{Memory, Store, Reopen}
 use Rattle.book_core.specs.Words.{Calls, listed, MakesAnswered, Transition, NoEvent}
-use Rattle.book_core.proofs.FollowLemmas.{history_goes_on}
+use Rattle.book_core.proofs.FollowLemmas.{history_goes_on, none_answered}
 use Rattle.book_model.proofs.Lemmas.{books_follow_history}
 use Rattle.book_audit.specs.Copies.{IsAudited}
 use Rattle.book_audit.specs.declared.audited.Audited.{Audited}
 use Rattle.book_audit.specs.declared.audited.Audited.TheVariants.{Sound, Unsound}
 use Rattle.book_lists.specs.Streamed.{WritesAnswerUntil, WritesUntilOrRefuses}
-use Rattle.book_core.proofs.FollowLemmas.{none_answered}
 use Rattle.office.specs.declared.choosing.Chosen.{Chosen}
 use Rattle.office.specs.declared.request.Asked.TheVariants.{Import, ImportBytes, Report, WhatIf}
 use Rattle.office.specs.Outcomes.{is_hindered}
@@ -34,8 +33,8 @@ use Rattle.chargectl.specs.declared.choices.ListAnswered.{ListAnswered}
 use Rattle.chargectl.specs.declared.dated_rulings.DatedAnswer.{DatedAnswer}
 use Rattle.chargectl.specs.declared.answered.Answered.{Answered}
 use Rattle.chargectl.specs.declared.streamed_lists.StreamedList.{StreamedList}
-use Rattle.chargectl.specs.Choices.{ChoosesBy, ChoosesListed, ComesOfList, IsListFault}
-use Rattle.chargectl.specs.Choices.{front_of, list_answered}
+use Rattle.chargectl.specs.Choices.{ChoosesBy, ChoosesListed, ComesOfList, IsListFault, front_of}
+use Rattle.chargectl.specs.Choices.{list_answered}
 use Rattle.chargectl.specs.Commands.{AsksAndTells, AsksNothing, AsksOnceBy, ComesOf, IsFileFault}
 use Rattle.chargectl.specs.Commands.{may_change, once_answered}
 use Rattle.chargectl.specs.Audits.{AuditsBooks, BacksUp}
@@ -113,6 +112,12 @@ step_from same step = record {
 -- what is so where a name is that of books, and that nothing is done to others
 abbrev Where : List ℕ → List ℕ → (List Event → Type 0) → List Event → Type 0
 Where book name So made = (book ≡ name → So made) × (book ≢ name → made ≡ [])
+
+step_where : {naming : Naming} {history : List Event} {name book : List ℕ} {old new : Shelf}
+    {One Other : List Event → Type 0} → ((made : List Event) → One made → Other made)
+    → Step naming history name old new (Where book name One)
+    → Step naming history name old new (Where book name Other)
+step_where follow = step_as (λ made so. (λ same. follow made (so.0 same), so.1))
 
 -- such work, on the books of a history
 record Makes (Made : Transition) (history made : List Event) : Type 0 where
@@ -198,7 +203,7 @@ module _ (naming : Naming) (history : List Event) (name : List ℕ) (old new : S
       → IsDoneTo book (AsksOnceBy naming asked had told) old new
       → Step naming history name old new (Where book name (Follows naming history asked had told))
   asked_on book asked had told done =
-      step_as (λ made so. (λ same. follows_of made (so.0 same), so.1))
+      step_where follows_of
       (work_on book (AsksOnceBy naming asked had told)
       (once_answered naming asked had (response_by told)) done)
     where
@@ -247,7 +252,7 @@ module _ (naming : Naming) (history : List Event) (name : List ℕ) (old new : S
       → IsDoneTo book (ChoosesBy naming names told) old new
       → Step naming history name old new (Where book name (ChoicesFollow naming history names told))
   chosen_on book names (Ok chosen) done =
-      step_as (λ made so. (λ same. follows_of made (so.0 same), so.1))
+      step_where follows_of
       (work_on book (ChoosesBy naming names (Ok chosen)) (list_answered naming names (Ok chosen)) done)
     where
       follows_of : (made : List Event) → Makes (ChoosesBy naming names (Ok chosen)) history made
@@ -302,18 +307,15 @@ module _ (history : List Event) (name : List ℕ) (old new : Shelf)
       → Step old.naming history name old new
       (Where book name (AskedBy files old.naming history (Refuses book) request came))
   comes_on files book request (Ok told) comes =
-      step_as (λ made so. (
-        λ same. record {
-          asked = comes.asked;
-          words = comes.words;
-          had = comes.had;
-          dump = comes.dump;
-          told = comes.came.told;
-          follows = so.0 same;
-          says = comes.came.says;
-        },
-        so.1,
-      ))
+      step_where (λ made follows. record {
+        asked = comes.asked;
+        words = comes.words;
+        had = comes.had;
+        dump = comes.dump;
+        told = comes.came.told;
+        follows = follows;
+        says = comes.came.says;
+      })
       (opened_on old.naming history name old new answered held book (Refuses book) (follow book)
       (AsksOnceBy old.naming comes.asked comes.had)
       (Follows old.naming history comes.asked comes.had)
@@ -329,10 +331,8 @@ module _ (history : List Event) (name : List ℕ) (old new : Shelf)
       (Where book name
       (AsksOfHistory files old.naming history (Refuses book) request has holds Failed ended))
   asks_on files book request has holds Failed ended it =
-      step_as (λ made so. (
-        λ same. record { came = it.answered; asked = so.0 same; tells = it.tells },
-        so.1,
-      )) (comes_on files book request it.answered it.comes)
+      step_where (λ made so. record { came = it.answered; asked = so; tells = it.tells })
+      (comes_on files book request it.answered it.comes)
 
   -- a list of choices
   list_comes_on : (had : Option (List ℕ)) (book : List ℕ) (came : Result ListAnswered CommandFault)
@@ -340,17 +340,14 @@ module _ (history : List Event) (name : List ℕ) (old new : Shelf)
       → Step old.naming history name old new
       (Where book name (ListBy had old.naming history (Refuses book) came))
   list_comes_on had book (Ok told) comes =
-      step_as (λ made so. (
-        λ same. record {
-          names = comes.names;
-          listed = comes.listed;
-          all = comes.all;
-          told = comes.came.told;
-          follows = so.0 same;
-          says = comes.came.says;
-        },
-        so.1,
-      ))
+      step_where (λ made follows. record {
+        names = comes.names;
+        listed = comes.listed;
+        all = comes.all;
+        told = comes.came.told;
+        follows = follows;
+        says = comes.came.says;
+      })
       (opened_on old.naming history name old new answered held book (Refuses book) (follow book)
       (ChoosesBy old.naming comes.names) (ChoicesFollow old.naming history comes.names)
       (chosen_on old.naming history name old new answered held book comes.names) comes.came.told
@@ -371,10 +368,8 @@ module _ (history : List Event) (name : List ℕ) (old new : Shelf)
       → Step old.naming history name old new
       (Where book name (ListOfHistory had old.naming history (Refuses book) has holds Failed ended))
   list_on had book has holds Failed ended it =
-      step_as (λ made so. (
-        λ same. record { came = it.answered; listed = so.0 same; tells = it.tells },
-        so.1,
-      )) (list_comes_on had book it.answered it.comes)
+      step_where (λ made so. record { came = it.answered; listed = so; tells = it.tells })
+      (list_comes_on had book it.answered it.comes)
 
   -- books that are untouched, whatever else a command does
   still_on : (book touched : List ℕ) → IsUntouched touched old new
@@ -553,14 +548,8 @@ module _ (history : List Event) (name : List ℕ) (old new : Shelf)
       ))
       (still_on book book it.done.0)
   audits_on book has holds Failed (Err why) it =
-      step_as (λ made so. (
-        λ same. (
-          shelf_as (old.refuses book) (Refuses book) (follow book) why it.0,
-          it.2,
-          so.0 same,
-        ),
-        so.1,
-      ))
+      step_where
+      (λ made none. (shelf_as (old.refuses book) (Refuses book) (follow book) why it.0, it.2, none))
       (still_on book book it.1)
 
   backs_up_on : (book copy : List ℕ) (has holds : Option (List ℕ)) (Failed : Type 0)
@@ -592,21 +581,16 @@ module _ {S : Type 0} (shelf : S → Shelf) (history : List Event) (name : List 
       (λ made. ServesHistoryBy (shelf before).naming history (Refuses book) requests has holds Failed
       came made))
   serves_on book requests has holds Failed (Ok ended) it =
-      step_as (λ made so. (
-        λ same.
-            let made_it = so.0 same in
-            record {
-              told = it.told;
-              is = made_it.is;
-              made_so = made_it.made_so;
-              served = it.served;
-              all = it.all;
-              early = it.early;
-              cause = cause_as book it.served it.cause;
-              ends = it.ends;
-            },
-        so.1,
-      ))
+      step_where (λ made made_it. record {
+        told = it.told;
+        is = made_it.is;
+        made_so = made_it.made_so;
+        served = it.served;
+        all = it.all;
+        early = it.early;
+        cause = cause_as book it.served it.cause;
+        ends = it.ends;
+      })
       (work_on (shelf before).naming history name (shelf before) (shelf after) answered held book
       (ServesEach (shelf before).naming it.told) (each_answered (shelf before).naming it.told)
       (turn_done shelf book before after it.told it.turn))
@@ -629,20 +613,14 @@ module _ {S : Type 0} (shelf : S → Shelf) (history : List Event) (name : List 
       upgrades_on history name (shelf before) (shelf after) answered held Refuses follow book has holds
       Failed does.came does.does
   does_on files book (asks.Audit quiet) has holds Failed ended does =
-      step_as (λ made so. (
-        λ same. record { came = does.came; audits = so.0 same; ends = does.ends },
-        so.1,
-      ))
+      step_where (λ made so. record { came = does.came; audits = so; ends = does.ends })
       (audits_on history name (shelf before) (shelf after) answered held Refuses follow book has holds
       Failed does.came does.does)
   does_on files book (asks.BackUp copy quiet) has holds Failed ended does =
       backs_up_on history name (shelf before) (shelf after) answered held Refuses follow book copy.now
       has holds Failed does.came does.does
   does_on files book (asks.Serve port requests) has holds Failed ended does =
-      step_as (λ made so. (
-        λ same. record { came = does.came; serves = so.0 same; ends = does.ends },
-        so.1,
-      ))
+      step_where (λ made so. record { came = does.came; serves = so; ends = does.ends })
       (serves_on book requests has holds Failed does.came does.does)
   does_on files book (asks.List asked) has holds Failed ended does =
       list_asked history name (shelf before) (shelf after) answered held Refuses follow (list_of asked)

@@ -1,7 +1,6 @@
 -- How connections are served.
-use Rattle.std.proofs.Common.{◌≡◌, ◌∙◌, Bool, true, false, List, [], ◌∷◌, ℕ, ◌+◌, refl, sym}
-use Rattle.std.proofs.Common.{Option, Some, None, Result, Ok, Err, arith, inl, inr, subst}
-use Rattle.std.proofs.Common.{unwrap_or, IfErr}
+use Rattle.std.proofs.Common.{◌≡◌, ◌∙◌, Bool, true, false, List, [], ◌∷◌, ℕ, ◌+◌, refl, sym, Option}
+use Rattle.std.proofs.Common.{Some, None, Result, Ok, Err, arith, inl, inr, subst, unwrap_or, IfErr}
 use Rattle.streams.specs.InputOutput.{WriterSeen}
 use Rattle.book_model.specs.Words.{AreMadeOf, Book, Event, Naming}
 use Rattle.book_core.specs.Words.{MakesAnswered, Transition, NoEvent}

@@ -23,7 +23,7 @@ use Rattle.command_line.specs.declared.request.PeriodWords.{PeriodWords}
 use Rattle.command_line.specs.declared.request.ReportAsked.{ReportAsked}
 use Rattle.command_line.specs.declared.request.Ruling.{Ruling}
 use Rattle.command_line.specs.declared.request.Words.{Words}
-use Rattle.report_rows.specs.Abouts.{report_about}
+use Rattle.report_rows.specs.ReportRows.{report_about}
 use Rattle.report_rows.specs.declared.about.About.{About}
 use Rattle.program_output.specs.Names.{name_in}
 use Rattle.without_books.specs.declared.command_fault.CommandFault.{CommandFault}

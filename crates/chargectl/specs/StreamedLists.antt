@@ -9,15 +9,11 @@ use Rattle.book_core.specs.Words.{MakesAnswered}
 use Rattle.book_lists.specs.declared.fault.ReportFault.{ReportFault}
 use Rattle.book_lists.specs.declared.fault.ReportFault.TheVariants.{Write}
 use Rattle.book_lists.specs.Writing.{is_write_fault}
-use Rattle.book_reports.specs.declared.streamed_disputes.DisputeForm.{DisputeForm}
-use Rattle.book_reports.specs.declared.streamed_disputes.DisputeForm.TheVariants as disputes
 use Rattle.book_reports.specs.declared.what_if.StatementForm.{StatementForm}
-use Rattle.book_reports.specs.declared.what_if.StatementForm.TheVariants as form
 use Rattle.book_reports.specs.BookTexts.{ruling_text}
-use Rattle.book_reports.specs.StreamedAnswers.{answered_by}
+use Rattle.book_reports.specs.StreamedRulings.{answered_by, WritesSomeRulings}
 use Rattle.book_reports.specs.StreamedDetails.{WritesSomeDetails, detail_answer}
 use Rattle.book_reports.specs.StreamedDisputes.{WritesSomeDisputes, dispute_report}
-use Rattle.book_reports.specs.StreamedRulings.{WritesSomeRulings}
 use Rattle.command_line.specs.declared.request.ReportAsked.{ReportAsked}
 use Rattle.named_books.specs.declared.repository.RepositoryFault.{RepositoryFault}
 use Rattle.named_books.specs.Shelves.{Shelf, ComesBy, IsOpened, IsThere, IsUntouched}
@@ -27,8 +23,8 @@ use Rattle.without_books.specs.Faults.{shelf_fault}
 use Rattle.chargectl.specs.declared.streamed_lists.StreamedList.{StreamedList}
 use Rattle.chargectl.specs.Commands.{IsFileFault, IsRefusedBy, about_of, first_fault}
 use Rattle.report_rows.specs.declared.about.About.{About}
-use Rattle.report_rows.specs.declared.about.About.TheVariants as about
 use Rattle.report_rows.specs.declared.report_row.ReportName.{ReportName}
+use Rattle.report_rows.specs.declared.about.About.TheVariants as about
 use Rattle.report_rows.specs.declared.report_row.ReportName.TheVariants as report
 use Rattle.without_books.specs.declared.command_fault.CommandFault.TheVariants as fault
 use Rattle.chargectl.specs.declared.streamed_lists.StreamedList.TheVariants as list
@@ -52,11 +48,6 @@ pub record ListsOpen (list : StreamedList) (held holds : Option (List ℕ)) (had
   pub some : WritesSomeOf list held holds told
   pub failed : had ≡ false → has ≡ is_write_fault told
 
--- a list of disputes in this form
-abbrev pub dispute_form : StatementForm → DisputeForm
-dispute_form form.Text = disputes.List
-dispute_form form.Table = disputes.Table
-
 -- the list of a name: of a period, of one centre or of the whole office; or of the books
 abbrev pub list_of_centre : ReportName → StatementForm → ℕ → Option (List ℕ) → Option StreamedList
 list_of_centre report.Details form period centre =
@@ -64,7 +55,7 @@ list_of_centre report.Details form period centre =
 list_of_centre name form period centre = None
 
 abbrev pub list_of_office : ReportName → StatementForm → Option StreamedList
-list_of_office report.Disputes form = Some (list.Disputes (dispute_form form))
+list_of_office report.Disputes form = Some (list.Disputes form)
 list_of_office report.Rulings form = Some list.Rulings
 list_of_office name form = None
 

@@ -4,15 +4,14 @@
 
 ghost use Rattle.std.specs.Prelude.{◌≡◌, None};
 ghost use Rattle.streams.specs.Failures.{HasFailed};
-ghost use Rattle.book_core.specs.Transition.{IsTransition};
+ghost use Rattle.book_core.specs.Words.{IsTransition};
 ghost use Rattle.office.specs.Answers.{answer_text};
 ghost use Rattle.office.specs.Requests.{IsAskableUnread, response_by, response_of};
 ghost use Rattle.office.proofs.AskLemmas.{askable_once};
 ghost use Rattle.without_books.specs.FirstBytes.{left_of};
-ghost use Rattle.chargectl.specs.Commands as spec;
 ghost use Rattle.chargectl.specs.Commands.{AsksOnce, once_answered, ComesOf, IsAnswered, IsPrinted};
-ghost use Rattle.chargectl.specs.Commands.{IsTold, Tells, answer_of};
-ghost use Rattle.chargectl.specs.Commands.{ends_by};
+ghost use Rattle.chargectl.specs.Commands.{IsTold, Tells, answer_of, ends_by};
+ghost use Rattle.chargectl.specs.Commands as spec;
 
 use crate::answered::Answered;
 use crate::asked_rulings::asked_ruling;

@@ -2,10 +2,9 @@
 //! one call.
 
 ghost use Rattle.std.specs.Prelude.{◌≡◌, IfErr, IfOk, false};
-ghost use Rattle.std.specs.List.{list_all};
-ghost use Rattle.std.specs.Option.{option_map_or};
-ghost use Rattle.tariff_rules.specs.TariffFile.{terms_in};
-ghost use Rattle.book_core.specs.Calls.{IsCall};
+ghost use Rattle.book_model.specs.Std.{list_all, option_map_or};
+ghost use Rattle.book_model.specs.Words.{terms_in};
+ghost use Rattle.book_core.specs.Words.{IsCall};
 ghost use Rattle.office.specs.Requests.{response_by};
 ghost use Rattle.chargectl.specs.Far as spec;
 

@@ -1,10 +1,7 @@
 //! The commands that ask books for a report. Faults are found in the order of `book_commands`: a
 //! date or a name, the books, the file of a tariff, and what the books say.
 
-ghost use Rattle.std.specs.Prelude.{◌≡◌, option_map};
-ghost use Rattle.smf_text.specs.Day.{day_of_text_of};
-ghost use Rattle.report_rows.specs.declared.about.About.TheVariants.{OfDay, OfRecord};
-ghost use Rattle.program_output.specs.Names.{name_in};
+ghost use Rattle.std.specs.Prelude.{◌≡◌};
 ghost use Rattle.without_books.specs.Inputs.{Files};
 ghost use Rattle.chargectl.specs.Commands as spec;
 ghost use Rattle.chargectl.specs.Commands.{ComesOf};
@@ -61,28 +58,14 @@ pub(crate) fn about_of(words: Words<'_>) -> Option<About>
         }
         Words::OfPeriod(period) => Some(About::OfPeriod(period)),
         Words::OfOffice => Some(About::OfOffice),
-        Words::OfDay(date) => about_day(date),
-        Words::OfRecord(name) => about_record(name),
-    }
-}
-
-/// The record of a name. `None`: the text is no name.
-fn about_record(name: &str) -> Option<About>
-    ensures { result ≡ option_map OfRecord (name_in name.now) }
-{
-    match name_of_text(name) {
-        Some(named) => Some(About::OfRecord(named)),
-        None => None,
-    }
-}
-
-/// The tariff of a day. `None`: the text is no day.
-fn about_day(date: &str) -> Option<About>
-    ensures { result ≡ option_map OfDay (day_of_text_of date.now) }
-{
-    match day_of_text(date) {
-        Some(day) => Some(About::OfDay(day)),
-        None => None,
+        Words::OfDay(date) => {
+            let day = day_of_text(date)?;
+            Some(About::OfDay(day))
+        }
+        Words::OfRecord(name) => {
+            let named = name_of_text(name)?;
+            Some(About::OfRecord(named))
+        }
     }
 }
 

@@ -1,7 +1,6 @@
 //! Serves the books over HTTP, to this machine only.
 
-ghost use Rattle.std.specs.Prelude.{◌≡◌, ◌++◌, codes, decimal, IfErr};
-ghost use Rattle.std.specs.Prelude.{Err, None, Ok, OnOk, true};
+ghost use Rattle.std.specs.Prelude.{◌≡◌, ◌++◌, codes, decimal, IfErr, Err, None, Ok, OnOk, true};
 ghost use Rattle.streams.specs.Failures.{HasFailed};
 ghost use Rattle.without_books.specs.ServedLines.{Gains, seen_of};
 ghost use Rattle.chargectl.specs.Requests.{IsServiceFault, Serves, ServesBy};

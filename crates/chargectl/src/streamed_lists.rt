@@ -5,25 +5,20 @@ ghost use Rattle.std.specs.Prelude.{◌≡◌, Err, IfErr, IsErr, OnErr, OnOk, f
 ghost use Rattle.std.specs.Io.KnownBytes.{Keeps};
 ghost use Rattle.streams.specs.Failures.{HasFailed};
 ghost use Rattle.streams.specs.Sinks.{has_failed, writer_of};
-ghost use Rattle.book_core.specs.Calls.{Reopens};
-ghost use Rattle.book_core.specs.Transition.{IsTransition};
-ghost use Rattle.book_lists.specs.Streamed.{WritesAnswerUntil};
-ghost use Rattle.book_lists.specs.Streamed.{refusal_in};
+ghost use Rattle.book_core.specs.Words.{Reopens, IsTransition};
+ghost use Rattle.book_lists.specs.Streamed.{WritesAnswerUntil, refusal_in};
 ghost use Rattle.book_lists.specs.Writing.{is_write_fault};
 ghost use Rattle.chargectl.specs.Commands.{IsFileFault, first_fault};
-ghost use Rattle.chargectl.specs.StreamedLists as spec;
 ghost use Rattle.chargectl.specs.StreamedLists.{ListsAsked, ListsBy, WritesSomeOf, list_answer};
+ghost use Rattle.chargectl.specs.StreamedLists as spec;
 
 use crate::report_commands::about_of;
 use book_core::{Ledger, Sink};
-use book_reports::{
-    DetailReport, DisputeForm, ReportFault, write_details, write_disputes, write_rulings,
-};
+use book_reports::{DetailReport, ReportFault, write_details, write_disputes, write_rulings};
 use command_line::ReportAsked;
 use named_books::{Opened, Repository, RepositoryFault, Visit};
 use office::StatementForm;
 use report_rows::{About, ReportName};
-use smf_text::Name;
 use std::alloc::Global;
 use streams::Writer;
 use without_books::{CommandFault, Ended, let_out};
@@ -33,46 +28,7 @@ use without_books::{CommandFault, Ended, let_out};
 pub(crate) enum StreamedList {
     Details(DetailReport),
     Rulings,
-    Disputes(DisputeForm),
-}
-
-fn dispute_form(form: StatementForm) -> DisputeForm
-    ensures { result ≡ spec.dispute_form form }
-{
-    match form {
-        StatementForm::Text => DisputeForm::List,
-        StatementForm::Table => DisputeForm::Table,
-    }
-}
-
-/// The list of a period, of one centre or of the whole office.
-fn list_of_centre(
-    name: ReportName,
-    form: StatementForm,
-    period: u16,
-    centre: Option<Name>,
-) -> Option<StreamedList>
-    ensures { result ≡ spec.list_of_centre name form period centre }
-{
-    match name {
-        ReportName::Details => Some(StreamedList::Details(DetailReport {
-            form,
-            period,
-            centre,
-        })),
-        _ => None,
-    }
-}
-
-/// The list of the books.
-fn list_of_office(name: ReportName, form: StatementForm) -> Option<StreamedList>
-    ensures { result ≡ spec.list_of_office name form }
-{
-    match name {
-        ReportName::Disputes => Some(StreamedList::Disputes(dispute_form(form))),
-        ReportName::Rulings => Some(StreamedList::Rulings),
-        _ => None,
-    }
+    Disputes(StatementForm),
 }
 
 /// The list of this name about that. `None`: there is none.
@@ -80,8 +36,19 @@ fn list_about(name: ReportName, form: StatementForm, about: About) -> Option<Str
     ensures { result ≡ spec.list_about name form about }
 {
     match about {
-        About::OfCentre { period, centre } => list_of_centre(name, form, period, centre),
-        About::OfOffice => list_of_office(name, form),
+        About::OfCentre { period, centre } => match name {
+            ReportName::Details => Some(StreamedList::Details(DetailReport {
+                form,
+                period,
+                centre,
+            })),
+            _ => None,
+        },
+        About::OfOffice => match name {
+            ReportName::Disputes => Some(StreamedList::Disputes(form)),
+            ReportName::Rulings => Some(StreamedList::Rulings),
+            _ => None,
+        },
         _ => None,
     }
 }

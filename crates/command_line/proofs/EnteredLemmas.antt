@@ -1,31 +1,28 @@
 -- Words in which clap finds no fault name a command of the table, and each of its words has its value.
-use Rattle.std.proofs.Common.{◌≡◌, ◌&&◌, ℕ, Bool, true, false, cond, List, [], ◌∷◌}
-use Rattle.std.proofs.Common.{map, Option, Some, None, ap, refl, sym, subst}
-use Rattle.std.specs.List.{find, fold, list_all}
-use Rattle.std.specs.Option.{option_map, option_map_or}
-use Rattle.std.specs.Str.{bytes_eq}
-use Rattle.std.specs.Prelude.{IsSomeAnd, codes, is_some, not}
-use Rattle.clap.specs.Faults.{entered_fault, fault_of, level_fault}
-use Rattle.clap.specs.Faults.{other_fault, step_fault, turn_fault, walk_fault, word_fault}
-use Rattle.clap.specs.Kinds.{Kinds, or_else}
+use Rattle.std.proofs.Common.{◌≡◌, ◌&&◌, ℕ, Bool, true, false, cond, List, [], ◌∷◌, map, Option}
+use Rattle.std.proofs.Common.{Some, None, ap, refl, sym, subst, find, fold, option_map, bytes_eq}
+use Rattle.std.proofs.Common.{IsSomeAnd, codes, is_some, not}
+use Rattle.clap.specs.Faults.{entered_fault, fault_of, other_fault, step_fault, turn_fault}
+use Rattle.clap.specs.Faults.{walk_fault, word_fault}
 use Rattle.clap.specs.Lexer.{long_of, short_of}
-use Rattle.clap.specs.Simple.{App, Shape, argument_words, built, entered}
-use Rattle.clap.specs.Simple.{label_of, names_of, rows_at, subcommand_of}
-use Rattle.clap.specs.Walk.{Held, Names, Outcome, Row, Rule, Step, Text, Waiting, Walk, after_flag}
-use Rattle.clap.specs.Walk.{after_step, answers_to, arg_by_index, bundle, done, idle, long_met}
-use Rattle.clap.specs.Walk.{arg_by_long, long_or_other, next, nothing_held, option, plain, plain_word}
-use Rattle.clap.specs.Walk.{positional, refused, rows_after, short_or_plain, stop_after, subcommand}
-use Rattle.clap.specs.Walk.{subcommand_met, subcommand_or_other, to_positional, trailing, value, waits}
-use Rattle.clap.specs.Walk.{walk_from, walked, walked_from, word_met}
+use Rattle.clap.specs.Simple.{argument_words, built, entered, label_of, names_of, rows_at}
+use Rattle.clap.specs.Simple.{subcommand_of}
+use Rattle.clap.specs.Walk.{Held, Outcome, Step, Waiting, Walk, after_flag, after_step, answers_to}
+use Rattle.clap.specs.Walk.{arg_by_index, bundle, done, idle, long_met, arg_by_long, long_or_other}
+use Rattle.clap.specs.Walk.{next, option, plain, plain_word, positional, refused, short_or_plain}
+use Rattle.clap.specs.Walk.{stop_after, subcommand, subcommand_met, subcommand_or_other}
+use Rattle.clap.specs.Walk.{to_positional, trailing, value, waits, walk_from, walked, walked_from}
+use Rattle.clap.specs.Walk.{word_met}
 use Rattle.clap.specs.declared.error.kind.ErrorKind.{ErrorKind}
-use Rattle.clap.specs.declared.error.kind.ErrorKind.TheVariants as kind
 use Rattle.command_line.specs.declared.known_commands.KnownCommand.{KnownCommand}
-use Rattle.command_line.specs.Given.{HasWords, HasWordsOf}
-use Rattle.command_line.specs.Known.{WordSeen, command_seen, known_table}
-use Rattle.command_line.specs.Shapes.{app_for, distinct, leaf}
+use Rattle.command_line.proofs.Shared.{list_all, option_map_or, level_fault, Kinds, or_else, App}
+use Rattle.command_line.proofs.Shared.{Shape, Names, Row, Rule, Text, nothing_held, rows_after}
+use Rattle.command_line.proofs.Shared.{HasWords, HasWordsOf, command_seen, app_for, distinct, leaf}
+use Rattle.command_line.specs.Known.{WordSeen, known_table}
 use Rattle.command_line.proofs.RowLemmas.{neither, no_kinds, true_false}
 use Rattle.command_line.proofs.LevelLemmas.{checks_passed, no_fault}
 use Rattle.command_line.proofs.GivenLemmas.{entered_given, leaves}
+use Rattle.clap.specs.declared.error.kind.ErrorKind.TheVariants as kind
 
 -- ---- no walk without a fault stops at `help`
 

@@ -1,34 +1,31 @@
 -- Each word of a command has its value after a parse without a fault.
-use Rattle.std.proofs.Common.{◌≡◌, ◌∙◌, ◌&&◌, ◌||◌, inl, inr, ℕ, Bool, true, false, cond, List, [], ◌∷◌}
-use Rattle.std.proofs.Common.{◌++◌, map, Some, None, refl, sym, ap, subst}
-use Rattle.std.specs.List.{find, list_all, list_any}
-use Rattle.std.specs.Str.{bytes_eq}
-use Rattle.std.specs.Prelude.{IsSomeAnd, codes, is_some}
-use Rattle.std.proofs.lemmas.Option.{same_Some}
-use Rattle.std.proofs.lemmas.Slice.Eq.{bytes_eq-Decides}
-use Rattle.clap.specs.Faults.{level_fault}
-use Rattle.clap.specs.Simple.{Shape, built_leaf, filled, filled_from, help_rule, help_shape, index_after}
+use Rattle.std.proofs.Common.{◌≡◌, ◌∙◌, ◌&&◌, ◌||◌, inl, inr, ℕ, Bool, true, false, cond, List, []}
+use Rattle.std.proofs.Common.{◌∷◌, ◌++◌, map, Some, None, refl, sym, ap, subst, find, bytes_eq}
+use Rattle.std.proofs.Common.{IsSomeAnd, codes, is_some}
+use Rattle.clap.specs.Simple.{built_leaf, filled, filled_from, help_rule, help_shape, index_after}
 use Rattle.clap.specs.Simple.{inherited, label_of, with_index}
 use Rattle.clap.specs.Values.{read_as, reading_of}
-use Rattle.clap.specs.ValueTests.{accepts}
-use Rattle.clap.specs.Walk.{Row, Rule, Text, answers_to, first_of, has_row, nothing_held, one_of, rows_after}
+use Rattle.clap.specs.Walk.{answers_to, has_row}
 use Rattle.clap.specs.declared.builder.value_parser.ValueParser.{ValueParser}
-use Rattle.clap.specs.declared.builder.value_parser.ValueParser.TheVariants as parser
 use Rattle.clap.proofs.ValueTestLemmas.{accepts-Accepts}
 use Rattle.clap.proofs.WalkLemmas.{list_any-map}
 use Rattle.command_line.specs.declared.known_commands.Argument.{Argument}
-use Rattle.command_line.specs.declared.known_commands.Argument.TheVariants as word
 use Rattle.command_line.specs.declared.known_commands.KnownCommand.{KnownCommand}
 use Rattle.command_line.specs.declared.known_commands.ValueKind.{ValueKind}
-use Rattle.command_line.specs.declared.known_commands.ValueKind.TheVariants as kind
-use Rattle.command_line.specs.Given.{HasValue, HasWord, HasWords}
-use Rattle.command_line.specs.Known.{command_seen, value_seen, word_seen}
+use Rattle.command_line.proofs.Shared.{list_all, list_any, same_Some, bytes_eq-Decides, level_fault}
+use Rattle.command_line.proofs.Shared.{Shape, accepts, Row, Rule, Text, first_of, nothing_held}
+use Rattle.command_line.proofs.Shared.{one_of, rows_after, HasWords, command_seen, distinct, leaf}
+use Rattle.command_line.specs.Given.{HasValue, HasWord}
+use Rattle.command_line.specs.Known.{value_seen, word_seen}
 use Rattle.command_line.specs.Requests.{IsFlag}
-use Rattle.command_line.specs.Shapes.{above, distinct, leaf, parser_of, rule_for, shape_for}
-use Rattle.command_line.proofs.RowLemmas.{In, OwnIn, Takes, flagged_takes, none_some}
-use Rattle.command_line.proofs.RowLemmas.{own_in, true_false, valued_takes}
+use Rattle.command_line.specs.Shapes.{above, parser_of, rule_for, shape_for}
+use Rattle.command_line.proofs.RowLemmas.{In, OwnIn, Takes, flagged_takes, none_some, own_in}
+use Rattle.command_line.proofs.RowLemmas.{true_false, valued_takes}
 use Rattle.command_line.proofs.LevelLemmas.{HasValueOf, NoFault, default_row, defaulted_has}
 use Rattle.command_line.proofs.LevelLemmas.{no_fault, required_row, row_value, rows_fit}
+use Rattle.clap.specs.declared.builder.value_parser.ValueParser.TheVariants as parser
+use Rattle.command_line.specs.declared.known_commands.Argument.TheVariants as word
+use Rattle.command_line.specs.declared.known_commands.ValueKind.TheVariants as kind
 
 -- a value that passed a parser
 abbrev Valued : Text → ValueParser → List Row → Type 0
@@ -82,28 +79,28 @@ word_given s highest i (word.Flag name help) words is own none =
     flag_given name.now (rows_after s.rules [] words)
     (value_given s t words own (flagged_takes s.args_override_self t) none
     (default_row s t words (defaulted_has (codes "false") [] t) is))
-word_given s highest i (word.InPlace valued) words is own none =
-    let t = built_rule highest i (word.InPlace valued) in
-    kind_given highest valued.kind valued.name.now (rows_after s.rules [] words)
+word_given s highest i (word.InPlace name help value) words is own none =
+    let t = built_rule highest i (word.InPlace name help value) in
+    kind_given highest value name.now (rows_after s.rules [] words)
     (value_given s t words own (valued_takes s.args_override_self t) none
     (required_row s t words none is))
-word_given s highest i (word.InPlaceOr valued text) words is own none =
-    let t = built_rule highest i (word.InPlaceOr valued text) in
-    kind_given highest valued.kind valued.name.now (rows_after s.rules [] words)
+word_given s highest i (word.InPlaceOr name help value text) words is own none =
+    let t = built_rule highest i (word.InPlaceOr name help value text) in
+    kind_given highest value name.now (rows_after s.rules [] words)
     (value_given s t words own (valued_takes s.args_override_self t) none
     (default_row s t words (defaulted_has text.now [] t) is))
-word_given s highest i (word.Named valued) words is own none =
-    let t = built_rule highest i (word.Named valued) in
-    kind_given highest valued.kind valued.name.now (rows_after s.rules [] words)
+word_given s highest i (word.Named name help value) words is own none =
+    let t = built_rule highest i (word.Named name help value) in
+    kind_given highest value name.now (rows_after s.rules [] words)
     (value_given s t words own (valued_takes s.args_override_self t) none
     (required_row s t words none is))
-word_given s highest i (word.NamedOr valued text) words is own none =
-    let t = built_rule highest i (word.NamedOr valued text) in
-    kind_given highest valued.kind valued.name.now (rows_after s.rules [] words)
+word_given s highest i (word.NamedOr name help value text) words is own none =
+    let t = built_rule highest i (word.NamedOr name help value text) in
+    kind_given highest value name.now (rows_after s.rules [] words)
     (value_given s t words own (valued_takes s.args_override_self t) none
     (default_row s t words (defaulted_has text.now [] t) is))
-word_given s highest i (word.NamedIfGiven valued) words is own none = tt
-word_given s highest i (word.InPlaceIfGiven valued) words is own none = tt
+word_given s highest i (word.NamedIfGiven name help value) words is own none = tt
+word_given s highest i (word.InPlaceIfGiven name help value) words is own none = tt
 
 words_given : (s : Shape) (highest : ℕ) (ws : List Argument) (i : ℕ) (words : List Text)
     → ((t : Rule) → In t (filled_from i (map (rule_for highest) ws ++ help_rule ∷ []))

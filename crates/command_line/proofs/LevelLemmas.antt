@@ -1,38 +1,27 @@
 -- A level without a fault: each argument that is required, or has a default, has its value.
-use Rattle.std.proofs.Common.{◌≡◌, ◌&&◌, ◌||◌, inl, inr, Bool, true, false, cond}
-use Rattle.std.proofs.Common.{List, [], ◌∷◌, ◌++◌, length, Some, None, refl, sym, ap, subst, arith}
-use Rattle.std.specs.List.{find, fold, list_any}
-use Rattle.std.specs.Option.{option_map, option_map_or}
-use Rattle.std.specs.Str.{bytes_eq}
-use Rattle.std.specs.Prelude.{not, option_and_then, slice_get}
-use Rattle.std.proofs.lemmas.Bool.{ne_eqb, not-false}
-use Rattle.std.proofs.lemmas.Slice.Eq.{bytes_eq-Decides}
+use Rattle.std.proofs.Common.{◌≡◌, ◌&&◌, ◌||◌, inl, inr, Bool, true, false, cond, List, [], ◌∷◌}
+use Rattle.std.proofs.Common.{◌++◌, length, Some, None, refl, sym, ap, subst, arith, find, fold}
+use Rattle.std.proofs.Common.{option_map, bytes_eq, not, option_and_then, slice_get, ne_eqb}
+use Rattle.std.proofs.lemmas.Bool.{not-false}
 use Rattle.clap.specs.Facts.{explicit_source, parser_of_value}
-use Rattle.clap.specs.Faults.{check_fault, default_fault}
-use Rattle.clap.specs.Faults.{defaults_fault, given_default_fault}
-use Rattle.clap.specs.Faults.{level_fault}
-use Rattle.clap.specs.Faults.{settle_fault}
-use Rattle.clap.specs.Faults.{values_fault, walk_fault}
-use Rattle.clap.specs.Kinds.{Kinds, check_kinds, or_else, request_kinds}
-use Rattle.clap.specs.Simple.{Shape}
+use Rattle.clap.specs.Faults.{check_fault, default_fault, defaults_fault, given_default_fault}
+use Rattle.clap.specs.Faults.{settle_fault, values_fault, walk_fault}
+use Rattle.clap.specs.Kinds.{check_kinds, request_kinds}
 use Rattle.clap.specs.Takes.{is_given}
 use Rattle.clap.specs.Values.{read_as}
-use Rattle.clap.specs.ValueTests.{accepts}
-use Rattle.clap.specs.Walk.{Names, Row, Rule, Text, action_of}
-use Rattle.clap.specs.Walk.{at_row, default_rows}
-use Rattle.clap.specs.Walk.{finished, first_of, has_row, is_empty}
-use Rattle.clap.specs.Walk.{more_values, nothing_held}
-use Rattle.clap.specs.Walk.{one_of}
-use Rattle.clap.specs.Walk.{reading_by, row_text, rows_after, settled}
-use Rattle.clap.specs.Walk.{walk, walk_from, with_default}
+use Rattle.clap.specs.Walk.{action_of, at_row, default_rows, finished, has_row, is_empty}
+use Rattle.clap.specs.Walk.{more_values, row_text, settled, walk, walk_from, with_default}
 use Rattle.clap.specs.Walk.{with_values}
 use Rattle.clap.specs.declared.builder.value_parser.Reading.{Reading}
-use Rattle.clap.specs.declared.error.kind.ErrorKind.TheVariants as kind
 use Rattle.clap.specs.declared.parser.matches.ValueSource.{ValueSource}
 use Rattle.clap.specs.declared.parser.matches.ValueSource.TheVariants.{DefaultValue}
 use Rattle.command_line.proofs.RowLemmas.{AllFit, Fits, In, OwnIn, Takes, first_passed, neither}
 use Rattle.command_line.proofs.RowLemmas.{no_kinds, passed_over, true_false, with_values_fits}
 use Rattle.command_line.proofs.WalkedRows.{settled_fits, walk_fits}
+use Rattle.command_line.proofs.Shared.{list_any, option_map_or, bytes_eq-Decides, level_fault}
+use Rattle.command_line.proofs.Shared.{Kinds, or_else, Shape, accepts, Names, Row, Rule, Text}
+use Rattle.command_line.proofs.Shared.{first_of, nothing_held, one_of, reading_by, rows_after}
+use Rattle.clap.specs.declared.error.kind.ErrorKind.TheVariants as kind
 
 -- ---- defaults
 

@@ -1,19 +1,17 @@
 -- How words are read.
-use Rattle.std.proofs.Common.{◌≡◌, List, [], Option, Some, None, Result, Err, sym}
-use Rattle.std.proofs.Common.{subst, inl, inr}
-use Rattle.std.specs.Prelude.{String, ok_or, IfSome, IsSome, IsSomeAnd}
-use Rattle.std.specs.Global.{Global}
-use Rattle.clap.specs.Kinds.{Kinds, HasKind}
+use Rattle.std.proofs.Common.{◌≡◌, List, [], Option, Some, None, Result, Err, sym, subst, inl, inr}
+use Rattle.std.proofs.Common.{String, ok_or, IfSome, IsSome, IsSomeAnd, Global}
+use Rattle.clap.specs.Kinds.{HasKind}
 use Rattle.clap.specs.Values.{kind_of}
-use Rattle.clap.specs.Walk.{Row, Text}
 use Rattle.clap.specs.declared.error.Error.{Error}
 use Rattle.clap.specs.declared.error.kind.ErrorKind.TheVariants.{OutOfMemory}
 use Rattle.command_line.specs.declared.fault.ArgumentFault.{ArgumentFault}
-use Rattle.command_line.specs.declared.fault.ArgumentFault.TheVariants as fault
 use Rattle.command_line.specs.declared.request.Request.{Request}
 use Rattle.command_line.specs.Known.{IsReadBy, IsFaultOf}
 use Rattle.command_line.specs.Requests.{IsRequest}
 use Rattle.command_line.proofs.RowLemmas.{true_false}
+use Rattle.command_line.proofs.Shared.{Kinds, Row, Text}
+use Rattle.command_line.specs.declared.fault.ArgumentFault.TheVariants as fault
 
 -- clap found no fault, and the matches are a request
 read_ok_or : (met : Option (Text × List Row)) (kinds : Kinds) (text : String Global)

@@ -1,26 +1,21 @@
 -- What the readers of clap's matches give.
-use Rattle.std.proofs.Common.{◌≡◌, ◌∙◌, ◌<◌, ◌^◌, ◌||◌, ℕ, Bool, true, false, cond, List, []}
-use Rattle.std.proofs.Common.{◌∷◌, map, Option, Some, None, Result, Ok, Err, refl, sym, ap, subst}
-use Rattle.std.specs.Borrow.{Bor}
-use Rattle.std.specs.List.{find, list_any}
-use Rattle.std.specs.Option.{option_map}
-use Rattle.std.specs.Prelude.{IfSome, IsSome, IsSomeAnd, is_some, pos}
-use Rattle.std.specs.Str.{bytes_eq}
+use Rattle.std.proofs.Common.{◌≡◌, ◌∙◌, ◌<◌, ◌^◌, ◌||◌, ℕ, Bool, true, false, cond, List, [], ◌∷◌}
+use Rattle.std.proofs.Common.{map, Option, Some, None, Result, Ok, Err, refl, sym, ap, subst, Bor}
+use Rattle.std.proofs.Common.{find, option_map, IfSome, IsSome, IsSomeAnd, is_some, pos, bytes_eq}
 use Rattle.std.specs.Str.Parse.{ExplainsUnsignedError, HasUnsignedDigitsIfOk, IsNumeral, ParsesBool}
 use Rattle.std.specs.Str.Parse.{ParsesUnsigned, digits_value, without_leading_plus}
 use Rattle.std.specs.declared.num.ParseIntError.{ParseIntError}
-use Rattle.std.proofs.lemmas.Slice.Eq.{bytes_eq-Decides}
 use Rattle.clap.specs.Lexer.{without_minus}
-use Rattle.clap.specs.Matches.{ReadsOne, one_text}
+use Rattle.clap.specs.Matches.{ReadsOne}
 use Rattle.clap.specs.Values.{bool_text}
-use Rattle.clap.specs.Walk.{Row, Text, first_of, one_of, rows_of}
+use Rattle.clap.specs.Walk.{rows_of}
 use Rattle.clap.specs.declared.parser.matches.Found.{Found}
 use Rattle.clap.proofs.CallerReads.{signed_reads}
-use Rattle.clap.proofs.WalkLemmas.{one_text-rows}
 use Rattle.command_line.specs.Given.{HasNumber, HasRate, NoneIs}
-use Rattle.command_line.specs.Requests.{IsFlag, IsLeftOut, IsNumber}
-use Rattle.command_line.specs.Requests.{IsText, Writes}
+use Rattle.command_line.specs.Requests.{IsFlag, IsLeftOut, IsNumber, IsText, Writes}
 use Rattle.command_line.proofs.RowLemmas.{none_some, true_false}
+use Rattle.command_line.proofs.Shared.{list_any, bytes_eq-Decides, one_text, Row, Text, first_of}
+use Rattle.command_line.proofs.Shared.{one_of, one_text-rows}
 
 -- ---- a text
 

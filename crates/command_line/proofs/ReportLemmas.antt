@@ -1,23 +1,17 @@
 -- The words of a report, in the table of the commands: a name that is no other command's is that of the
 -- report whose word it is, and has the words of its row.
 use Rattle.std.proofs.Common.{◌≡◌, ◌∙◌, Bool, true, false, cond, List, [], ◌∷◌, ◌++◌, map, Option}
-use Rattle.std.proofs.Common.{Some, None, refl, sym, ap, subst}
-use Rattle.std.specs.List.{find}
-use Rattle.std.specs.Option.{option_map}
-use Rattle.std.specs.Str.{bytes_eq}
-use Rattle.std.specs.Prelude.{IsSomeAnd}
-use Rattle.std.proofs.lemmas.Option.{same_Some}
-use Rattle.std.proofs.lemmas.Slice.Eq.{bytes_eq-Decides}
-use Rattle.clap.specs.Walk.{Row, Text}
-use Rattle.report_rows.specs.ReportRows as reports
+use Rattle.std.proofs.Common.{Some, None, refl, sym, ap, subst, find, bytes_eq, IsSomeAnd}
 use Rattle.report_rows.specs.ReportRows.{has_word, named_report, row_of}
 use Rattle.report_rows.specs.declared.report_row.ReportName.{ReportName}
-use Rattle.command_line.specs.Given.{HasWord, HasWords, HasWordsOf, NoneIs}
-use Rattle.command_line.specs.Known as known
+use Rattle.command_line.proofs.Shared.{same_Some, bytes_eq-Decides, Row, Text, HasWords, HasWordsOf}
+use Rattle.command_line.specs.Given.{HasWord, NoneIs}
 use Rattle.command_line.specs.Known.{WordSeen, chosen_by, commands_above, commands_below, if_csv}
 use Rattle.command_line.specs.Known.{if_prices, known_table, named_by, report_command, report_words}
 use Rattle.command_line.proofs.ReaderLemmas.{not_named}
 use Rattle.command_line.proofs.RowLemmas.{none_some}
+use Rattle.report_rows.specs.ReportRows as reports
+use Rattle.command_line.specs.Known as known
 
 -- a command has this name
 abbrev is_called : Text → Text × List WordSeen → Bool
@@ -37,36 +31,29 @@ passed (c ∷ table) more name none =
     go true same later = absurd (none.0 (sym ((bytes_eq-Decides c.0 name).0 same)))
     go false same later = later
 
--- of the commands of reports, the one that has the name is that of the report
-found : (names : List ReportName) (more : List (Text × List WordSeen)) (name : Text)
-    (report : ReportName) → find (has_word name) names ≡ Some report
-    → find (is_called name) (map report_command names ++ more) ≡ Some (report_command report)
-found [] more name report is = absurd (none_some report is)
-found (one ∷ names) more name report is =
-    go (has_word name one) is (found names more name report)
-  where
-    go : (b : Bool) → cond b (Some one) (find (has_word name) names) ≡ Some report
-        → (find (has_word name) names ≡ Some report
-        → find (is_called name) (map report_command names ++ more) ≡ Some (report_command report))
-        → cond b (Some (report_command one))
-        (find (is_called name) (map report_command names ++ more)) ≡ Some (report_command report)
-    go true is later = ap (option_map report_command) is
-    go false is later = later is
+-- the command of a report, or what comes after the reports
+abbrev met_by : Option ReportName → Option (Text × List WordSeen) → Option (Text × List WordSeen)
+met_by None later = later
+met_by (Some report) later = Some (report_command report)
 
--- and where none has it, they are passed over
+-- of the commands of reports, the one that has the name is that of the report, and where none has it,
+-- they are passed over
 passed_reports : (names : List ReportName) (more : List (Text × List WordSeen)) (name : Text)
-    → find (has_word name) names ≡ None
-    → find (is_called name) (map report_command names ++ more) ≡ find (is_called name) more
-passed_reports [] more name is = refl
-passed_reports (one ∷ names) more name is =
-    go (has_word name one) is (passed_reports names more name)
+    (which : Option ReportName) → find (has_word name) names ≡ which
+    → find (is_called name) (map report_command names ++ more)
+    ≡ met_by which (find (is_called name) more)
+passed_reports [] more name which is = ap (λ which. met_by which (find (is_called name) more)) is
+passed_reports (one ∷ names) more name which is =
+    go (has_word name one) is (passed_reports names more name which)
   where
-    go : (b : Bool) → cond b (Some one) (find (has_word name) names) ≡ None
-        → (find (has_word name) names ≡ None
-        → find (is_called name) (map report_command names ++ more) ≡ find (is_called name) more)
+    go : (b : Bool) → cond b (Some one) (find (has_word name) names) ≡ which
+        → (find (has_word name) names ≡ which
+        → find (is_called name) (map report_command names ++ more)
+        ≡ met_by which (find (is_called name) more))
         → cond b (Some (report_command one))
-        (find (is_called name) (map report_command names ++ more)) ≡ find (is_called name) more
-    go true is later = absurd (none_some one (sym is))
+        (find (is_called name) (map report_command names ++ more))
+        ≡ met_by which (find (is_called name) more)
+    go true is later = ap (λ which. met_by which (find (is_called name) more)) is
     go false is later = later is
 
 -- the report that is found has the word
@@ -130,7 +117,7 @@ words_of_report rows name report is above has =
     (subst (λ (met : Option (Text × List WordSeen)).
     IsSomeAnd met (λ command. HasWords rows command.1))
     (passed commands_above (map report_command reports.reports ++ commands_below) name above
-    ∙ found reports.reports commands_below name report (sym is)) has)
+    ∙ passed_reports reports.reports commands_below name (Some report) (sym is)) has)
 
 -- no other name has any
 pub no_words : (rows : List Row) (name : Text) → None ≡ named_report name
@@ -142,4 +129,4 @@ no_words rows name is above below has =
     (subst (λ (met : Option (Text × List WordSeen)).
     IsSomeAnd met (λ command. HasWords rows command.1))
     (passed commands_above (map report_command reports.reports ++ commands_below) name above
-    ∙ passed_reports reports.reports commands_below name (sym is)) has)
+    ∙ passed_reports reports.reports commands_below name None (sym is)) has)

@@ -1,35 +1,25 @@
 -- Rows of an argument that hold a value that passed.
-use Rattle.std.proofs.Common.{◌≡◌, ◌∙◌, ◌&&◌, ◌||◌, ◌⊎◌, inl, inr, ℕ, Bool, true, false, cond}
-use Rattle.std.proofs.Common.{List, [], ◌∷◌, ◌++◌, length, Some, None, refl, sym, ap, subst}
-use Rattle.std.specs.List.{find, list_any}
-use Rattle.std.specs.Str.{bytes_eq}
-use Rattle.std.specs.Prelude.{◌+◌, codes, not, min}
-use Rattle.std.proofs.lemmas.Option.{same_Some}
-use Rattle.std.proofs.lemmas.Slice.Eq.{bytes_eq-Decides}
+use Rattle.std.proofs.Common.{◌≡◌, ◌∙◌, ◌&&◌, ◌||◌, ◌⊎◌, inl, inr, ℕ, Bool, true, false, cond, List}
+use Rattle.std.proofs.Common.{[], ◌∷◌, ◌++◌, length, Some, None, refl, sym, ap, subst, find}
+use Rattle.std.proofs.Common.{bytes_eq, ◌+◌, codes, not, min}
 use Rattle.clap.specs.Facts.{parser_of_value}
-use Rattle.clap.specs.Faults.{repeat_fault, set_fault}
-use Rattle.clap.specs.Faults.{use_fault, values_fault}
-use Rattle.clap.specs.Kinds.{Kinds, or_else, range_kinds, value_kinds}
-use Rattle.clap.specs.Kinds.{values_kinds}
+use Rattle.clap.specs.Faults.{repeat_fault, set_fault, use_fault, values_fault}
+use Rattle.clap.specs.Kinds.{range_kinds, value_kinds, values_kinds}
 use Rattle.clap.specs.Matches.{count_text}
 use Rattle.clap.specs.Values.{refused_kind}
-use Rattle.clap.specs.ValueTests.{accepts}
-use Rattle.clap.specs.Walk.{Row, Rule, Text}
-use Rattle.clap.specs.Walk.{at_row, count_of}
-use Rattle.clap.specs.Walk.{more_values, new_count}
-use Rattle.clap.specs.Walk.{reading_by}
-use Rattle.clap.specs.Walk.{used_as, values_or_missing}
-use Rattle.clap.specs.Walk.{with_count}
-use Rattle.clap.specs.Walk.{with_values, without}
+use Rattle.clap.specs.Walk.{at_row, count_of, more_values, new_count, used_as, values_or_missing}
+use Rattle.clap.specs.Walk.{with_count, with_values, without}
 use Rattle.clap.specs.declared.builder.action.ArgAction.{ArgAction}
-use Rattle.clap.specs.declared.builder.action.ArgAction.TheVariants.{Set, Append, SetTrue, SetFalse, Count}
+use Rattle.clap.specs.declared.builder.action.ArgAction.TheVariants.{Set, Append, SetTrue, SetFalse}
+use Rattle.clap.specs.declared.builder.action.ArgAction.TheVariants.{Count}
 use Rattle.clap.specs.declared.builder.value_parser.Reading.{Reading}
 use Rattle.clap.specs.declared.builder.value_parser.ValueParser.{ValueParser}
 use Rattle.clap.specs.declared.error.kind.ErrorKind.{ErrorKind}
-use Rattle.clap.specs.declared.error.kind.ErrorKind.TheVariants as kind
 use Rattle.clap.specs.declared.parser.matches.ValueSource.{ValueSource}
 use Rattle.clap.specs.declared.parser.matches.ValueSource.TheVariants.{CommandLine}
-use Rattle.command_line.specs.Shapes.{distinct}
+use Rattle.command_line.proofs.Shared.{list_any, same_Some, bytes_eq-Decides, Kinds, or_else}
+use Rattle.command_line.proofs.Shared.{accepts, Row, Rule, Text, reading_by, distinct}
+use Rattle.clap.specs.declared.error.kind.ErrorKind.TheVariants as kind
 
 -- ---- kinds of faults
 

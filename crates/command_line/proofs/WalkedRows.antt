@@ -1,32 +1,26 @@
 -- The rows that a walk without a fault leaves: those of an argument hold a value that passed.
-use Rattle.std.proofs.Common.{◌≡◌, ◌&&◌, ℕ, zero, suc, Bool, true, false, cond}
-use Rattle.std.proofs.Common.{List, [], ◌∷◌, length, drop, Option, Some, None, refl, sym, subst}
-use Rattle.std.specs.List.{find, fold}
-use Rattle.std.specs.Option.{option_map_or}
-use Rattle.std.specs.Str.{bytes_eq, chars}
-use Rattle.std.specs.Prelude.{not, is_some, encode_utf8, slice_get}
-use Rattle.clap.specs.Faults.{bundle_fault, bundle_step_fault}
-use Rattle.clap.specs.Faults.{flag_word_fault, flags_fault}
-use Rattle.clap.specs.Faults.{long_fault, option_fault, positional_fault, react_fault}
-use Rattle.clap.specs.Faults.{other_fault, settle_fault, short_fault, step_fault, stray_fault}
-use Rattle.clap.specs.Faults.{turn_fault, use_fault, walk_fault, word_fault}
-use Rattle.clap.specs.Kinds.{Kinds, or_else}
+use Rattle.std.proofs.Common.{◌≡◌, ◌&&◌, ℕ, zero, suc, Bool, true, false, cond, List, [], ◌∷◌}
+use Rattle.std.proofs.Common.{length, drop, Option, Some, None, refl, sym, subst, find, fold}
+use Rattle.std.proofs.Common.{bytes_eq, chars, not, is_some, encode_utf8, slice_get}
+use Rattle.clap.specs.Faults.{bundle_fault, bundle_step_fault, flag_word_fault, flags_fault}
+use Rattle.clap.specs.Faults.{long_fault, option_fault, positional_fault, react_fault, other_fault}
+use Rattle.clap.specs.Faults.{settle_fault, short_fault, step_fault, stray_fault, turn_fault}
+use Rattle.clap.specs.Faults.{use_fault, walk_fault, word_fault}
 use Rattle.clap.specs.Lexer.{long_of, short_of}
-use Rattle.clap.specs.Simple.{Shape}
-use Rattle.clap.specs.Walk.{Held, Names, Outcome, Row, Rule, Step, Text, Waiting, Walk, action_of}
-use Rattle.clap.specs.Walk.{after_flag, after_step, arg_by_id, arg_by_index, arg_by_long, arg_by_short}
-use Rattle.clap.specs.Walk.{attached_value, bundle_met, bundle_step, done}
-use Rattle.clap.specs.Walk.{flag_met, has_long, has_short, idle}
-use Rattle.clap.specs.Walk.{is_pending, long_met, long_or_other}
-use Rattle.clap.specs.Walk.{option_met, option_word, plain, plain_word, positional, pushed, reacted}
-use Rattle.clap.specs.Walk.{reading_by, refused, settled, settled_rows, short_met}
-use Rattle.clap.specs.Walk.{short_or_plain, subcommand_met, subcommand_or_other, takes_several}
-use Rattle.clap.specs.Walk.{takes_values, to_positional, used, used_by_id, value, values_or_missing}
-use Rattle.clap.specs.Walk.{waits, walked, walked_from}
-use Rattle.clap.specs.Walk.{word_met, next, option, subcommand, trailing}
-use Rattle.clap.specs.declared.error.kind.ErrorKind.TheVariants as kind
+use Rattle.clap.specs.Walk.{Held, Outcome, Step, Waiting, Walk, action_of, after_flag, after_step}
+use Rattle.clap.specs.Walk.{arg_by_id, arg_by_index, arg_by_long, arg_by_short, attached_value}
+use Rattle.clap.specs.Walk.{bundle_met, bundle_step, done, flag_met, has_long, has_short, idle}
+use Rattle.clap.specs.Walk.{is_pending, long_met, long_or_other, option_met, option_word, plain}
+use Rattle.clap.specs.Walk.{plain_word, positional, pushed, reacted, refused, settled, settled_rows}
+use Rattle.clap.specs.Walk.{short_met, short_or_plain, subcommand_met, subcommand_or_other}
+use Rattle.clap.specs.Walk.{takes_several, takes_values, to_positional, used, used_by_id, value}
+use Rattle.clap.specs.Walk.{values_or_missing, waits, walked, walked_from, word_met, next, option}
+use Rattle.clap.specs.Walk.{subcommand, trailing}
 use Rattle.command_line.proofs.RowLemmas.{AllFit, Fits, OwnIn, Takes, neither, own_found}
 use Rattle.command_line.proofs.RowLemmas.{used_as_fits}
+use Rattle.command_line.proofs.Shared.{option_map_or, Kinds, or_else, Shape, Names, Row, Rule, Text}
+use Rattle.command_line.proofs.Shared.{reading_by}
+use Rattle.clap.specs.declared.error.kind.ErrorKind.TheVariants as kind
 
 -- ---- the words of a flag leave the rows
 

@@ -55,12 +55,12 @@ value_seen kind.Rate = rate
 
 abbrev pub word_seen : Argument → WordSeen
 word_seen (word.Flag name help) = flag name.now
-word_seen (word.InPlace valued) = place valued.name.now (value_seen valued.kind)
-word_seen (word.InPlaceOr valued text) = place_or valued.name.now (value_seen valued.kind) text.now
-word_seen (word.Named valued) = named valued.name.now (value_seen valued.kind)
-word_seen (word.NamedOr valued text) = named_or valued.name.now (value_seen valued.kind) text.now
-word_seen (word.NamedIfGiven valued) = named_if_given valued.name.now (value_seen valued.kind)
-word_seen (word.InPlaceIfGiven valued) = place_if_given valued.name.now (value_seen valued.kind)
+word_seen (word.InPlace name help value) = place name.now (value_seen value)
+word_seen (word.InPlaceOr name help value text) = place_or name.now (value_seen value) text.now
+word_seen (word.Named name help value) = named name.now (value_seen value)
+word_seen (word.NamedOr name help value text) = named_or name.now (value_seen value) text.now
+word_seen (word.NamedIfGiven name help value) = named_if_given name.now (value_seen value)
+word_seen (word.InPlaceIfGiven name help value) = place_if_given name.now (value_seen value)
 
 abbrev pub command_seen : KnownCommand → Text × List WordSeen
 command_seen known = (known.name.now, map word_seen known.words.now)

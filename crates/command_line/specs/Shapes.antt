@@ -13,7 +13,6 @@ use Rattle.clap.specs.declared.builder.value_parser.ValueParser.TheVariants as p
 use Rattle.command_line.specs.declared.known_commands.Argument.{Argument}
 use Rattle.command_line.specs.declared.known_commands.Argument.TheVariants as word
 use Rattle.command_line.specs.declared.known_commands.KnownCommand.{KnownCommand}
-use Rattle.command_line.specs.declared.known_commands.ValuedArgument.{ValuedArgument}
 use Rattle.command_line.specs.declared.known_commands.ValueKind.{ValueKind}
 use Rattle.command_line.specs.declared.known_commands.ValueKind.TheVariants as kind
 
@@ -26,27 +25,28 @@ parser_of highest (kind.UpTo most) = parser.Signed (pos 1) most
 parser_of highest kind.Rate = parser.Unsigned 0 highest
 
 -- what has a value
-abbrev pub value_rule : ℕ → ValuedArgument → Rule
-value_rule highest valued = record (new_rule valued.name.now) {
+abbrev pub value_rule : ℕ → Text → ValueKind → Rule
+value_rule highest name value = record (new_rule name) {
   action = Some Set;
   value_names = 1;
-  parser = Some (parser_of highest valued.kind);
+  parser = Some (parser_of highest value);
 }
 
 -- a word or an option of a command
 abbrev pub rule_for : ℕ → Argument → Rule
 rule_for highest (word.Flag name help) =
     record (new_rule name.now) { long = Some name.now; action = Some SetTrue }
-rule_for highest (word.InPlace valued) = record (value_rule highest valued) { required = true }
-rule_for highest (word.InPlaceOr valued text) =
-    record (value_rule highest valued) { defaults = text.now ∷ [] }
-rule_for highest (word.Named valued) =
-    record (value_rule highest valued) { long = Some valued.name.now; required = true }
-rule_for highest (word.NamedOr valued text) =
-    record (value_rule highest valued) { long = Some valued.name.now; defaults = text.now ∷ [] }
-rule_for highest (word.NamedIfGiven valued) =
-    record (value_rule highest valued) { long = Some valued.name.now }
-rule_for highest (word.InPlaceIfGiven valued) = value_rule highest valued
+rule_for highest (word.InPlace name help value) =
+    record (value_rule highest name.now value) { required = true }
+rule_for highest (word.InPlaceOr name help value text) =
+    record (value_rule highest name.now value) { defaults = text.now ∷ [] }
+rule_for highest (word.Named name help value) =
+    record (value_rule highest name.now value) { long = Some name.now; required = true }
+rule_for highest (word.NamedOr name help value text) =
+    record (value_rule highest name.now value) { long = Some name.now; defaults = text.now ∷ [] }
+rule_for highest (word.NamedIfGiven name help value) =
+    record (value_rule highest name.now value) { long = Some name.now }
+rule_for highest (word.InPlaceIfGiven name help value) = value_rule highest name.now value
 
 -- a command of the program
 abbrev pub shape_for : ℕ → KnownCommand → Shape

@@ -9,7 +9,8 @@ ghost use Rattle.command_line.specs.Shapes as spec;
 ghost use Rattle.command_line.specs.Shapes.{AreFor, AreCommandsOf, HasNoGlobals, IsOwn};
 
 use crate::fault::ArgumentFault;
-use crate::known_commands::{Argument, KNOWN_COMMANDS, KnownCommand, ValueKind, ValuedArgument};
+use crate::help_texts::Help;
+use crate::known_commands::{Argument, KNOWN_COMMANDS, KnownCommand, ValueKind};
 use crate::matched_request::matched_request;
 use crate::request::Request;
 use clap::builder::ValueParser;
@@ -33,15 +34,21 @@ fn parser_of<'a>(kind: ValueKind, highest: u32) -> ValueParser<'a>
     }
 }
 
-fn value_arg<'a>(alloc: Global, valued: ValuedArgument, highest: u32) -> Arg<'a>
-    ensures rule { rule_of result ≡ spec.value_rule highest valued }
+fn value_arg<'a>(
+    alloc: Global,
+    name: &'static str,
+    help: Help,
+    kind: ValueKind,
+    highest: u32,
+) -> Arg<'a>
+    ensures rule { rule_of result ≡ spec.value_rule highest name.now kind }
     ensures own { IsOwn result }
 {
-    Arg::new(alloc, valued.name)
-        .value_name(valued.help.shown())
-        .help(valued.help.text())
+    Arg::new(alloc, name)
+        .value_name(help.shown())
+        .help(help.text())
         .action(ArgAction::Set)
-        .value_parser(parser_of(valued.kind, highest))
+        .value_parser(parser_of(kind, highest))
 }
 
 fn clap_arg<'a>(alloc: Global, word: Argument, highest: u32) -> Arg<'a>
@@ -49,20 +56,25 @@ fn clap_arg<'a>(alloc: Global, word: Argument, highest: u32) -> Arg<'a>
     ensures own { IsOwn result }
 {
     match word {
-        Argument::Flag { name, help } => Arg::new(alloc, name)
+        Argument::Flag(name, help) => Arg::new(alloc, name)
             .long(name)
             .help(help.text())
             .action(ArgAction::SetTrue),
-        Argument::InPlace(valued) => value_arg(alloc, valued, highest).required(true),
-        Argument::InPlaceOr(valued, text) => value_arg(alloc, valued, highest).default_value(text),
-        Argument::Named(valued) => value_arg(alloc, valued, highest)
-            .long(valued.name)
-            .required(true),
-        Argument::NamedOr(valued, text) => value_arg(alloc, valued, highest)
-            .long(valued.name)
+        Argument::InPlace(name, help, kind) => {
+            value_arg(alloc, name, help, kind, highest).required(true)
+        }
+        Argument::InPlaceOr(name, help, kind, text) => value_arg(alloc, name, help, kind, highest)
             .default_value(text),
-        Argument::NamedIfGiven(valued) => value_arg(alloc, valued, highest).long(valued.name),
-        Argument::InPlaceIfGiven(valued) => value_arg(alloc, valued, highest),
+        Argument::Named(name, help, kind) => value_arg(alloc, name, help, kind, highest)
+            .long(name)
+            .required(true),
+        Argument::NamedOr(name, help, kind, text) => value_arg(alloc, name, help, kind, highest)
+            .long(name)
+            .default_value(text),
+        Argument::NamedIfGiven(name, help, kind) => {
+            value_arg(alloc, name, help, kind, highest).long(name)
+        }
+        Argument::InPlaceIfGiven(name, help, kind) => value_arg(alloc, name, help, kind, highest),
     }
 }
 

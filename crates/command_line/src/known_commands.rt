@@ -1,7 +1,6 @@
 //! The commands that the program knows, with their words and options.
 
 use crate::help_texts::Help;
-use report_rows::report_row;
 
 /// A command of the program.
 #[derive(Clone, Copy)]
@@ -12,31 +11,23 @@ pub(crate) struct KnownCommand {
     pub(crate) words: &'static [Argument],
 }
 
-/// A word or an option of a command.
+/// A word or an option of a command: its name, its help, and what its value may be.
 #[derive(Clone, Copy)]
 pub(crate) enum Argument {
     /// An option without a value.
-    Flag { name: &'static str, help: Help },
+    Flag(&'static str, Help),
     /// A value in its place.
-    InPlace(ValuedArgument),
+    InPlace(&'static str, Help, ValueKind),
     /// A value in its place, the last one, and what it is where it is left out.
-    InPlaceOr(ValuedArgument, &'static str),
+    InPlaceOr(&'static str, Help, ValueKind, &'static str),
     /// A value in its place, the last one, if it is given.
-    InPlaceIfGiven(ValuedArgument),
+    InPlaceIfGiven(&'static str, Help, ValueKind),
     /// A value after its name, which may not be left out.
-    Named(ValuedArgument),
+    Named(&'static str, Help, ValueKind),
     /// A value after its name, and what it is where it is left out.
-    NamedOr(ValuedArgument, &'static str),
+    NamedOr(&'static str, Help, ValueKind, &'static str),
     /// A value after its name, if it is given.
-    NamedIfGiven(ValuedArgument),
-}
-
-/// What has a value.
-#[derive(Clone, Copy)]
-pub(crate) struct ValuedArgument {
-    pub(crate) name: &'static str,
-    pub(crate) help: Help,
-    pub(crate) kind: ValueKind,
+    NamedIfGiven(&'static str, Help, ValueKind),
 }
 
 /// What a value may be.
@@ -61,180 +52,54 @@ const MOST_WAIT: i64 = 3_600;
 /// How many connections one `serve` may be asked to answer.
 const MOST_REQUESTS: i64 = 1_000_000;
 
-const BOOK: Argument = Argument::InPlace(ValuedArgument {
-    name: "book",
-    help: Help::Book,
-    kind: ValueKind::Text,
-});
-
-const DUMP: Argument = Argument::InPlace(ValuedArgument {
-    name: "file",
-    help: Help::Dump,
-    kind: ValueKind::Text,
-});
-
-const TARIFF: Argument = Argument::InPlace(ValuedArgument {
-    name: "file",
-    help: Help::Tariff,
-    kind: ValueKind::Text,
-});
-
-const COPY: Argument = Argument::InPlace(ValuedArgument {
-    name: "file",
-    help: Help::Copy,
-    kind: ValueKind::Text,
-});
-
-const PERIOD: Argument = Argument::InPlace(ValuedArgument {
-    name: "period",
-    help: Help::Period,
-    kind: ValueKind::AtMost(MOST_NUMBER),
-});
-
-const DATE: Argument = Argument::InPlace(ValuedArgument {
-    name: "date",
-    help: Help::Date,
-    kind: ValueKind::Text,
-});
-
-const FIRST_DAY: Argument = Argument::InPlace(ValuedArgument {
-    name: "date",
-    help: Help::FirstDay,
-    kind: ValueKind::Text,
-});
-
-const SHA256: Argument = Argument::InPlaceIfGiven(ValuedArgument {
-    name: "sha256",
-    help: Help::Sha256,
-    kind: ValueKind::Text,
-});
-
-const RECORD_NAME: Argument = Argument::InPlace(ValuedArgument {
-    name: "sha256",
-    help: Help::RecordName,
-    kind: ValueKind::Text,
-});
-
-const NAMES: Argument = Argument::NamedIfGiven(ValuedArgument {
-    name: "from",
-    help: Help::Names,
-    kind: ValueKind::Text,
-});
+const BOOK: Argument = Argument::InPlace("book", Help::Book, ValueKind::Text);
+const DUMP: Argument = Argument::InPlace("file", Help::Dump, ValueKind::Text);
+const TARIFF: Argument = Argument::InPlace("file", Help::Tariff, ValueKind::Text);
+const COPY: Argument = Argument::InPlace("file", Help::Copy, ValueKind::Text);
+const PERIOD: Argument = Argument::InPlace("period", Help::Period, ValueKind::AtMost(MOST_NUMBER));
+const DATE: Argument = Argument::InPlace("date", Help::Date, ValueKind::Text);
+const FIRST_DAY: Argument = Argument::InPlace("date", Help::FirstDay, ValueKind::Text);
+const SHA256: Argument = Argument::InPlaceIfGiven("sha256", Help::Sha256, ValueKind::Text);
+const RECORD_NAME: Argument = Argument::InPlace("sha256", Help::RecordName, ValueKind::Text);
+const NAMES: Argument = Argument::NamedIfGiven("from", Help::Names, ValueKind::Text);
 
 const LAYOUT: Argument = Argument::NamedOr(
-    ValuedArgument {
-        name: "layout",
-        help: Help::Layout,
-        kind: ValueKind::OneOf(&["rdw", "bdw"]),
-    },
+    "layout",
+    Help::Layout,
+    ValueKind::OneOf(&["rdw", "bdw"]),
     "rdw",
 );
 
-const QUIET: Argument = Argument::Flag {
-    name: "quiet",
-    help: Help::Quiet,
-};
+const QUIET: Argument = Argument::Flag("quiet", Help::Quiet);
+const DRY_RUN: Argument = Argument::Flag("dry-run", Help::DryRun);
+const CSV: Argument = Argument::Flag("csv", Help::Csv);
+const DISPUTE_CSV: Argument = Argument::Flag("csv", Help::DisputeCsv);
+const WAIT: Argument = Argument::NamedOr("wait", Help::Wait, ValueKind::AtMost(MOST_WAIT), "10");
+const CENTRE: Argument = Argument::NamedIfGiven("centre", Help::Centre, ValueKind::Text);
+const CPU: Argument = Argument::NamedOr("cpu", Help::Cpu, ValueKind::Rate, "0");
+const EXCP: Argument = Argument::NamedOr("excp", Help::Excp, ValueKind::Rate, "0");
+const RECORD: Argument = Argument::NamedOr("record", Help::Record, ValueKind::Rate, "0");
+const PRICES: Argument = Argument::NamedIfGiven("tariff", Help::Prices, ValueKind::Text);
+const OTHER_PRICES: Argument = Argument::NamedIfGiven("tariff", Help::OtherPrices, ValueKind::Text);
+const PORT: Argument = Argument::Named("port", Help::Port, ValueKind::UpTo(65_535));
 
-const DRY_RUN: Argument = Argument::Flag {
-    name: "dry-run",
-    help: Help::DryRun,
-};
+const REQUESTS: Argument =
+    Argument::Named("requests", Help::Requests, ValueKind::UpTo(MOST_REQUESTS));
 
-const CSV: Argument = Argument::Flag {
-    name: "csv",
-    help: Help::Csv,
-};
-
-const DISPUTE_CSV: Argument = Argument::Flag {
-    name: "csv",
-    help: Help::DisputeCsv,
-};
-
-const WAIT: Argument = Argument::NamedOr(
-    ValuedArgument {
-        name: "wait",
-        help: Help::Wait,
-        kind: ValueKind::AtMost(MOST_WAIT),
-    },
-    "10",
-);
-
-const CENTRE: Argument = Argument::NamedIfGiven(ValuedArgument {
-    name: "centre",
-    help: Help::Centre,
-    kind: ValueKind::Text,
-});
-
-const CPU: Argument = Argument::NamedOr(
-    ValuedArgument {
-        name: "cpu",
-        help: Help::Cpu,
-        kind: ValueKind::Rate,
-    },
-    "0",
-);
-
-const EXCP: Argument = Argument::NamedOr(
-    ValuedArgument {
-        name: "excp",
-        help: Help::Excp,
-        kind: ValueKind::Rate,
-    },
-    "0",
-);
-
-const RECORD: Argument = Argument::NamedOr(
-    ValuedArgument {
-        name: "record",
-        help: Help::Record,
-        kind: ValueKind::Rate,
-    },
-    "0",
-);
-
-const PRICES: Argument = Argument::NamedIfGiven(ValuedArgument {
-    name: "tariff",
-    help: Help::Prices,
-    kind: ValueKind::Text,
-});
-
-const OTHER_PRICES: Argument = Argument::NamedIfGiven(ValuedArgument {
-    name: "tariff",
-    help: Help::OtherPrices,
-    kind: ValueKind::Text,
-});
-
-const PORT: Argument = Argument::Named(ValuedArgument {
-    name: "port",
-    help: Help::Port,
-    kind: ValueKind::UpTo(65_535),
-});
-
-const REQUESTS: Argument = Argument::Named(ValuedArgument {
-    name: "requests",
-    help: Help::Requests,
-    kind: ValueKind::UpTo(MOST_REQUESTS),
-});
-
-const NUMBER_KIND: Argument = Argument::InPlace(ValuedArgument {
-    name: "kind",
-    help: Help::NumberKind,
-    kind: ValueKind::OneOf(&[
+const NUMBER_KIND: Argument = Argument::InPlace(
+    "kind",
+    Help::NumberKind,
+    ValueKind::OneOf(&[
         "frame", "ledger", "tariff", "damaged", "io", "busy", "exists", "word", "unsound", "log",
         "layout", "far",
     ]),
-});
-
-const NUMBER: Argument = Argument::InPlaceOr(
-    ValuedArgument {
-        name: "number",
-        help: Help::Number,
-        kind: ValueKind::AtMost(MOST_NUMBER),
-    },
-    "0",
 );
 
-/// The commands in the order of the program's help. Of reports the row has the word and the help.
+const NUMBER: Argument =
+    Argument::InPlaceOr("number", Help::Number, ValueKind::AtMost(MOST_NUMBER), "0");
+
+/// The commands in the order of the program's help. The commands of reports have the words that the
+/// rows of `report_rows` give them.
 pub(crate) static KNOWN_COMMANDS: [KnownCommand; 25] = [
     KnownCommand {
         name: "trial",
@@ -277,63 +142,63 @@ pub(crate) static KNOWN_COMMANDS: [KnownCommand; 25] = [
         words: &[BOOK, DRY_RUN, WAIT],
     },
     KnownCommand {
-        name: report_row::STATEMENT.word,
-        about: report_row::STATEMENT.about,
+        name: "statement",
+        about: "Prints what a period charges",
         words: &[BOOK, PERIOD, CSV, CENTRE, OTHER_PRICES, WAIT],
     },
     KnownCommand {
-        name: report_row::ADJUSTMENTS.word,
-        about: report_row::ADJUSTMENTS.about,
+        name: "adjustments",
+        about: "Prints what a period adds to closed periods and reverses in them",
         words: &[BOOK, PERIOD, CSV, CENTRE, WAIT],
     },
     KnownCommand {
-        name: report_row::DETAILS.word,
-        about: report_row::DETAILS.about,
+        name: "details",
+        about: "Prints each record that a period counts, and what it costs",
         words: &[BOOK, PERIOD, CSV, CENTRE, WAIT],
     },
     KnownCommand {
-        name: report_row::BILL.word,
-        about: report_row::BILL.about,
+        name: "bill",
+        about: "Prints the bill of a centre for a period, or what each centre owes",
         words: &[BOOK, PERIOD, CSV, CENTRE, WAIT],
     },
     KnownCommand {
-        name: report_row::FOCUS.word,
-        about: report_row::FOCUS.about,
+        name: "focus",
+        about: "Prints what a period charges as a table of cost and usage by FOCUS 1.0",
         words: &[BOOK, PERIOD, WAIT],
     },
     KnownCommand {
-        name: report_row::COVERAGE.word,
-        about: report_row::COVERAGE.about,
+        name: "coverage",
+        about: "Prints how many records a period counts of each day and system",
         words: &[BOOK, PERIOD, CSV, WAIT],
     },
     KnownCommand {
-        name: report_row::PAGE.word,
-        about: report_row::PAGE.about,
+        name: "page",
+        about: "Prints a period as a page for a browser",
         words: &[BOOK, PERIOD, WAIT],
     },
     KnownCommand {
-        name: report_row::DISPUTES.word,
-        about: report_row::DISPUTES.about,
+        name: "disputes",
+        about: "Prints the records in dispute",
         words: &[BOOK, DISPUTE_CSV, WAIT],
     },
     KnownCommand {
-        name: report_row::RECORD.word,
-        about: report_row::RECORD.about,
+        name: "record",
+        about: "Prints a record, how it was priced, and what became of it",
         words: &[BOOK, RECORD_NAME, WAIT],
     },
     KnownCommand {
-        name: report_row::PERIODS.word,
-        about: report_row::PERIODS.about,
+        name: "periods",
+        about: "Prints the periods",
         words: &[BOOK, WAIT],
     },
     KnownCommand {
-        name: report_row::RULINGS.word,
-        about: report_row::RULINGS.about,
+        name: "rulings",
+        about: "Prints the tariffs, the closes, the choices and the adoption",
         words: &[BOOK, WAIT],
     },
     KnownCommand {
-        name: report_row::TARIFF_TEXT.word,
-        about: report_row::TARIFF_TEXT.about,
+        name: "tariff-text",
+        about: "Prints the tariff file that begins on a day, byte for byte",
         words: &[BOOK, FIRST_DAY, WAIT],
     },
     KnownCommand {

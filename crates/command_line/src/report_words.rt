@@ -5,7 +5,7 @@ ghost use Rattle.report_rows.specs.ReportRows as reports;
 ghost use Rattle.command_line.specs.Given.{HasWord, HasWords};
 ghost use Rattle.command_line.specs.Known as known;
 ghost use Rattle.command_line.specs.Requests.{AsksReport, HasShape, IsForm, IsLeftOut, IsOfBooks};
-ghost use Rattle.command_line.specs.Requests.{NamesPeriod, is_table, rows_in};
+ghost use Rattle.command_line.specs.Requests.{NamesPeriod, rows_in};
 
 use crate::given_words::{flag_in, number_in, period_in, text_in};
 use crate::request::{BookRequest, PeriodWords, ReportAsked, Words};
@@ -13,23 +13,15 @@ use book_reports::StatementForm;
 use clap::ArgMatches;
 use report_rows::{ReportName, Shape, row_of};
 
-fn statement_form(csv: bool) -> StatementForm
-    ensures { is_table result ≡ csv }
-{
-    if csv {
-        StatementForm::Table
-    } else {
-        StatementForm::Text
-    }
-}
-
 /// The form that is asked for.
 fn asked_form(found: &ArgMatches<'_>) -> Option<StatementForm>
     ensures form { IfSome result (IsForm (rows_in found.now)) }
     ensures some { HasWord (rows_in found.now) known.csv → IsSome result }
 {
-    let csv = flag_in(found, "csv")?;
-    Some(statement_form(csv))
+    if flag_in(found, "csv")? {
+        return Some(StatementForm::Table);
+    }
+    Some(StatementForm::Text)
 }
 
 /// What a period charged, or what it would charge by the tariff that is named.

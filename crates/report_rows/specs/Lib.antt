@@ -1,3 +1,2 @@
--- The table of the reports, and then what report a name makes of what it is about.
+-- The table of the reports, and what report a name makes of what it is about.
 pub mod ReportRows
-pub mod Abouts

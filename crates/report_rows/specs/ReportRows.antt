@@ -7,6 +7,8 @@ use Rattle.book_reports.specs.declared.report.Report.{Report}
 use Rattle.book_reports.specs.declared.report.Report.TheVariants as made
 use Rattle.book_reports.specs.declared.what_if.StatementForm.{StatementForm}
 use Rattle.book_reports.specs.declared.what_if.StatementForm.TheVariants as form
+use Rattle.report_rows.specs.declared.about.About.{About}
+use Rattle.report_rows.specs.declared.about.About.TheVariants as about
 use Rattle.report_rows.specs.declared.report_row.BodyKind.{BodyKind}
 use Rattle.report_rows.specs.declared.report_row.BodyKind.TheVariants as body
 use Rattle.report_rows.specs.declared.report_row.ReportName.{ReportName}
@@ -42,128 +44,53 @@ row_seen row = record {
   kind = row.kind;
 }
 
--- The table.
+-- a report that is a text, wherever it is served, and no table
+abbrev pub text_row : List ℕ → Shape → Option (List ℕ) → Row
+text_row word shape path = record {
+  word = word;
+  shape = shape;
+  csv = false;
+  streamed = false;
+  by_prices = false;
+  path = path;
+  csv_path = None;
+  kind = body.Text;
+}
+
+-- one that is served as a text and as a table
+abbrev pub table_row : List ℕ → Shape → List ℕ → List ℕ → Row
+table_row word shape path csv_path =
+    record (text_row word shape (Some path)) { csv = true; csv_path = Some csv_path }
+
+-- The table: a row is one of these two, but for what it says.
 unfoldable pub row_of : ReportName → Row
-row_of report.Statement = record {
-  word = codes "statement";
-  shape = OfCentre;
-  csv = true;
-  streamed = false;
-  by_prices = true;
-  path = Some (codes "/statement/");
-  csv_path = Some (codes "/statement-csv/");
-  kind = body.Text;
-}
-row_of report.Adjustments = record {
-  word = codes "adjustments";
-  shape = OfCentre;
-  csv = true;
-  streamed = false;
-  by_prices = false;
-  path = Some (codes "/adjustments/");
-  csv_path = Some (codes "/adjustments-csv/");
-  kind = body.Text;
-}
-row_of report.Details = record {
-  word = codes "details";
-  shape = OfCentre;
-  csv = true;
-  streamed = true;
-  by_prices = false;
-  path = Some (codes "/details/");
-  csv_path = Some (codes "/details-csv/");
-  kind = body.Text;
-}
-row_of report.Bill = record {
-  word = codes "bill";
-  shape = OfCentre;
-  csv = true;
-  streamed = false;
-  by_prices = false;
-  path = None;
-  csv_path = None;
-  kind = body.Text;
-}
-row_of report.Focus = record {
-  word = codes "focus";
-  shape = OfPeriod;
-  csv = false;
-  streamed = false;
-  by_prices = false;
-  path = Some (codes "/focus/");
-  csv_path = None;
-  kind = body.Csv;
-}
-row_of report.Coverage = record {
-  word = codes "coverage";
-  shape = OfPeriod;
-  csv = true;
-  streamed = false;
-  by_prices = false;
-  path = Some (codes "/coverage/");
-  csv_path = Some (codes "/coverage-csv/");
-  kind = body.Text;
-}
-row_of report.Page = record {
-  word = codes "page";
-  shape = OfPeriod;
-  csv = false;
-  streamed = false;
-  by_prices = false;
-  path = Some (codes "/period/");
-  csv_path = None;
-  kind = body.Page;
-}
-row_of report.Disputes = record {
-  word = codes "disputes";
-  shape = OfOffice;
-  csv = true;
-  streamed = true;
-  by_prices = false;
-  path = Some (codes "/disputes");
-  csv_path = Some (codes "/disputes-csv");
-  kind = body.Text;
-}
-row_of report.Record = record {
-  word = codes "record";
-  shape = OfRecord;
-  csv = false;
-  streamed = false;
-  by_prices = false;
-  path = Some (codes "/record/");
-  csv_path = None;
-  kind = body.Text;
-}
-row_of report.Periods = record {
-  word = codes "periods";
-  shape = OfOffice;
-  csv = false;
-  streamed = false;
-  by_prices = false;
-  path = Some (codes "/periods");
-  csv_path = None;
-  kind = body.Text;
-}
-row_of report.Rulings = record {
-  word = codes "rulings";
-  shape = OfOffice;
-  csv = false;
-  streamed = true;
-  by_prices = false;
-  path = Some (codes "/rulings");
-  csv_path = None;
-  kind = body.Text;
-}
-row_of report.TariffText = record {
-  word = codes "tariff-text";
-  shape = OfDay;
-  csv = false;
-  streamed = false;
-  by_prices = false;
-  path = Some (codes "/tariff/");
-  csv_path = None;
-  kind = body.TariffFile;
-}
+row_of report.Statement =
+    record (table_row (codes "statement") OfCentre (codes "/statement/") (codes "/statement-csv/")) {
+      by_prices = true;
+    }
+row_of report.Adjustments =
+    table_row (codes "adjustments") OfCentre (codes "/adjustments/") (codes "/adjustments-csv/")
+row_of report.Details =
+    record (table_row (codes "details") OfCentre (codes "/details/") (codes "/details-csv/")) {
+      streamed = true;
+    }
+row_of report.Bill = record (text_row (codes "bill") OfCentre None) { csv = true }
+row_of report.Focus =
+    record (text_row (codes "focus") OfPeriod (Some (codes "/focus/"))) { kind = body.Csv }
+row_of report.Coverage =
+    table_row (codes "coverage") OfPeriod (codes "/coverage/") (codes "/coverage-csv/")
+row_of report.Page =
+    record (text_row (codes "page") OfPeriod (Some (codes "/period/"))) { kind = body.Page }
+row_of report.Disputes =
+    record (table_row (codes "disputes") OfOffice (codes "/disputes") (codes "/disputes-csv")) {
+      streamed = true;
+    }
+row_of report.Record = text_row (codes "record") OfRecord (Some (codes "/record/"))
+row_of report.Periods = text_row (codes "periods") OfOffice (Some (codes "/periods"))
+row_of report.Rulings =
+    record (text_row (codes "rulings") OfOffice (Some (codes "/rulings"))) { streamed = true }
+row_of report.TariffText =
+    record (text_row (codes "tariff-text") OfDay (Some (codes "/tariff/"))) { kind = body.TariffFile }
 
 -- the reports in the order of the program's help
 abbrev pub reports : List ReportName
@@ -197,10 +124,6 @@ abbrev pub adjustments_in : StatementForm → PeriodReport
 adjustments_in form.Text = of_period.AdjustmentList
 adjustments_in form.Table = of_period.AdjustmentTable
 
-abbrev pub disputes_in : StatementForm → Report
-disputes_in form.Text = made.DisputeList
-disputes_in form.Table = made.DisputeTable
-
 -- of a period, of one centre or of the whole office
 abbrev pub report_of_centre : ReportName → StatementForm → ℕ → Option (List ℕ) → Option Report
 report_of_centre report.Statement form period centre =
@@ -219,7 +142,8 @@ report_of_period name form period = None
 
 -- of the books
 abbrev pub report_of_office : ReportName → StatementForm → Option Report
-report_of_office report.Disputes form = Some (disputes_in form)
+report_of_office report.Disputes form.Text = Some made.DisputeList
+report_of_office report.Disputes form.Table = Some made.DisputeTable
 report_of_office report.Periods form = Some made.PeriodList
 report_of_office report.Rulings form = Some made.RulingList
 report_of_office name form = None
@@ -232,3 +156,11 @@ report_of_day name day = None
 abbrev pub report_of_record : ReportName → List ℕ → Option Report
 report_of_record report.Record record_name = Some (made.Record record_name)
 report_of_record name record_name = None
+
+-- the report of this name about that, if it is about such a thing
+abbrev pub report_about : ReportName → StatementForm → About → Option Report
+report_about name form (about.OfCentre period centre) = report_of_centre name form period centre
+report_about name form (about.OfPeriod period) = report_of_period name form period
+report_about name form about.OfOffice = report_of_office name form
+report_about name form (about.OfDay day) = report_of_day name day
+report_about name form (about.OfRecord record_name) = report_of_record name record_name

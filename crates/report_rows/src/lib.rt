@@ -1,11 +1,10 @@
-//! The reports of the office, a row for each: its word, its help, which words follow BOOK, and where
-//! it is served.
+//! The reports of the office, a row for each: its word, which words follow BOOK, and where it is
+//! served.
 #![tactic(auto)]
 
 mod about;
-mod named_reports;
 pub mod report_row;
 
-pub use about::{About, report_about};
-pub use named_reports::{all_reports, named_report};
-pub use report_row::{BodyKind, ReportName, ReportRow, Shape, row_of};
+pub use about::About;
+pub use report_row::{BodyKind, ReportName, ReportRow, Shape};
+pub use report_row::{all_reports, named_report, report_about, row_of};

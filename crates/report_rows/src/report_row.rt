@@ -1,9 +1,10 @@
 //! The table of the reports. All that a report adds to this crate stands in this file: its name, its
 //! row, its place in the order of the program's help, and the report of `book_reports` that it is.
 
-ghost use Rattle.std.specs.Prelude.{◌≡◌, option_map};
+ghost use Rattle.std.specs.Prelude.{◌≡◌, find, option_copied, option_map};
 ghost use Rattle.report_rows.specs.ReportRows as spec;
 
+use crate::about::About;
 use book_reports::{PeriodReport, Report, StatementForm};
 use smf_text::Name;
 
@@ -69,8 +70,6 @@ pub enum BodyKind {
 pub struct ReportRow {
     /// Its word on the command line.
     pub word: &'static str,
-    /// What help says of it.
-    pub about: &'static str,
     pub shape: Shape,
     /// It is also a table of comma-separated values, where `--csv` asks for one.
     pub csv: bool,
@@ -109,51 +108,11 @@ impl ReportRow {
     }
 }
 
-/// What a period charges.
-pub const STATEMENT: ReportRow = ReportRow {
-    word: "statement",
-    about: "Prints what a period charges",
-    shape: Shape::OfCentre,
-    csv: true,
-    streamed: false,
-    by_prices: true,
-    path: Some("/statement/"),
-    csv_path: Some("/statement-csv/"),
-    kind: BodyKind::Text,
-};
-
-/// What a period adds to closed periods and reverses in them.
-pub const ADJUSTMENTS: ReportRow = ReportRow {
-    word: "adjustments",
-    about: "Prints what a period adds to closed periods and reverses in them",
-    shape: Shape::OfCentre,
-    csv: true,
-    streamed: false,
-    by_prices: false,
-    path: Some("/adjustments/"),
-    csv_path: Some("/adjustments-csv/"),
-    kind: BodyKind::Text,
-};
-
-/// The records that a period counts.
-pub const DETAILS: ReportRow = ReportRow {
-    word: "details",
-    about: "Prints each record that a period counts, and what it costs",
-    shape: Shape::OfCentre,
-    csv: true,
-    streamed: true,
-    by_prices: false,
-    path: Some("/details/"),
-    csv_path: Some("/details-csv/"),
-    kind: BodyKind::Text,
-};
-
-/// A bill. It is not served.
-pub const BILL: ReportRow = ReportRow {
-    word: "bill",
-    about: "Prints the bill of a centre for a period, or what each centre owes",
-    shape: Shape::OfCentre,
-    csv: true,
+/// A report of the office that is a text, and not served.
+const PLAIN: ReportRow = ReportRow {
+    word: "",
+    shape: Shape::OfOffice,
+    csv: false,
     streamed: false,
     by_prices: false,
     path: None,
@@ -161,108 +120,104 @@ pub const BILL: ReportRow = ReportRow {
     kind: BodyKind::Text,
 };
 
+pub const STATEMENT: ReportRow = ReportRow {
+    word: "statement",
+    shape: Shape::OfCentre,
+    csv: true,
+    by_prices: true,
+    path: Some("/statement/"),
+    csv_path: Some("/statement-csv/"),
+    ..PLAIN
+};
+
+pub const ADJUSTMENTS: ReportRow = ReportRow {
+    word: "adjustments",
+    shape: Shape::OfCentre,
+    csv: true,
+    path: Some("/adjustments/"),
+    csv_path: Some("/adjustments-csv/"),
+    ..PLAIN
+};
+
+pub const DETAILS: ReportRow = ReportRow {
+    word: "details",
+    shape: Shape::OfCentre,
+    csv: true,
+    streamed: true,
+    path: Some("/details/"),
+    csv_path: Some("/details-csv/"),
+    ..PLAIN
+};
+
+/// A bill. It is not served.
+pub const BILL: ReportRow = ReportRow {
+    word: "bill",
+    shape: Shape::OfCentre,
+    csv: true,
+    ..PLAIN
+};
+
 /// A period as a table of cost and usage by FOCUS 1.0, which has no other form.
 pub const FOCUS: ReportRow = ReportRow {
     word: "focus",
-    about: "Prints what a period charges as a table of cost and usage by FOCUS 1.0",
     shape: Shape::OfPeriod,
-    csv: false,
-    streamed: false,
-    by_prices: false,
     path: Some("/focus/"),
-    csv_path: None,
     kind: BodyKind::Csv,
+    ..PLAIN
 };
 
-/// How many records a period counts of each day and system.
 pub const COVERAGE: ReportRow = ReportRow {
     word: "coverage",
-    about: "Prints how many records a period counts of each day and system",
     shape: Shape::OfPeriod,
     csv: true,
-    streamed: false,
-    by_prices: false,
     path: Some("/coverage/"),
     csv_path: Some("/coverage-csv/"),
-    kind: BodyKind::Text,
+    ..PLAIN
 };
 
-/// A period as a page for a browser.
 pub const PAGE: ReportRow = ReportRow {
     word: "page",
-    about: "Prints a period as a page for a browser",
     shape: Shape::OfPeriod,
-    csv: false,
-    streamed: false,
-    by_prices: false,
     path: Some("/period/"),
-    csv_path: None,
     kind: BodyKind::Page,
+    ..PLAIN
 };
 
-/// The records in dispute.
 pub const DISPUTES: ReportRow = ReportRow {
     word: "disputes",
-    about: "Prints the records in dispute",
-    shape: Shape::OfOffice,
     csv: true,
     streamed: true,
-    by_prices: false,
     path: Some("/disputes"),
     csv_path: Some("/disputes-csv"),
-    kind: BodyKind::Text,
+    ..PLAIN
 };
 
-/// A record, with its price and what became of it.
 pub const RECORD: ReportRow = ReportRow {
     word: "record",
-    about: "Prints a record, how it was priced, and what became of it",
     shape: Shape::OfRecord,
-    csv: false,
-    streamed: false,
-    by_prices: false,
     path: Some("/record/"),
-    csv_path: None,
-    kind: BodyKind::Text,
+    ..PLAIN
 };
 
-/// The periods.
 pub const PERIODS: ReportRow = ReportRow {
     word: "periods",
-    about: "Prints the periods",
-    shape: Shape::OfOffice,
-    csv: false,
-    streamed: false,
-    by_prices: false,
     path: Some("/periods"),
-    csv_path: None,
-    kind: BodyKind::Text,
+    ..PLAIN
 };
 
-/// The rulings.
 pub const RULINGS: ReportRow = ReportRow {
     word: "rulings",
-    about: "Prints the tariffs, the closes, the choices and the adoption",
-    shape: Shape::OfOffice,
-    csv: false,
     streamed: true,
-    by_prices: false,
     path: Some("/rulings"),
-    csv_path: None,
-    kind: BodyKind::Text,
+    ..PLAIN
 };
 
-/// The file of a tariff.
 pub const TARIFF_TEXT: ReportRow = ReportRow {
     word: "tariff-text",
-    about: "Prints the tariff file that begins on a day, byte for byte",
     shape: Shape::OfDay,
-    csv: false,
-    streamed: false,
-    by_prices: false,
     path: Some("/tariff/"),
-    csv_path: None,
     kind: BodyKind::TariffFile,
+    ..PLAIN
 };
 
 /// The row of a report.
@@ -287,7 +242,7 @@ pub fn row_of(name: ReportName) -> ReportRow
 }
 
 /// The reports in the order of the program's help.
-pub(crate) static REPORTS: [ReportName; 12] = [
+static REPORTS: [ReportName; 12] = [
     ReportName::Statement,
     ReportName::Adjustments,
     ReportName::Details,
@@ -320,17 +275,8 @@ fn adjustments_in(form: StatementForm) -> PeriodReport
     }
 }
 
-fn disputes_in(form: StatementForm) -> Report
-    ensures { result ≡ spec.disputes_in form }
-{
-    match form {
-        StatementForm::Text => Report::DisputeList,
-        StatementForm::Table => Report::DisputeTable,
-    }
-}
-
 /// The report of a period, of one centre or of the whole office.
-pub(crate) fn report_of_centre(
+fn report_of_centre(
     name: ReportName,
     form: StatementForm,
     period: u16,
@@ -359,11 +305,7 @@ pub(crate) fn report_of_centre(
 }
 
 /// The report of a period of the whole office.
-pub(crate) fn report_of_period(
-    name: ReportName,
-    form: StatementForm,
-    period: u16,
-) -> Option<Report>
+fn report_of_period(name: ReportName, form: StatementForm, period: u16) -> Option<Report>
     ensures { result ≡ spec.report_of_period name form period }
 {
     match name {
@@ -380,34 +322,60 @@ pub(crate) fn report_of_period(
     }
 }
 
-/// The report of the books.
-pub(crate) fn report_of_office(name: ReportName, form: StatementForm) -> Option<Report>
-    ensures { result ≡ spec.report_of_office name form }
+/// The report of this name about that. `None`: it is not about such a thing, or it is made only as
+/// it is written.
+pub fn report_about(name: ReportName, form: StatementForm, about: About) -> Option<Report>
+    ensures { result ≡ spec.report_about name form about }
 {
-    match name {
-        ReportName::Disputes => Some(disputes_in(form)),
-        ReportName::Periods => Some(Report::PeriodList),
-        ReportName::Rulings => Some(Report::RulingList),
-        _ => None,
+    match about {
+        About::OfCentre { period, centre } => report_of_centre(name, form, period, centre),
+        About::OfPeriod(period) => report_of_period(name, form, period),
+        About::OfOffice => match name {
+            ReportName::Disputes => match form {
+                StatementForm::Text => Some(Report::DisputeList),
+                StatementForm::Table => Some(Report::DisputeTable),
+            },
+            ReportName::Periods => Some(Report::PeriodList),
+            ReportName::Rulings => Some(Report::RulingList),
+            _ => None,
+        },
+        About::OfDay(day) => match name {
+            ReportName::TariffText => Some(Report::TariffText(day)),
+            _ => None,
+        },
+        About::OfRecord(record) => match name {
+            ReportName::Record => Some(Report::Record(record)),
+            _ => None,
+        },
     }
 }
 
-/// The report of the tariff that begins on a day.
-pub(crate) fn report_of_day(name: ReportName, day: i32) -> Option<Report>
-    ensures { result ≡ spec.report_of_day name day }
+/// The reports in the order of the program's help.
+pub fn all_reports() -> &'static [ReportName]
+    ensures { result.now ≡ spec.reports }
 {
-    match name {
-        ReportName::TariffText => Some(Report::TariffText(day)),
-        _ => None,
-    }
+    REPORTS.as_slice()
 }
 
-/// The report of a record.
-pub(crate) fn report_of_record(name: ReportName, record: [u8; 32]) -> Option<Report>
-    ensures { result ≡ spec.report_of_record name record }
+/// The word is that of the report.
+fn has_word(name: ReportName, word: &str) -> bool
+    ensures { result ≡ spec.has_word word.now name }
 {
-    match name {
-        ReportName::Record => Some(Report::Record(record)),
-        _ => None,
+    row_of(name).word == word
+}
+
+fn report_among<'a>(names: &'a [ReportName], word: &str) -> Option<&'a ReportName>
+    ensures { option_copied result ≡ find (spec.has_word word.now) names.now }
+{
+    names.iter().find(|name| has_word(**name, word))
+}
+
+/// The report of a word, if it is the word of one.
+pub fn named_report(word: &str) -> Option<ReportName>
+    ensures { result ≡ spec.named_report word.now }
+{
+    match report_among(all_reports(), word) {
+        Some(name) => Some(*name),
+        None => None,
     }
 }

@@ -1,7 +1,6 @@
 -- A walk over accounting fields, and the lines that it writes.
 use Rattle.std.proofs.Common.{◌≡◌, ◌∙◌, ℕ, suc, ◌+◌, ◌-◌, ◌<◌, List, ◌∷◌, ◌++◌, Option, None, Some}
-use Rattle.std.proofs.Common.{append_assoc, ap, arith, is_some, refl, sym, true}
-use Rattle.std.specs.Option.{option_map}
+use Rattle.std.proofs.Common.{append_assoc, ap, arith, is_some, refl, sym, true, option_map}
 use Rattle.smf_type30.specs.AccountWalk.{BeginsWith}
 use Rattle.smf_type30.specs.Accounts.{fields_in}
 use Rattle.report_texts.specs.UsageLines.{account_line, account_lines}

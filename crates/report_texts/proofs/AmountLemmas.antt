@@ -1,10 +1,8 @@
 -- What lines charge, and what they reverse, is within the sum of all their amounts.
-use Rattle.std.proofs.Common.{◌≤◌, List, arith}
-use Rattle.std.specs.List.{sum_by}
-use Rattle.std.proofs.lemmas.Bool.Decides.{nat_tests}
-use Rattle.std.proofs.lemmas.List.Sums.{sum_by-le-sum_by}
-use Rattle.book_model.specs.declared.line.Line.{Line}
-use Rattle.report_texts.specs.AdjustmentLists.{charged_amount, reversed_amount}
+use Rattle.std.proofs.Common.{◌≤◌, List, arith, sum_by}
+use Rattle.book_model.proofs.Std.{nat_tests, sum_by-le-sum_by}
+use Rattle.report_texts.proofs.Words.{Line, charged_amount}
+use Rattle.report_texts.specs.AdjustmentLists.{reversed_amount}
 
 pub charged_within : (lines : List Line)
     → sum_by charged_amount lines ≤ sum_by (λ line. line.priced.amount) lines

@@ -1,22 +1,19 @@
 -- Amounts by centre, one more at a time; and what all centres are charged by them.
-use Rattle.std.proofs.Common.{◌≡◌, ◌∙◌, ℕ, ◌+◌, ◌<◌, ◌≤◌, Bool, true, false, List, [], ◌∷◌, ◌++◌, ap}
-use Rattle.std.proofs.Common.{append-nil, arith, cond, get_or, length, map, refl, subst, sym, take}
-use Rattle.std.proofs.Common.{Some, unwrap_or, if◌then◌else◌}
-use Rattle.std.specs.Prelude.{filter, sum_by}
+use Rattle.std.proofs.Common.{◌≡◌, ◌∙◌, ℕ, ◌+◌, ◌<◌, ◌≤◌, Bool, true, false, List, [], ◌∷◌, ◌++◌}
+use Rattle.std.proofs.Common.{ap, append-nil, arith, cond, get_or, length, map, refl, subst, sym}
+use Rattle.std.proofs.Common.{take, Some, unwrap_or, if◌then◌else◌, filter, sum_by, take_all}
 use Rattle.std.specs.BTreeMap.{is_at}
-use Rattle.std.specs.Cmp.Lexicographic.{bytes_decides, texts_ties}
 use Rattle.std.specs.Map.{lookup}
-use Rattle.std.proofs.lemmas.List.{take_all}
 use Rattle.std.proofs.lemmas.List.Elements.{filter_more}
-use Rattle.std.proofs.lemmas.List.Sums.{sum_by_more_le, sum_by_push}
-use Rattle.book_model.specs.declared.line.Line.{Line}
-use Rattle.book_model.specs.declared.row.ChargeRow.{ChargeRow}
+use Rattle.std.proofs.lemmas.List.Sums.{sum_by_more_le}
+use Rattle.book_model.proofs.Std.{bytes_decides, texts_ties, sum_by_push}
 use Rattle.book_model.specs.Words.{by_bytes, same_bytes}
-use Rattle.report_texts.specs.CentreAmounts.{AreAmounts, AreCharges, cost_among, charges_among}
-use Rattle.report_texts.specs.CentreAmounts.{with_amount}
+use Rattle.report_texts.proofs.Words.{Line, ChargeRow, AreAmounts, cost_among}
+use Rattle.report_texts.specs.CentreAmounts.{AreCharges, charges_among, side_amount, with_amount}
 use Rattle.report_texts.specs.Charges.{centre_charges}
 use Rattle.report_texts.specs.declared.centre_amounts.CentreAmounts.{CentreAmounts}
 use Rattle.report_texts.specs.declared.charges.CentreCharges.{CentreCharges}
+use Rattle.report_texts.proofs.AmountLemmas.{charged_within, reversed_within}
 use Rattle.report_texts.proofs.CentreLemmas.{filter_most}
 
 -- what a centre has, once the amount that was found for another, or for it, has grown
@@ -80,6 +77,12 @@ module _ {X : Type 0} (centre_of : X → List ℕ) (amount : X → ℕ) where
   pub own_all : (xs : List X) (i : ℕ) (amounts : List (List ℕ × ℕ)) → length xs ≤ i
       → AreAmounts amounts (own (take i xs)) → AreAmounts amounts (own xs)
   own_all xs i amounts over kept = subst (λ all. AreAmounts amounts (own all)) (take_all i xs over) kept
+
+-- what lines reverse, or what they charge, is within the sum of all their amounts
+pub side_within : (is_reversed : Bool) (lines : List Line)
+    → sum_by (side_amount is_reversed) lines ≤ sum_by (λ line. line.priced.amount) lines
+side_within true lines = reversed_within lines
+side_within false lines = charged_within lines
 
 -- what a centre is charged by amounts
 abbrev pub charged_by : CentreAmounts → List ℕ → CentreCharges

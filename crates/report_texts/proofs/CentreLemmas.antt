@@ -1,11 +1,9 @@
 -- What one centre has of a period can be shown, where all that the period has can.
-use Rattle.std.proofs.Common.{◌≡◌, ◌+◌, ◌<◌, ◌≤◌, ◌^◌, ℕ, Bool, List, arith, refl}
-use Rattle.std.specs.Prelude.{filter, not, sum_by}
-use Rattle.std.proofs.lemmas.List.Elements.{All-filter}
-use Rattle.std.proofs.lemmas.List.Filters.{sum_by-filter_both}
-use Rattle.book_model.specs.declared.line.Line.{Line}
-use Rattle.book_model.specs.declared.row.ChargeRow.{ChargeRow}
+use Rattle.std.proofs.Common.{◌≡◌, ◌+◌, ◌<◌, ◌≤◌, ◌^◌, ℕ, Bool, List, arith, refl, filter, not}
+use Rattle.std.proofs.Common.{sum_by}
+use Rattle.book_model.proofs.Std.{All-filter, sum_by-filter_both}
 use Rattle.book_model.specs.Words.{AreLines, AreRows, IsDay}
+use Rattle.report_texts.proofs.Words.{Line, ChargeRow}
 
 -- a sum over some is within the sum over all
 pub filter_most : {X : Type 0} (p : X → Bool) (f : X → ℕ) (xs : List X)

@@ -1,23 +1,15 @@
 -- What a bill charges: its plain lines, what one centre has, and the centres, each in its place.
-use Rattle.std.proofs.Common.{◌≡◌, ◌∙◌, ℕ, List, [], ◌∷◌, ◌++◌, map, ap, arith, subst}
-use Rattle.std.proofs.Common.{append-nil, append_assoc, get_or, sym}
-use Rattle.std.specs.Prelude.{All}
+use Rattle.std.proofs.Common.{◌≡◌, ◌∙◌, ℕ, List, [], ◌∷◌, ◌++◌, map, ap, arith, subst, append-nil}
+use Rattle.std.proofs.Common.{append_assoc, get_or, sym, All, fold}
 use Rattle.std.specs.BTreeSet.{insert_key}
-use Rattle.std.specs.List.{fold}
-use Rattle.std.proofs.lemmas.Cmp.{nat_list_cmp_total}
-use Rattle.std.proofs.lemmas.List.{get_or-map, length-map}
-use Rattle.std.proofs.lemmas.List.Elements.{All-map}
-use Rattle.std.proofs.lemmas.List.Sums.{sum_by-cons, sum_by_push}
-use Rattle.std.proofs.lemmas.Map.Lookups.{exact_bytes}
+use Rattle.book_model.proofs.Std.{nat_list_cmp_total, get_or-map, length-map, All-map, sum_by-cons}
+use Rattle.book_model.proofs.Std.{sum_by_push, exact_bytes}
 use Rattle.book_model.specs.declared.bill.BilledLine.{BilledLine}
-use Rattle.book_model.specs.declared.line.Line.{Line}
-use Rattle.book_model.specs.declared.row.ChargeRow.{ChargeRow}
 use Rattle.book_model.specs.Words.{AreLines, BillSeen, IsDay, by_bytes, members, same_bytes, set_of}
-use Rattle.book_model.proofs.SetLemmas.{members-empty, members-with, set_of-alike}
-use Rattle.book_model.proofs.SumsAlike.{SumsAlike}
-use Rattle.report_texts.specs.AdjustmentLists.{charged_amount}
-use Rattle.report_texts.specs.Charges.{FitCharges, IsBill, centre_charges, centres_of, charges_of}
-use Rattle.report_texts.specs.Charges.{charges_of_centre, each_charges, plain_lines}
+use Rattle.book_model.proofs.Lemmas.{members-empty, members-with, set_of-alike, SumsAlike}
+use Rattle.report_texts.proofs.Words.{Line, ChargeRow, charged_amount, FitCharges, plain_lines}
+use Rattle.report_texts.specs.Charges.{IsBill, centre_charges, centres_of, charges_of}
+use Rattle.report_texts.specs.Charges.{charges_of_centre, each_charges}
 use Rattle.report_texts.specs.declared.charges.CentreCharges.{CentreCharges}
 use Rattle.report_texts.proofs.AmountLemmas.{charged_within}
 use Rattle.report_texts.proofs.CentreLemmas.{filter_most}

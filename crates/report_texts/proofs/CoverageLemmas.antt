@@ -1,12 +1,11 @@
 -- The days of a period's coverage, one after another, and the rows of each.
 use Rattle.std.proofs.Common.{◌≡◌, ◌∙◌, ℕ, zero, suc, ◌+◌, ◌<◌, ◌≤◌, ℤ, pos, negsuc, ◌+ℤ◌, ◌<ℤ◌}
 use Rattle.std.proofs.Common.{List, [], ◌∷◌, ◌++◌, map, refl, sym, ap, subst, arith, append-nil}
-use Rattle.std.proofs.Common.{append_assoc, get_or, length, Option, Some, None}
-use Rattle.std.specs.Prelude.{◌≤ℤ◌, All, IfSome, flat_map}
+use Rattle.std.proofs.Common.{append_assoc, get_or, length, Option, Some, None, ◌≤ℤ◌, All, IfSome}
+use Rattle.std.proofs.Common.{flat_map}
 use Rattle.std.specs.Int.{int_gap}
 use Rattle.std.specs.Option.{ForSome}
-use Rattle.std.proofs.lemmas.Int.{ints}
-use Rattle.std.proofs.lemmas.List.Elements.{All-append, All-cons, All-head, All-nil, All-tail}
+use Rattle.book_model.proofs.Std.{ints, All-append, All-cons, All-head, All-nil, All-tail}
 use Rattle.smf_text.specs.Day.{first_day, last_day}
 use Rattle.book_model.specs.Words.{IsDay}
 use Rattle.report_texts.specs.Coverage.{begins_on, day_of_first, day_of_last, days_between}

@@ -1,10 +1,8 @@
 -- The records that are dated on a day or later are some of all.
-use Rattle.std.proofs.Common.{◌≤◌, List, ℤ, arith}
-use Rattle.std.specs.List.{sum_by}
-use Rattle.std.proofs.lemmas.Bool.Decides.{nat_tests}
-use Rattle.std.proofs.lemmas.List.Sums.{sum_by-le-sum_by}
-use Rattle.book_model.specs.declared.row.ChargeRow.{ChargeRow}
+use Rattle.std.proofs.Common.{◌≤◌, List, ℤ, arith, sum_by}
+use Rattle.book_model.proofs.Std.{nat_tests, sum_by-le-sum_by}
 use Rattle.report_texts.specs.Figures.{count_from}
+use Rattle.report_texts.proofs.Words.{ChargeRow}
 
 pub count_within : (day : ℤ) (rows : List ChargeRow)
     → sum_by (count_from day) rows ≤ sum_by (λ row. row.count) rows

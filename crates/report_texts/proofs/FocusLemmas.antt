@@ -1,9 +1,8 @@
 -- The lines of a table of cost and usage: those of charge rows, and then those of adjustment lines.
 use Rattle.std.proofs.Common.{◌≡◌, ◌∙◌, ℕ, List, [], ◌∷◌, ◌++◌, append_assoc, ap, map, refl, sym}
-use Rattle.std.specs.List.{flat_map}
-use Rattle.book_model.specs.declared.line.Line.{Line}
-use Rattle.book_model.specs.declared.row.ChargeRow.{ChargeRow}
-use Rattle.report_texts.specs.FocusTables.{ChargeSeen, FocusRow, LineSeen, focus_rows}
+use Rattle.std.proofs.Common.{flat_map}
+use Rattle.report_texts.proofs.Words.{Line, ChargeRow, LineSeen}
+use Rattle.report_texts.specs.FocusTables.{ChargeSeen, FocusRow, focus_rows}
 
 module _ (shown : FocusRow → List ℕ) where
   of_lines : (lines : List Line)

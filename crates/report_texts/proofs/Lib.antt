@@ -1,3 +1,4 @@
+mod Words
 pub mod ColumnLemmas
 pub mod PeriodLemmas
 pub mod TableLemmas

@@ -1,20 +1,17 @@
 -- Rows of fields that need no quotes are these fields with commas between them; and such fields.
 use Rattle.std.proofs.Common.{◌≡◌, ℕ, ◌+◌, ◌-◌, ◌/◌, ◌%◌, ◌<◌, ◌^◌, false, true, List, [], ◌∷◌}
 use Rattle.std.proofs.Common.{◌++◌, ◌∙◌, ap, append-nil, refl, arith, decimal, ℤ, suc, zero, length}
-use Rattle.std.specs.Prelude.{codes, replicate}
-use Rattle.std.specs.List.{flat_map, list_all}
-use Rattle.std.proofs.lemmas.Bool.{and_parts, ne_eqb}
-use Rattle.std.proofs.lemmas.Bool.Decides.{nat_tests}
+use Rattle.std.proofs.Common.{codes, replicate, flat_map, ne_eqb}
 use Rattle.std.proofs.lemmas.Fmt.{decimal_by_steps}
-use Rattle.std.proofs.lemmas.List.Folds.{list_any-append}
 use Rattle.csv.specs.Writing.{default_writer, field_text, fields_text, is_blank, needs_byte}
 use Rattle.csv.specs.Writing.{row_text}
+use Rattle.book_model.proofs.Std.{list_all, and_parts, nat_tests, list_any-append}
 use Rattle.smf_text.specs.Day.{day_text_of}
 use Rattle.book_model.specs.Words.{date_of, IsName, is_name_character}
 use Rattle.report_texts.specs.Columns.{newline, digits_in, seconds_text, amount_text}
-use Rattle.book_model.specs.declared.row.ChargeRow.{ChargeRow}
 use Rattle.report_texts.specs.StatementTables.{comma_line, table_fields, table_heading, table_line}
 use Rattle.report_texts.specs.Tables.{IsPlain, fields_line}
+use Rattle.report_texts.proofs.Words.{ChargeRow}
 
 -- a byte after the comma calls for none
 plain_byte : (b : ℕ) → 44 < b → needs_byte default_writer b ≡ false
@@ -145,25 +142,16 @@ unfolding fields_line table_line
 plain_line period row of_period of_count of_cpu of_blocks of_amount centre shift =
     plain_row (decimal period) (day_text_of row.day)
     (row.centre ∷ row.shift ∷ decimal row.count ∷ seconds_text row.cpu ∷ decimal row.blocks
-    ∷ amount_text row.amount ∷ []) (
+    ∷ amount_text row.amount ∷ []) (assumption (
       plain_number period of_period,
-      (
-        plain_day row.day,
-        (
-          plain_name row.centre centre,
-          (
-            plain_name row.shift shift,
-            (
-              plain_number row.count of_count,
-              (
-                plain_seconds row.cpu of_cpu,
-                (plain_number row.blocks of_blocks, (plain_amount row.amount of_amount, tt)),
-              ),
-            ),
-          ),
-        ),
-      ),
-    )
+      plain_day row.day,
+      plain_name row.centre centre,
+      plain_name row.shift shift,
+      plain_number row.count of_count,
+      plain_seconds row.cpu of_cpu,
+      plain_number row.blocks of_blocks,
+      plain_amount row.amount of_amount,
+    ))
 
 -- the names of the columns of charge rows, where that of the amounts calls for none
 pub plain_heading : (amounts : List ℕ) → IsPlain amounts

@@ -1,6 +1,6 @@
 -- Amounts by centre: what each centre has of a bill, as one pass over its rows and its lines adds it
 -- up.
-use Rattle.std.specs.Prelude.{◌≡◌, ℕ, ◌+◌, if◌then◌else◌, List, sum_by, unwrap_or}
+use Rattle.std.specs.Prelude.{◌≡◌, ℕ, ◌+◌, Bool, true, false, if◌then◌else◌, List, sum_by, unwrap_or}
 use Rattle.std.specs.BTreeMap.{is_at}
 use Rattle.std.specs.Map.{lookup}
 use Rattle.book_model.specs.declared.line.Line.{Line}
@@ -28,19 +28,20 @@ AreAmounts amounts own = (centre : List ℕ) → cost_among amounts centre ≡ o
 abbrev pub cost_of : List ChargeRow → List ℕ → ℕ
 cost_of rows centre = sum_by (λ row. row.amount) (rows_of_centre centre rows)
 
-abbrev pub late_amount : List Line → List ℕ → ℕ
-late_amount lines centre = sum_by charged_amount (lines_of_centre centre lines)
+abbrev pub side_amount : Bool → Line → ℕ
+side_amount true = reversed_amount
+side_amount false = charged_amount
 
-abbrev pub taken_amount : List Line → List ℕ → ℕ
-taken_amount lines centre = sum_by reversed_amount (lines_of_centre centre lines)
+abbrev pub line_amount : Bool → List Line → List ℕ → ℕ
+line_amount is_reversed lines centre = sum_by (side_amount is_reversed) (lines_of_centre centre lines)
 
 -- each centre has what it is charged of rows of steps, rows of jobs and lines
 pub record AreCharges (amounts : CentreAmounts) (step_rows job_rows : List ChargeRow)
     (lines : List Line) : Type 0 where
   pub steps : AreAmounts amounts.steps.entries (cost_of step_rows)
   pub jobs : AreAmounts amounts.jobs.entries (cost_of job_rows)
-  pub late : AreAmounts amounts.late.entries (late_amount lines)
-  pub reversed : AreAmounts amounts.reversed.entries (taken_amount lines)
+  pub late : AreAmounts amounts.late.entries (line_amount false lines)
+  pub reversed : AreAmounts amounts.reversed.entries (line_amount true lines)
 
 -- what a centre is charged by the amounts
 abbrev pub charges_among : CentreAmounts → List ℕ → Charges

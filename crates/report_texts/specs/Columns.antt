@@ -1,7 +1,6 @@
 -- Texts in columns, and numbers with decimal places. A text is its bytes.
-use Rattle.std.specs.Prelude.{ℕ, ◌-◌, ◌/◌, ◌%◌, List, ◌++◌, length, replicate, codes}
-use Rattle.std.specs.Prelude.{Option, Some, None}
-use Rattle.std.specs.Fmt.{decimal}
+use Rattle.std.specs.Prelude.{ℕ, ◌-◌, ◌/◌, ◌%◌, List, ◌++◌, length, replicate, codes, Option, Some}
+use Rattle.std.specs.Prelude.{None, decimal}
 use Rattle.std.specs.Str.{byte}
 
 abbrev pub newline : List ℕ

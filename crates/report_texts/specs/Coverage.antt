@@ -2,11 +2,9 @@
 -- day on which a system has none is a gap.
 use Rattle.std.specs.Prelude.{ℕ, zero, suc, ◌+◌, ◌==◌, ◌&&◌, nat_lt, if◌then◌else◌, Bool, List, []}
 use Rattle.std.specs.Prelude.{◌∷◌, ◌++◌, codes, filter, flat_map, length, map, Option, Some, None}
-use Rattle.std.specs.Prelude.{ℤ, pos, ◌+ℤ◌}
-use Rattle.std.specs.Fmt.{decimal}
+use Rattle.std.specs.Prelude.{ℤ, pos, ◌+ℤ◌, decimal, fold}
 use Rattle.std.specs.Int.{int_gap}
-use Rattle.std.specs.List.{fold}
-use Rattle.std.specs.Ordering.{int_eq}
+use Rattle.book_model.specs.Std.{int_eq}
 use Rattle.book_model.specs.Words.{by_bytes, day_text_of, members, same_bytes, set_of, show_text}
 use Rattle.report_texts.specs.declared.coverage_rows.CoveragePlace.{CoveragePlace}
 use Rattle.report_texts.specs.declared.coverage_rows.CoverageRow.{CoverageRow}

@@ -1,13 +1,12 @@
 -- Lists of details: a line for each record that the rows of a period count, and one for their sum.
 -- The columns of place and of numbers are those of a statement.
-use Rattle.std.specs.Prelude.{ℕ, List, [], ◌++◌, codes, flat_map, length, sum_by}
-use Rattle.std.specs.Prelude.{Option, Some, None, ℤ}
-use Rattle.std.specs.Fmt.{decimal}
+use Rattle.std.specs.Prelude.{ℕ, List, [], ◌++◌, codes, flat_map, length, sum_by, Option, Some}
+use Rattle.std.specs.Prelude.{None, ℤ, decimal}
 use Rattle.hex.specs.Hex.{encode_lower}
 use Rattle.book_model.specs.Words.{day_text_of, show_text}
 use Rattle.book_model.specs.declared.detail.Detail.{Detail}
-use Rattle.report_texts.specs.Columns.{newline, left_aligned, right_aligned}
-use Rattle.report_texts.specs.Columns.{number_text, seconds_text, amount_text}
+use Rattle.report_texts.specs.Columns.{newline, left_aligned, right_aligned, number_text}
+use Rattle.report_texts.specs.Columns.{seconds_text, amount_text}
 use Rattle.report_texts.specs.Centres.{centre_title}
 use Rattle.report_texts.specs.Moments.{time_text}
 use Rattle.report_texts.specs.Periods.{title_line}

@@ -1,6 +1,5 @@
 -- Details as tables of comma-separated values: a heading, and a line for each record.
-use Rattle.std.specs.Prelude.{ℕ, List, [], ◌∷◌, ◌++◌, codes, flat_map}
-use Rattle.std.specs.Fmt.{decimal}
+use Rattle.std.specs.Prelude.{ℕ, List, [], ◌∷◌, ◌++◌, codes, flat_map, decimal}
 use Rattle.hex.specs.Hex.{encode_lower}
 use Rattle.book_model.specs.Words.{show_text}
 use Rattle.book_model.specs.declared.detail.Detail.{Detail}

@@ -1,7 +1,6 @@
 -- Lists of disputes: the identities that two or more held records have, each with these records.
 use Rattle.std.specs.Prelude.{ℕ, ◌==◌, if◌then◌else◌, List, [], ◌++◌, length, flat_map, codes}
-use Rattle.std.specs.Prelude.{Option, Some, None}
-use Rattle.std.specs.Fmt.{decimal}
+use Rattle.std.specs.Prelude.{Option, Some, None, decimal}
 use Rattle.hex.specs.Hex.{encode_lower, encode_upper}
 use Rattle.book_model.specs.Words.{show_text, day_text_of, number, part, identity2_length, Disputed}
 use Rattle.book_model.specs.declared.dispute.Variant.{Variant}

@@ -1,6 +1,5 @@
 -- Disputes as tables of comma-separated values: a heading, and a line for each record in dispute.
-use Rattle.std.specs.Prelude.{ℕ, ◌+◌, List, [], ◌∷◌, ◌++◌, codes, flat_map}
-use Rattle.std.specs.Fmt.{decimal}
+use Rattle.std.specs.Prelude.{ℕ, ◌+◌, List, [], ◌∷◌, ◌++◌, codes, flat_map, decimal}
 use Rattle.hex.specs.Hex.{encode_lower}
 use Rattle.book_model.specs.Words.{day_text_of, number, part, show_text, Disputed}
 use Rattle.book_model.specs.declared.dispute.Variant.{Variant}

@@ -1,6 +1,5 @@
 -- How reports name a period.
-use Rattle.std.specs.Prelude.{ℕ, List, ◌++◌, codes, Option, Some, None, ℤ}
-use Rattle.std.specs.Fmt.{decimal}
+use Rattle.std.specs.Prelude.{ℕ, List, ◌++◌, codes, Option, Some, None, ℤ, decimal}
 use Rattle.book_model.specs.Words.{day_text_of}
 use Rattle.report_texts.specs.Columns.{newline}
 

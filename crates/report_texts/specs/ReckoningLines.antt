@@ -1,10 +1,8 @@
 -- How the price of a record came about, as a record's text shows it. The formula has the numbers of
 -- `amount_of` in tariff_rules; what it comes to is rounded once, to the nearest, a half upwards.
-use Rattle.std.specs.Prelude.{ℕ, List, ◌++◌, codes, Option}
-use Rattle.std.specs.Fmt.{decimal}
-use Rattle.tariff_rules.specs.declared.reckoning.Reckoning.{Reckoning}
+use Rattle.std.specs.Prelude.{ℕ, List, ◌++◌, codes, Option, decimal}
 use Rattle.tariff_rules.specs.Price.{hundredth_parts, record_parts, whole_parts}
-use Rattle.book_model.specs.Words.{day_text_of}
+use Rattle.book_model.specs.Words.{Reckoning, day_text_of}
 use Rattle.report_texts.specs.Columns.{amount_text, newline, number_text, seconds_text}
 
 -- what was measured

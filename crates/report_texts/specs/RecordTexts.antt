@@ -1,7 +1,6 @@
 -- The text of a record: which it is, how its price came about, its rivals, the choices among them,
 -- and its life.
-use Rattle.std.specs.Prelude.{ℕ, not, List, ◌++◌, codes, filter, flat_map, length}
-use Rattle.std.specs.Fmt.{decimal}
+use Rattle.std.specs.Prelude.{ℕ, not, List, ◌++◌, codes, filter, flat_map, length, decimal}
 use Rattle.hex.specs.Hex.{encode_lower}
 use Rattle.book_model.specs.declared.dispute.Variant.{Variant}
 use Rattle.book_model.specs.declared.trail.NamedChoice.{NamedChoice}

@@ -1,11 +1,10 @@
 -- Lists of rulings: the tariffs, the closes, the choices and the adoption of the second rule, a line
 -- for each. A tariff is shown by the SHA-256 of its file and by how many bytes that has.
-use Rattle.std.specs.Prelude.{ℕ, ℤ, List, ◌++◌, codes, flat_map, length}
-use Rattle.std.specs.Fmt.{decimal}
+use Rattle.std.specs.Prelude.{ℕ, ℤ, List, ◌++◌, codes, flat_map, length, decimal}
 use Rattle.hex.specs.Hex.{encode_lower}
 use Rattle.sha2.specs.Sha256.{sha256}
-use Rattle.book_model.specs.Words.{day_text_of}
-use Rattle.book_model.specs.Words.{RulingSeen, TariffSeen, CloseSeen, ChoiceSeen, AdoptionSeen}
+use Rattle.book_model.specs.Words.{day_text_of, RulingSeen, TariffSeen, CloseSeen, ChoiceSeen}
+use Rattle.book_model.specs.Words.{AdoptionSeen}
 use Rattle.report_texts.specs.Columns.{newline}
 
 -- the file of a tariff, by its text

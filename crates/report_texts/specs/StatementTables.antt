@@ -1,6 +1,5 @@
 -- Charge rows as tables of comma-separated values: a heading, and a line for each of them.
-use Rattle.std.specs.Prelude.{ℕ, List, [], ◌∷◌, ◌++◌, codes, flat_map}
-use Rattle.std.specs.Fmt.{decimal}
+use Rattle.std.specs.Prelude.{ℕ, List, [], ◌∷◌, ◌++◌, codes, flat_map, decimal}
 use Rattle.book_model.specs.Words.{day_text_of}
 use Rattle.book_model.specs.declared.row.ChargeRow.{ChargeRow}
 use Rattle.report_texts.specs.Columns.{newline, seconds_text, amount_text}

@@ -1,9 +1,8 @@
 -- Tables of comma-separated values: a line of fields.
 use Rattle.std.specs.Prelude.{◌≡◌, ℕ, false, List, [], ◌∷◌}
-use Rattle.std.specs.List.{list_any}
-use Rattle.tariff_rules.specs.declared.priced.Priced.{Priced}
-use Rattle.book_model.specs.Words.{day_text_of}
+use Rattle.book_model.specs.Words.{Priced, day_text_of}
 use Rattle.csv.specs.Writing.{default_writer, needs_byte, row_text}
+use Rattle.book_model.specs.Std.{list_any}
 
 -- the line of some fields, as the crate `csv` writes it with its defaults: commas between the fields,
 -- and a line feed at the end. A field with a comma, a quote or the end of a line stands in quotes, and

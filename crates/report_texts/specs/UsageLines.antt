@@ -1,14 +1,11 @@
 -- What a record of usage says, as a record's text shows it: when it was written, which work it
 -- measures, how that ran, and its accounting fields.
-use Rattle.std.specs.Prelude.{ℕ, List, [], ◌++◌, flat_map, codes}
-use Rattle.std.specs.Prelude.{Option, Some, None}
-use Rattle.std.specs.Fmt.{decimal}
+use Rattle.std.specs.Prelude.{ℕ, List, [], ◌++◌, flat_map, codes, Option, Some, None, decimal}
 use Rattle.smf_type30.specs.Accounts.{accounts_of}
 use Rattle.smf_type30.specs.Layout.{accounting}
 use Rattle.smf_type30.specs.Section.{count_of}
-use Rattle.smf_type30.specs.Usage.{completion_of, day_of, ended_step_of, identity_of, initiation_of}
-use Rattle.smf_type30.specs.Usage.{job_id_of, program_of, subtype_of, time_of}
-use Rattle.book_model.specs.Words.{part, show_text}
+use Rattle.book_model.specs.Words.{completion_of, day_of, ended_step_of, identity_of, initiation_of}
+use Rattle.book_model.specs.Words.{job_id_of, program_of, subtype_of, time_of, part, show_text}
 use Rattle.report_texts.specs.Columns.{newline, number_text}
 use Rattle.report_texts.specs.DisputeLists.{completion_text, job_text, moment_text, reader_text}
 use Rattle.report_texts.specs.Moments.{day_time_text}

@@ -6,8 +6,7 @@ ghost use Rattle.report_texts.specs.AdjustmentTables as spec;
 ghost use Rattle.report_texts.specs.Tables.{fields_line};
 
 use crate::adjustment_lists::word_of;
-use crate::fields::{add_key, add_name, add_number, add_shown, add_signed};
-use crate::tables::add_row;
+use crate::fields::{add_key, add_name, add_number, add_row, add_shown, add_signed};
 use book_model::Line;
 use std::alloc::{AllocError, Global};
 use text_drafts::{RowDraft, TableDraft};

@@ -1,20 +1,18 @@
 //! Bills as tables of comma-separated values.
 
-ghost use Rattle.std.specs.Prelude.{◌≡◌, [], ◌++◌, All, IfOk, codes, flat_map};
-ghost use Rattle.std.specs.Fmt.{decimal};
+ghost use Rattle.std.specs.Prelude.{◌≡◌, [], ◌++◌, All, IfOk, codes, flat_map, decimal};
 ghost use Rattle.book_model.specs.Words.{AreRows, IsDay, bill_shown};
-ghost use Rattle.report_texts.specs.BillTables as spec;
 ghost use Rattle.report_texts.specs.Charges.{FitCharges, IsBill};
 ghost use Rattle.report_texts.specs.Columns.{seconds_text};
 ghost use Rattle.report_texts.specs.Tables.{fields_line};
+ghost use Rattle.report_texts.specs.BillTables as spec;
 
 use crate::adjustment_lists::word_of;
 use crate::charges::{CentreCharges, Charges, office_charges, push_owed};
 use crate::fields::{
-    add_amount, add_day, add_key, add_name, add_number, add_number_or_dash, add_seconds, add_shown,
-    add_signed,
+    add_amount, add_day, add_key, add_name, add_number, add_number_or_dash, add_row, add_seconds,
+    add_shown, add_signed,
 };
-use crate::tables::add_row;
 use book_model::{Bill, BilledLine, ChargeRow};
 use std::alloc::{AllocError, Global};
 use text_drafts::{Draft, RowDraft, TableDraft};

@@ -1,12 +1,11 @@
 //! The bill of a centre for a period.
 
-ghost use Rattle.std.specs.Prelude.{◌≡◌, [], ◌++◌, All, IfOk, option_map, string_bytes};
-ghost use Rattle.std.specs.Fmt.{decimal};
+ghost use Rattle.std.specs.Prelude.{◌≡◌, [], ◌++◌, All, IfOk, option_map, string_bytes, decimal};
 ghost use Rattle.std.specs.Option.{ForSome};
 ghost use Rattle.book_model.specs.Words.{AreLines, AreRows, IsDay, bill_shown, letterhead_shown};
-ghost use Rattle.report_texts.specs.BillTexts as spec;
 ghost use Rattle.report_texts.specs.Charges.{FitCharges, IsBill, owed_text, plain_lines};
 ghost use Rattle.report_texts.specs.Statements.{amount_column, work_columns};
+ghost use Rattle.report_texts.specs.BillTexts as spec;
 
 use crate::adjustment_lists::{
     charged_amount, push_line_place, push_record, push_signed, push_sum, reversed_amount,

@@ -52,26 +52,30 @@ fn row_amounts(alloc: Global, rows: &[ChargeRow]) -> Result<BTreeMap<Name, u64>,
     Ok(amounts)
 }
 
-/// What the lines of each centre charge.
-fn late_amounts(alloc: Global, lines: &[Line]) -> Result<BTreeMap<Name, u64>, AllocError>
-    requires { AreLines lines.now }
-    ensures { IfOk result (λ amounts. AreAmounts amounts.entries (spec.late_amount lines.now)) }
+/// What a line reverses, or what it charges.
+fn side_amount(is_reversed: bool, line: &Line) -> u64
+    ensures { result ≡ spec.side_amount is_reversed line.now }
 {
-    let mut amounts = BTreeMap::new(alloc);
-    for line in lines {
-        add_amount(&mut amounts, line.priced.centre, charged_amount(line))?;
+    if is_reversed {
+        reversed_amount(line)
+    } else {
+        charged_amount(line)
     }
-    Ok(amounts)
 }
 
-/// What the lines of each centre reverse.
-fn taken_amounts(alloc: Global, lines: &[Line]) -> Result<BTreeMap<Name, u64>, AllocError>
+/// What the lines of each centre reverse, or what they charge.
+fn line_amounts(
+    alloc: Global,
+    is_reversed: bool,
+    lines: &[Line],
+) -> Result<BTreeMap<Name, u64>, AllocError>
     requires { AreLines lines.now }
-    ensures { IfOk result (λ amounts. AreAmounts amounts.entries (spec.taken_amount lines.now)) }
+    ensures { IfOk result (λ amounts.
+        AreAmounts amounts.entries (spec.line_amount is_reversed lines.now)) }
 {
     let mut amounts = BTreeMap::new(alloc);
     for line in lines {
-        add_amount(&mut amounts, line.priced.centre, reversed_amount(line))?;
+        add_amount(&mut amounts, line.priced.centre, side_amount(is_reversed, line))?;
     }
     Ok(amounts)
 }
@@ -90,8 +94,8 @@ pub(crate) fn centre_amounts(
 {
     let of_steps = row_amounts(alloc, steps)?;
     let of_jobs = row_amounts(alloc, jobs)?;
-    let late = late_amounts(alloc, lines)?;
-    let reversed = taken_amounts(alloc, lines)?;
+    let late = line_amounts(alloc, false, lines)?;
+    let reversed = line_amounts(alloc, true, lines)?;
     Ok(CentreAmounts {
         steps: of_steps,
         jobs: of_jobs,

@@ -1,7 +1,6 @@
 //! Texts in columns, and numbers with decimal places.
 
-ghost use Rattle.std.specs.Prelude.{◌≡◌, ◌++◌, IfOk, OnOk, codes, string_bytes};
-ghost use Rattle.std.specs.Fmt.{decimal};
+ghost use Rattle.std.specs.Prelude.{◌≡◌, ◌++◌, IfOk, OnOk, codes, string_bytes, decimal};
 ghost use Rattle.report_texts.specs.Columns as spec;
 
 use std::alloc::{AllocError, Global};

@@ -9,10 +9,9 @@ ghost use Rattle.report_texts.specs.Coverage as spec;
 
 use crate::columns::{push_count, push_left};
 use crate::coverage_rows::CoverageRow;
-use crate::fields::{add_day, add_number, add_shown};
+use crate::fields::{add_day, add_number, add_row, add_shown};
 use crate::moments::push_time;
 use crate::periods::push_title;
-use crate::tables::add_row;
 use std::alloc::{AllocError, Global};
 use text_drafts::{Draft, RowDraft, TableDraft};
 

@@ -6,10 +6,9 @@ ghost use Rattle.book_model.specs.Words.{IsDay};
 ghost use Rattle.report_texts.specs.DetailTables as spec;
 
 use crate::fields::{
-    add_amount, add_key, add_name, add_number, add_number_or_dash, add_seconds, add_shown,
+    add_amount, add_key, add_name, add_number, add_number_or_dash, add_row, add_seconds, add_shown,
 };
 use crate::moments::push_time;
-use crate::tables::add_row;
 use book_model::Detail;
 use std::alloc::{AllocError, Global};
 use text_drafts::{Draft, RowDraft, TableDraft};

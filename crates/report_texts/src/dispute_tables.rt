@@ -7,9 +7,8 @@ ghost use Rattle.report_texts.specs.DisputeTables as spec;
 ghost use Rattle.report_texts.specs.Moments.{moment_of};
 
 use crate::dispute_lists::{part, push_completion};
-use crate::fields::{add_amount, add_day, add_name, add_number, add_seconds, add_shown};
+use crate::fields::{add_amount, add_day, add_name, add_number, add_row, add_seconds, add_shown};
 use crate::moments::push_moment_of;
-use crate::tables::add_row;
 use book_model::{Dispute, Variant};
 use byteorder::{BigEndian, ByteOrder};
 use std::alloc::{AllocError, Global};

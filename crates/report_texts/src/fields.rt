@@ -1,18 +1,17 @@
-//! Fields of rows: what each is shown as is made, and added to a row.
+//! Fields of rows: what each is shown as is made, and added to a row; and rows of tables.
 
-ghost use Rattle.std.specs.Prelude.{◌≡◌, [], ◌∷◌, ◌++◌};
-ghost use Rattle.std.specs.Fmt.{decimal};
+ghost use Rattle.std.specs.Prelude.{◌≡◌, [], ◌∷◌, ◌++◌, decimal};
 ghost use Rattle.hex.specs.Hex.{encode_lower};
 ghost use Rattle.book_model.specs.Words.{IsDay, day_text_of, show_text};
 ghost use Rattle.report_texts.specs.AdjustmentLists.{charged_amount, reversed_amount, signed_text};
 ghost use Rattle.report_texts.specs.Columns.{amount_text, number_text, seconds_text};
-ghost use Rattle.report_texts.specs.Tables.{key_fields};
+ghost use Rattle.report_texts.specs.Tables.{fields_line, key_fields};
 
 use crate::adjustment_lists::{charged_amount, push_difference, reversed_amount};
 use crate::columns::{push_amount, push_number_or_dash, push_seconds};
 use book_model::Line;
 use tariff_rules::Priced;
-use text_drafts::{Draft, RowDraft};
+use text_drafts::{Draft, RowDraft, TableDraft};
 
 /// Adds a number.
 pub(crate) fn add_number(row: &mut RowDraft, number: u64)
@@ -97,4 +96,12 @@ pub(crate) fn add_name(row: &mut RowDraft, name: &[u8])
     let mut text = Draft::new(row.alloc());
     text.push_lower_hex(name);
     row.add_draft(&text);
+}
+
+/// Adds a row that was made field by field.
+#[tactic(auto, unfolding(crate::specs::Tables::fields_line))]
+pub(crate) fn add_row(table: &mut TableDraft, row: &RowDraft)
+    ensures { table.new ≡ table.old ++ fields_line row.now }
+{
+    table.add_row(row);
 }

@@ -8,9 +8,8 @@ ghost use Rattle.report_texts.specs.Midnights.{IsMidnight};
 ghost use Rattle.report_texts.specs.Tables.{fields_line};
 
 use crate::adjustment_lists::{charged_amount, push_difference, reversed_amount, word_of};
-use crate::fields::add_seconds;
+use crate::fields::{add_row, add_seconds};
 use crate::midnights::add_midnight;
-use crate::tables::add_row;
 use book_model::{ChargeRow, Line};
 use smf_text::Name;
 use std::alloc::{AllocError, Global};

@@ -30,7 +30,6 @@ mod record_texts;
 mod ruling_lists;
 mod statement_tables;
 mod statements;
-mod tables;
 mod usage_lines;
 mod what_ifs;
 

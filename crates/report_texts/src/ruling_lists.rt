@@ -2,8 +2,7 @@
 //! lines, so it is never made whole here.
 
 ghost use Rattle.std.specs.Prelude.{◌≡◌, ◌++◌, IfOk, OnOk, string_bytes};
-ghost use Rattle.book_model.specs.Words.{HasDays, IsDay, ruling_shown};
-ghost use Rattle.book_model.specs.Words.{ChoiceSeen, TariffSeen};
+ghost use Rattle.book_model.specs.Words.{HasDays, IsDay, ruling_shown, ChoiceSeen, TariffSeen};
 ghost use Rattle.report_texts.specs.RulingLists as spec;
 
 use crate::columns::push_draft;

@@ -5,8 +5,7 @@ ghost use Rattle.book_model.specs.Words.{AreRows, IsDay, IsName};
 ghost use Rattle.report_texts.specs.StatementTables as spec;
 ghost use Rattle.report_texts.specs.Tables.{IsPlain};
 
-use crate::fields::{add_amount, add_day, add_number, add_seconds};
-use crate::tables::add_row;
+use crate::fields::{add_amount, add_day, add_number, add_row, add_seconds};
 use book_model::ChargeRow;
 use std::alloc::{AllocError, Global};
 use text_drafts::{RowDraft, TableDraft};

@@ -1,8 +1,5 @@
 use Rattle.std.proofs.Common.{◌∙◌, ap, sym}
-use Rattle.report_rows.specs.Abouts.{report_about}
-use Rattle.report_rows.specs.ReportRows.{Row, kind_in}
-use Rattle.report_rows.specs.declared.report_row.BodyKind.{BodyKind}
-use Rattle.book_http.specs.Asked.{whole_report}
+use Rattle.book_http.proofs.Words.{report_about, Row, kind_in, BodyKind, whole_report}
 use Rattle.book_http.proofs.AskedLemmas.{made_whole}
 use Rattle.book_http.proofs.asked.report_of.Goals as goal
 

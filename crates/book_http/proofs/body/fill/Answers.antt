@@ -1,8 +1,6 @@
-use Rattle.std.proofs.Common.{rules, arith, ◌≤◌, length, ◌∙◌, length-take-le}
-use Rattle.std.proofs.lemmas.List.{length-drop}
+use Rattle.std.proofs.Common.{rules, arith, ◌≤◌, length, ◌∙◌, length-take-le, length-drop}
 use Rattle.std.proofs.lemmas.Slice.{take-put_mid_below}
-use Rattle.book_http.proofs.ReadLemmas.{due_for_body, more_filled, none_came}
-use Rattle.book_http.proofs.ReadLemmas.{read_on}
+use Rattle.book_http.proofs.ReadLemmas.{due_for_body, more_filled, none_came, read_on}
 use Rattle.book_http.proofs.body.fill.Goals as goal
 
 pub returns-in_default-clause-reads : goal.returns-in_default-clause-reads

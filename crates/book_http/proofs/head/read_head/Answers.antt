@@ -1,10 +1,9 @@
 use Rattle.std.proofs.Common.{rules, ◌≡◌, ◌∙◌, ◌<◌, ◌≤◌, true, length, take, ◌-◌, arith, take_all}
 use Rattle.std.proofs.Common.{ap, length-take-le, ◌+◌}
-use Rattle.streams.specs.Sources.{has_ended}
 use Rattle.book_http.proofs.HeadLemmas.{end_refuses, full_refuses, holds_head, overflow_refuses}
 use Rattle.book_http.proofs.PieceLemmas.{grown_length}
-use Rattle.book_http.proofs.ReadLemmas.{due_for_head, gave_as, more_came, none_came}
-use Rattle.book_http.proofs.ReadLemmas.{read_on}
+use Rattle.book_http.proofs.ReadLemmas.{due_for_head, gave_as, more_came, none_came, read_on}
+use Rattle.book_http.proofs.Words.{has_ended}
 use Rattle.book_http.proofs.head.read_head.Goals as goal
 
 pub returns-in_default-clause-reads : goal.returns-in_default-clause-reads

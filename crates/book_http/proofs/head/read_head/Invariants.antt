@@ -1,7 +1,6 @@
 use Rattle.std.proofs.Common.{length, ◌-◌, ◌+◌, ◌≡◌, ◌≤◌, ◌<◌, take, false}
-use Rattle.httparse.specs.Grammar.{HasNoRequest, MayBecomeRequest}
-use Rattle.streams.specs.Sources.{reads_of, has_failed, has_ended}
-use Rattle.book_http.specs.Reads.{IsDueForHead, ReadsOn}
+use Rattle.book_http.proofs.Words.{HasNoRequest, MayBecomeRequest, reads_of, has_failed, has_ended}
+use Rattle.book_http.proofs.Words.{IsDueForHead, ReadsOn}
 use Rattle.book_http.proofs.head.read_head.Given as goal
 
 -- what was read is no head yet, and each read gave at least one byte

@@ -1,7 +1,4 @@
-use Rattle.book_core.proofs.TransitionLemmas.{work_as}
-use Rattle.office.specs.Requests.{response_by}
-use Rattle.book_http.specs.Answer.{AnswersImport}
-use Rattle.book_http.specs.Replies.{reply_of}
+use Rattle.book_http.proofs.Words.{work_as, response_by, AnswersImport, reply_of}
 use Rattle.book_http.proofs.office_answers.answer_import.Goals as goal
 
 pub returns : goal.returns

@@ -1,14 +1,10 @@
-use Rattle.std.proofs.Common.{◌≡◌, ◌∙◌, ap, false, not, string_bytes, subst, sym, true}
-use Rattle.std.proofs.lemmas.Bool.{false_from_ne_true, true≢false}
+use Rattle.std.proofs.Common.{◌≡◌, ◌∙◌, ap, false, not, string_bytes, subst, sym, true, true≢false}
 use Rattle.std.proofs.lemmas.Str.{IsUtf8-from_is_utf8, IsUtf8-string_bytes, is_utf8-from_IsUtf8}
-use Rattle.std.specs.Str.{is_utf8}
-use Rattle.book_core.specs.Transition.{IsTransition}
-use Rattle.book_core.proofs.TransitionLemmas.{work_as}
-use Rattle.office.specs.Requests.{response_by}
+use Rattle.book_model.proofs.Std.{false_from_ne_true}
+use Rattle.book_core.specs.Words.{IsTransition}
 use Rattle.book_http.specs.declared.status.Status.TheVariants.{BadRequest}
-use Rattle.book_http.specs.Answer.{AnswersOffice, AnswersWhatIf, Prices, UnlessBad, office_reply}
-use Rattle.book_http.specs.Answer.{form_kind}
-use Rattle.book_http.specs.Replies.{refusal, reply_of}
+use Rattle.book_http.proofs.Words.{is_utf8, work_as, response_by, AnswersOffice, AnswersWhatIf}
+use Rattle.book_http.proofs.Words.{Prices, UnlessBad, office_reply, form_kind, refusal, reply_of}
 use Rattle.book_http.proofs.ServeLemmas.{refuses}
 use Rattle.book_http.proofs.office_answers.answer_what_if.Goals as goal
 

@@ -1,8 +1,6 @@
 use Rattle.std.proofs.Common.{rules, ◌≡◌, ◌∙◌, [], ap}
-use Rattle.streams.specs.Sinks.{writer_of}
-use Rattle.office.specs.Requests.{response_by}
-use Rattle.book_http.specs.Answer.{form_kind, gathered, office_reply}
-use Rattle.book_http.specs.Replies.{reply_of}
+use Rattle.book_http.proofs.Words.{writer_of, response_by, form_kind, gathered, office_reply}
+use Rattle.book_http.proofs.Words.{reply_of}
 use Rattle.book_http.proofs.GatherLemmas.{gathered_answered}
 use Rattle.book_http.proofs.office_answers.gather_details.Goals as goal
 

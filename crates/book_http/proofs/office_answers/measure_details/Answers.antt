@@ -1,7 +1,5 @@
 use Rattle.std.proofs.Common.{◌∙◌, ap, sym, Err}
-use Rattle.book_core.proofs.TransitionLemmas.{work_as}
-use Rattle.book_http.specs.Answer.{AnswersDetails, office_reply}
-use Rattle.book_http.specs.Replies.{reply_of}
+use Rattle.book_http.proofs.Words.{work_as, AnswersDetails, office_reply, reply_of}
 use Rattle.book_http.proofs.GatherLemmas.{refused_status}
 use Rattle.book_http.proofs.StreamLemmas.{text_refused}
 use Rattle.book_http.proofs.office_answers.measure_details.Goals as goal

@@ -1,11 +1,10 @@
 use Rattle.std.proofs.Common.{refl, take, drop}
-use Rattle.streams.specs.Sources.{has_ended}
-use Rattle.book_http.specs.declared.answer.Answer.TheVariants as answer
-use Rattle.book_http.specs.declared.asked.Asked.TheVariants as asks
 use Rattle.book_http.specs.declared.status.Status.TheVariants.{BadRequest}
-use Rattle.book_http.specs.Reads.{for_head}
+use Rattle.book_http.proofs.Words.{has_ended, for_head}
 use Rattle.book_http.proofs.ReadLemmas.{head_then, read_as}
 use Rattle.book_http.proofs.RequestedLemmas.{head_asking, refused_asking}
+use Rattle.book_http.specs.declared.answer.Answer.TheVariants as answer
+use Rattle.book_http.specs.declared.asked.Asked.TheVariants as asks
 use Rattle.book_http.proofs.requested.read_request.Goals as goal
 
 pub returns-in-Closed-clause-asks : goal.returns-in-Closed-clause-asks

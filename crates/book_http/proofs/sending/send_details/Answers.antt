@@ -1,8 +1,6 @@
 use Rattle.std.proofs.Common.{◌∙◌, ap, inl, inr, refl, subst, None}
-use Rattle.std.specs.Io.KnownBytes.{Appends}
-use Rattle.streams.specs.Sinks.{writer_of}
 use Rattle.book_http.specs.declared.status.Status.TheVariants.{Done}
-use Rattle.book_http.specs.AnswerHead.{answer_head}
+use Rattle.book_http.proofs.Words.{Appends, writer_of, answer_head}
 use Rattle.book_http.proofs.StreamLemmas.{details_sent, head_sent}
 use Rattle.book_http.proofs.sending.send_details.Goals as goal
 

@@ -1,7 +1,6 @@
 use Rattle.std.proofs.Common.{◌∙◌, subst}
-use Rattle.std.specs.Io.KnownBytes.{Appends}
-use Rattle.streams.specs.Sinks.{writer_of}
 use Rattle.book_http.proofs.AnswerLemmas.{front_behind}
+use Rattle.book_http.proofs.Words.{Appends, writer_of}
 use Rattle.book_http.proofs.sending.send_reply.Goals as goal
 
 pub returns-in_default-write_bytes-clause-sent : goal.returns-in_default-write_bytes-clause-sent

@@ -1,6 +1,5 @@
 use Rattle.std.proofs.Common.{inl, inr}
-use Rattle.streams.specs.Sinks.{writer_of}
-use Rattle.book_http.specs.Replies.{reply_of}
+use Rattle.book_http.proofs.Words.{writer_of, reply_of}
 use Rattle.book_http.proofs.StreamLemmas.{measured_sent}
 use Rattle.book_http.proofs.serve.serve_asked.Goals as goal
 

@@ -1,6 +1,5 @@
 use Rattle.std.proofs.Common.{◌≡◌, ◌-◌, ◌≤◌, false, length, take}
-use Rattle.std.specs.Io.KnownBytes.{Appends}
-use Rattle.streams.specs.Sinks.{writer_of, has_failed}
+use Rattle.book_lists.proofs.Words.{Appends, writer_of, has_failed}
 use Rattle.book_lists.proofs.output.write_bytes.Given as goal
 
 -- the writer took the bytes so far, and no write failed

@@ -1,7 +1,6 @@
-use Rattle.std.proofs.Common.{◌≡◌, false}
-use Rattle.std.specs.Prelude.{IfSome}
-use Rattle.streams.specs.Sinks.{has_failed, writer_of}
+use Rattle.std.proofs.Common.{◌≡◌, false, IfSome}
 use Rattle.book_lists.proofs.WrittenListLemmas.{WritesSoFar}
+use Rattle.book_lists.proofs.Words.{has_failed, writer_of}
 use Rattle.book_lists.proofs.written_lists.write_list.Given as goal
 
 -- no write failed, the next item is sound, and the parts of those before it were written or wait

@@ -1,11 +1,8 @@
 use Rattle.std.proofs.Common.{◌∙◌, Ok, Some, ap, map, refl, subst, sym}
-use Rattle.book_model.specs.declared.bill.BilledLine.{BilledLine}
 use Rattle.book_model.specs.Words.{AreLines, billed_lines}
-use Rattle.report_texts.specs.Centres.{lines_of_centre}
-use Rattle.book_lists.proofs.ReadingLemmas.{call_failed, passed_on}
-use Rattle.book_lists.proofs.ShownLemmas.{answers, answers_none, refused_next, shown, shown_as}
-use Rattle.book_lists.proofs.ShownLemmas.{then_shown, then_stays}
-use Rattle.book_reports.specs.BookTexts.{shown_by}
+use Rattle.book_reports.proofs.Words.{BilledLine, lines_of_centre, call_failed, passed_on, answers}
+use Rattle.book_reports.proofs.Words.{answers_none, refused_next, shown, shown_as, then_shown}
+use Rattle.book_reports.proofs.Words.{then_stays, shown_by}
 use Rattle.book_reports.proofs.BillLineLemmas.{line_known, lines_known, lines_more}
 use Rattle.book_reports.proofs.bill_lines.centre_lines.Goals as goal
 

@@ -1,8 +1,7 @@
 use Rattle.std.proofs.Common.{◌≡◌, map, take}
-use Rattle.book_model.specs.declared.bill.BilledLine.{BilledLine}
 use Rattle.book_model.specs.Words.{AreLines}
-use Rattle.book_lists.proofs.ShownLemmas.{Shows}
 use Rattle.book_reports.proofs.BillLineLemmas.{KnowsLines}
+use Rattle.book_reports.proofs.Words.{BilledLine, Shows}
 use Rattle.book_reports.proofs.bill_lines.centre_lines.Given as goal
 
 -- the lines of the centre can be shown, and of the first of them the periods are known

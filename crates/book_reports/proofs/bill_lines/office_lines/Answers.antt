@@ -1,8 +1,6 @@
 use Rattle.std.proofs.Common.{◌∙◌, None, Ok, ap, map, refl, subst, sym}
-use Rattle.book_model.specs.declared.bill.BilledLine.{BilledLine}
 use Rattle.book_model.specs.Words.{AreLines, billed_lines, line_alone}
-use Rattle.book_lists.proofs.ReadingLemmas.{call_failed, passed_on, read_as}
-use Rattle.book_reports.specs.BookTexts.{shown_by}
+use Rattle.book_reports.proofs.Words.{BilledLine, call_failed, passed_on, read_as, shown_by}
 use Rattle.book_reports.proofs.BillLineLemmas.{plain_lines}
 use Rattle.book_reports.proofs.bill_lines.office_lines.Goals as goal
 

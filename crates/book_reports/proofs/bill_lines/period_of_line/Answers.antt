@@ -1,6 +1,5 @@
 use Rattle.std.proofs.Common.{◌∙◌, ap, sym}
-use Rattle.book_lists.proofs.ReadingLemmas.{passed_on}
-use Rattle.book_reports.specs.BillLines.{is_unheld}
+use Rattle.book_reports.proofs.Words.{passed_on, is_unheld}
 use Rattle.book_reports.proofs.BillLineLemmas.{period_refused, period_sought, period_unheld}
 use Rattle.book_reports.proofs.bill_lines.period_of_line.Goals as goal
 

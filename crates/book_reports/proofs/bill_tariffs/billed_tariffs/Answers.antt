@@ -1,8 +1,7 @@
 use Rattle.std.proofs.Common.{Ok, ap, refl, subst, sym}
 use Rattle.book_model.specs.Words.{tariffs_seen}
-use Rattle.book_lists.proofs.ReadingLemmas.{Tells, call_failed, read_then}
-use Rattle.book_lists.proofs.WritingLemmas.{same_value}
-use Rattle.book_reports.specs.BillTariffs.{kept_of, tariffs_billed, tariffs_shown}
+use Rattle.book_reports.proofs.Words.{Tells, call_failed, read_then, same_value, kept_of}
+use Rattle.book_reports.proofs.Words.{tariffs_billed, tariffs_shown}
 use Rattle.book_reports.proofs.bill_tariffs.billed_tariffs.Goals as goal
 
 pub returns-in_err-days-clause-tariffs : goal.returns-in_err-days-clause-tariffs

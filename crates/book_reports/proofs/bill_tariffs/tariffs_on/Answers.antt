@@ -1,6 +1,5 @@
 use Rattle.std.proofs.Common.{sym}
-use Rattle.book_lists.proofs.CursorLemmas.{folded}
-use Rattle.book_reports.specs.BillTariffs.{kept_of, tariffs_billed, tariffs_shown}
+use Rattle.book_reports.proofs.Words.{folded, kept_of, tariffs_billed, tariffs_shown}
 use Rattle.book_reports.proofs.KeptTariffLemmas.{kept_dated, kept_shown}
 use Rattle.book_reports.proofs.bill_tariffs.tariffs_on.Goals as goal
 

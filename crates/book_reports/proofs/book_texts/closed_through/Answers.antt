@@ -1,7 +1,6 @@
 use Rattle.std.proofs.Common.{◌≡◌, ◌∙◌, refl, sym, ap, Ok}
 use Rattle.book_model.specs.Words.{close_of}
-use Rattle.book_lists.proofs.ReadingLemmas.{call_failed, read_as}
-use Rattle.book_reports.specs.BookTexts.{shown_by}
+use Rattle.book_reports.proofs.Words.{call_failed, read_as, shown_by}
 use Rattle.book_reports.proofs.book_texts.closed_through.Goals as goal
 
 pub returns-in_err-days-clause-through : goal.returns-in_err-days-clause-through

@@ -1,10 +1,8 @@
-use Rattle.std.proofs.Common.{◌≡◌, ◌∙◌, ap, subst, sym}
-use Rattle.std.specs.Prelude.{All}
-use Rattle.std.proofs.lemmas.Result.{IfOk-weaker}
+use Rattle.std.proofs.Common.{◌≡◌, ◌∙◌, ap, subst, sym, All}
 use Rattle.book_model.specs.Words.{IsDay}
-use Rattle.report_texts.specs.declared.coverage_rows.CoverageRow.{CoverageRow}
 use Rattle.book_reports.specs.Coverage.{coverage_as}
 use Rattle.book_reports.proofs.CoverageLemmas.{last_is_day, rows_dated}
+use Rattle.book_reports.proofs.Words.{IfOk-weaker, CoverageRow}
 use Rattle.book_reports.proofs.coverage.coverage_by.Goals as goal
 
 -- the last record is dated on a day

@@ -1,10 +1,6 @@
-use Rattle.std.proofs.Common.{◌≡◌, ◌∙◌, subst, sym}
-use Rattle.std.specs.Prelude.{◌≤ℤ◌, IfSome, flat_map}
-use Rattle.std.proofs.lemmas.Result.{IfOk-weaker}
+use Rattle.std.proofs.Common.{◌≡◌, ◌∙◌, subst, sym, ◌≤ℤ◌, IfSome, flat_map}
 use Rattle.smf_text.specs.Day.{last_day}
-use Rattle.report_texts.specs.Coverage.{days_between}
-use Rattle.report_texts.proofs.CoverageLemmas.{ends_early}
-use Rattle.book_reports.specs.CoverageSums.{rows_on}
+use Rattle.book_reports.proofs.Words.{IfOk-weaker, days_between, ends_early, rows_on}
 use Rattle.book_reports.proofs.CoverageLemmas.{coverage_is}
 use Rattle.book_reports.proofs.coverage_sums.coverage_rows.Goals as goal
 

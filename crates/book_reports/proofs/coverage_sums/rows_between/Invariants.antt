@@ -1,8 +1,7 @@
-use Rattle.std.proofs.Common.{◌≡◌, ◌++◌, ◌+ℤ◌, pos}
-use Rattle.std.specs.Prelude.{flat_map}
+use Rattle.std.proofs.Common.{◌≡◌, ◌++◌, ◌+ℤ◌, pos, flat_map}
 use Rattle.std.specs.Int.{int_gap}
 use Rattle.report_texts.proofs.CoverageLemmas.{days_through}
-use Rattle.book_reports.specs.CoverageSums.{rows_on}
+use Rattle.book_reports.proofs.Words.{rows_on}
 use Rattle.book_reports.proofs.coverage_sums.rows_between.Given as goal
 
 -- the rows so far, and those of the days that are left, are all

@@ -1,7 +1,6 @@
 use Rattle.std.proofs.Common.{◌∙◌, Ok, ap, refl, sym}
 use Rattle.report_texts.specs.Figures.{record_count}
-use Rattle.book_lists.proofs.ReadingLemmas.{call_failed, read_as}
-use Rattle.book_lists.proofs.WritingLemmas.{same_value}
+use Rattle.book_reports.proofs.Words.{call_failed, read_as, same_value}
 use Rattle.book_reports.proofs.figures.count_of_period.Goals as goal
 
 pub returns-in_err-rows : goal.returns-in_err-rows

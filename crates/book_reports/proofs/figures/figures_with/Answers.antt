@@ -1,14 +1,12 @@
 use Rattle.std.proofs.Common.{◌∙◌, ◌+◌, List, Ok, ap, refl, subst, sym, w32}
-use Rattle.std.proofs.lemmas.Int.{to_z-of_z}
-use Rattle.book_model.proofs.DayLemmas.{day_fits}
-use Rattle.book_model.specs.declared.line.Line.{Line}
+use Rattle.book_model.proofs.Std.{to_z-of_z}
+use Rattle.book_model.proofs.Lemmas.{day_fits}
 use Rattle.report_texts.specs.declared.dry_runs.TriedRuling.TheVariants.{Tariff}
 use Rattle.report_texts.specs.DryRuns.{NamesDay}
-use Rattle.report_texts.specs.Figures.{figures_by, record_count_from}
-use Rattle.book_lists.proofs.ReadingLemmas.{call_failed, read_as}
-use Rattle.book_lists.proofs.WritingLemmas.{same_value}
+use Rattle.report_texts.specs.Figures.{record_count_from}
 use Rattle.book_reports.specs.Figures.{count_outcome}
-use Rattle.book_reports.specs.StreamedDisputes.{dispute_count_outcome}
+use Rattle.book_reports.proofs.Words.{Line, figures_by, call_failed, read_as, same_value}
+use Rattle.book_reports.proofs.Words.{dispute_count_outcome}
 use Rattle.book_reports.proofs.FigureLemmas.{own_read}
 use Rattle.book_reports.proofs.figures.figures_with.Goals as goal
 

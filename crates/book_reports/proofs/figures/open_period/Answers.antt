@@ -1,7 +1,6 @@
 use Rattle.std.proofs.Common.{◌∙◌, Ok, ap, refl, sym}
-use Rattle.book_lists.proofs.ReadingLemmas.{call_failed, read_as}
-use Rattle.book_lists.proofs.WritingLemmas.{same_value}
 use Rattle.book_reports.specs.Figures.{period_after}
+use Rattle.book_reports.proofs.Words.{call_failed, read_as, same_value}
 use Rattle.book_reports.proofs.figures.open_period.Goals as goal
 
 pub returns-in_err-closes-clause-period : goal.returns-in_err-closes-clause-period

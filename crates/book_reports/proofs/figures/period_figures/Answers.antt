@@ -1,8 +1,6 @@
 use Rattle.std.proofs.Common.{Ok, ap, refl, subst, sym}
 use Rattle.report_texts.specs.Figures.{figures_with}
-use Rattle.report_texts.specs.declared.figures.Figures.{Figures}
-use Rattle.book_lists.proofs.ReadingLemmas.{Tells, call_failed, read_then}
-use Rattle.book_lists.proofs.WritingLemmas.{same_value}
+use Rattle.book_reports.proofs.Words.{Figures, Tells, call_failed, read_then, same_value}
 use Rattle.book_reports.proofs.figures.period_figures.Goals as goal
 
 pub returns-in_err-rows : goal.returns-in_err-rows

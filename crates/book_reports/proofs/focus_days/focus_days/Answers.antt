@@ -1,8 +1,7 @@
 use Rattle.std.proofs.Common.{◌-◌, ◌∙◌, length, sym}
-use Rattle.book_model.specs.declared.bill.BilledTariff.{BilledTariff}
-use Rattle.book_model.specs.declared.row.ChargeRow.{ChargeRow}
 use Rattle.book_model.specs.Words.{IsDay}
 use Rattle.book_reports.proofs.FocusLemmas.{found_as_all}
+use Rattle.book_reports.proofs.Words.{BilledTariff, ChargeRow}
 use Rattle.book_reports.proofs.focus_days.focus_days.Goals as goal
 
 -- the first tariff begins on a day, as all do

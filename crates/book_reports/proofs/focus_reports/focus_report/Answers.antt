@@ -1,8 +1,7 @@
 use Rattle.std.proofs.Common.{◌∙◌, Ok, ap, refl, sym}
-use Rattle.book_lists.proofs.ReadingLemmas.{call_failed, passed_on}
-use Rattle.book_lists.proofs.ShownLemmas.{answers, answers_none, both_shown, refused_next, shown}
-use Rattle.book_lists.proofs.ShownLemmas.{then_stays}
 use Rattle.book_reports.proofs.FocusLemmas.{focus_known, focus_unlined, focus_unrowed}
+use Rattle.book_reports.proofs.Words.{call_failed, passed_on, answers, answers_none, both_shown}
+use Rattle.book_reports.proofs.Words.{refused_next, shown, then_stays}
 use Rattle.book_reports.proofs.focus_reports.focus_report.Goals as goal
 
 -- the closes, or the tariffs of the period

@@ -1,9 +1,8 @@
 use Rattle.std.proofs.Common.{◌∙◌, ap, map, max, rules, sym, unwrap_or}
-use Rattle.std.specs.List.{reduce}
-use Rattle.std.proofs.lemmas.Iterator.{YieldsList-from_map, YieldsList-from_slice}
-use Rattle.std.proofs.lemmas.Iterator.Adapters.{option_map_id}
 use Rattle.std.proofs.lemmas.Iterator.Consumers.{max_from_yields_List}
+use Rattle.book_model.proofs.Std.{reduce}
 use Rattle.book_model.specs.Words.{amount_for}
+use Rattle.book_reports.proofs.Words.{YieldsList-from_map, YieldsList-from_slice, option_map_id}
 use Rattle.book_reports.proofs.held_back.greatest_for.Goals as goal
 
 pub returns : goal.returns

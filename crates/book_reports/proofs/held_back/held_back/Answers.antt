@@ -1,9 +1,7 @@
-use Rattle.std.proofs.Common.{◌∙◌, None, Ok, Some, ap, refl, sym}
-use Rattle.std.specs.Prelude.{if◌then◌else◌, is_some}
+use Rattle.std.proofs.Common.{◌∙◌, None, Ok, Some, ap, refl, sym, if◌then◌else◌, is_some}
 use Rattle.book_model.specs.Words.{disputes_in, held_back_in}
-use Rattle.book_lists.proofs.ReadingLemmas.{call_failed, read_as, read_then}
-use Rattle.book_lists.proofs.ShownLemmas.{refused_next, shown}
-use Rattle.book_lists.proofs.WritingLemmas.{same_value}
+use Rattle.book_reports.proofs.Words.{call_failed, read_as, read_then, refused_next, shown}
+use Rattle.book_reports.proofs.Words.{same_value}
 use Rattle.book_reports.proofs.held_back.held_back.Goals as goal
 
 pub returns-in_err-days : goal.returns-in_err-days

@@ -1,6 +1,5 @@
-use Rattle.book_model.specs.declared.bill.HeldBack.{HeldBack}
 use Rattle.book_model.specs.Words.{held_back_in}
-use Rattle.book_lists.proofs.CursorLemmas.{folded}
+use Rattle.book_reports.proofs.Words.{HeldBack, folded}
 use Rattle.book_reports.proofs.held_back.held_in_all.Goals as goal
 
 pub returns : goal.returns

@@ -1,9 +1,7 @@
 use Rattle.std.proofs.Common.{refl, rules, ◌≡◌}
-use Rattle.page_texts.specs.Figures.{figures_of, figures_seen}
-use Rattle.book_lists.proofs.ReadingLemmas.{call_failed, passed_on}
-use Rattle.book_lists.proofs.ShownLemmas.{answers, answers_none, both_shown, refused_next, shown}
-use Rattle.book_lists.proofs.ShownLemmas.{then_stays}
 use Rattle.book_reports.proofs.PageLemmas.{figures_known}
+use Rattle.book_reports.proofs.Words.{figures_of, figures_seen, call_failed, passed_on, answers}
+use Rattle.book_reports.proofs.Words.{answers_none, both_shown, refused_next, shown, then_stays}
 use Rattle.book_reports.proofs.pages.figures_in_period.Goals as goal
 
 pub returns-in_err-rows : goal.returns-in_err-rows

@@ -1,12 +1,9 @@
 use Rattle.std.proofs.Common.{◌≡◌, ◌∙◌, ap, arith, length, map, refl, rules, ℤ, List}
-use Rattle.page_texts.specs.Figures.{figures_seen}
-use Rattle.page_texts.specs.OfficePage.{office_page_text}
-use Rattle.report_texts.specs.Figures.{number_after}
-use Rattle.book_lists.proofs.ReadingLemmas.{call_failed, passed_on}
-use Rattle.book_lists.proofs.ShownLemmas.{answers, answers_none, refused_next, shown, shown_as}
-use Rattle.book_lists.proofs.ShownLemmas.{then_shown, then_stays}
 use Rattle.book_reports.specs.declared.figures.OpenPeriod.{OpenPeriod}
 use Rattle.book_reports.proofs.PageLemmas.{office_known, period_known}
+use Rattle.book_reports.proofs.Words.{figures_seen, office_page_text, number_after, call_failed}
+use Rattle.book_reports.proofs.Words.{passed_on, answers, answers_none, refused_next, shown}
+use Rattle.book_reports.proofs.Words.{shown_as, then_shown, then_stays}
 use Rattle.book_reports.proofs.pages.office_page_report.Goals as goal
 
 pub returns-in_err-closes : goal.returns-in_err-closes

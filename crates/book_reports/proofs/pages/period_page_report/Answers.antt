@@ -1,12 +1,9 @@
 use Rattle.std.proofs.Common.{◌≡◌, ap, map, refl, rules}
 use Rattle.book_model.specs.Words.{dispute_shown}
-use Rattle.page_texts.specs.PeriodPage.{period_page_text}
-use Rattle.book_lists.specs.Shown.{shown_by}
-use Rattle.book_lists.proofs.ReadingLemmas.{call_failed, passed_on}
-use Rattle.book_lists.proofs.ShownLemmas.{answers, answers_none, both_shown, refused_next, shown}
-use Rattle.book_lists.proofs.ShownLemmas.{then_stays}
 use Rattle.book_reports.specs.Pages.{page_with}
 use Rattle.book_reports.proofs.PageLemmas.{page_known}
+use Rattle.book_reports.proofs.Words.{period_page_text, shown_by, call_failed, passed_on, answers}
+use Rattle.book_reports.proofs.Words.{answers_none, both_shown, refused_next, shown, then_stays}
 use Rattle.book_reports.proofs.pages.period_page_report.Goals as goal
 
 -- the period is not there

@@ -1,6 +1,5 @@
-use Rattle.std.proofs.Common.{◌≡◌, Bool, true, false, cond, List, ℕ, Option, Some, None, ap, sym, refl}
-use Rattle.std.proofs.lemmas.Bool.{true≢false}
-use Rattle.std.specs.Prelude.{◌↔◌, IfSome, IsSome, IsTrue}
+use Rattle.std.proofs.Common.{◌≡◌, Bool, true, false, cond, List, ℕ, Option, Some, None, ap, sym}
+use Rattle.std.proofs.Common.{refl, true≢false, ◌↔◌, IfSome, IsSome, IsTrue}
 
 -- what is made of a text is there where it passes, and is then the text
 passed : (text : List ℕ) (passes : Bool) (made : Option (List ℕ)) → (IsSome made ↔ IsTrue passes)

@@ -1,7 +1,6 @@
 use Rattle.std.proofs.Common.{◌∙◌, [], ◌∷◌, subst}
-use Rattle.streams.specs.Sinks.{writer_of}
-use Rattle.book_lists.specs.Writing.{WritesTexts}
 use Rattle.book_lists.proofs.WritingLemmas.{text_written}
+use Rattle.book_reports.proofs.Words.{writer_of, WritesTexts}
 use Rattle.book_reports.proofs.reports.receipt_line.Goals as goal
 
 pub returns-clause-text : goal.returns-clause-text

@@ -1,7 +1,6 @@
 use Rattle.std.proofs.Common.{◌≡◌, ◌∙◌, [], Option, List, ℕ, Some, ap, subst, sym}
-use Rattle.streams.specs.Sinks.{writer_of}
-use Rattle.book_core.specs.Transition.{IsTransition}
-use Rattle.book_reports.specs.StreamedAnswers.{WritesRulings}
+use Rattle.book_core.specs.Words.{IsTransition}
+use Rattle.book_reports.proofs.Words.{writer_of, WritesRulings}
 use Rattle.book_reports.proofs.RulingLemmas.{list_in_memory}
 use Rattle.book_reports.proofs.ruling_texts.ruling_list.Goals as goal
 

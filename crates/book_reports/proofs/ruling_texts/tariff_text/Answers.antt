@@ -1,12 +1,10 @@
-use Rattle.std.proofs.Common.{◌≡◌, ◌∙◌, ◌+◌, SFits, Some, ap, ap₂, of_z, refl, rules}
-use Rattle.std.proofs.Common.{subst, sym, to_z, w32}
-use Rattle.std.specs.Prelude.{option_map}
-use Rattle.std.proofs.lemmas.Int.{to_z-of_z}
+use Rattle.std.proofs.Common.{◌≡◌, ◌∙◌, ◌+◌, SFits, Some, ap, ap₂, of_z, refl, rules, subst, sym}
+use Rattle.std.proofs.Common.{to_z, w32, option_map}
+use Rattle.book_model.proofs.Std.{to_z-of_z}
 use Rattle.book_model.specs.Words.{TariffSeen}
-use Rattle.book_lists.specs.TariffsInTurn.{tariff_shown}
-use Rattle.book_lists.proofs.ReadingLemmas.{call_failed, passed_on}
 use Rattle.book_reports.proofs.TariffLemmas.{SeeksOn, seek_begun, seek_more, text_found, text_gone}
 use Rattle.book_reports.proofs.TariffLemmas.{text_lost, text_refused}
+use Rattle.book_reports.proofs.Words.{tariff_shown, call_failed, passed_on}
 use Rattle.book_reports.proofs.ruling_texts.tariff_text.Goals as goal
 
 pub returns-in_err-next : goal.returns-in_err-next

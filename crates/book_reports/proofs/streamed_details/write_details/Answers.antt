@@ -1,10 +1,6 @@
 use Rattle.std.proofs.Common.{[], None, ap, refl}
-use Rattle.std.proofs.KnownBytes.{Appends-nil}
-use Rattle.streams.specs.Sinks.{writer_of}
-use Rattle.book_lists.proofs.CursorLemmas.{map_same}
-use Rattle.book_lists.proofs.ReadingLemmas.{passed_on}
-use Rattle.book_lists.proofs.WrittenListLemmas.{some_by}
-use Rattle.book_reports.specs.StreamedDetails.{details_end, details_part, details_text, sums_of}
+use Rattle.book_reports.proofs.Words.{Appends-nil, writer_of, map_same, passed_on, some_by}
+use Rattle.book_reports.proofs.Words.{details_end, details_part, details_text, sums_of}
 use Rattle.book_reports.proofs.DetailLemmas.{details_then, details_written, none_read}
 use Rattle.book_reports.proofs.streamed_details.write_details.Goals as goal
 

@@ -1,5 +1,4 @@
-use Rattle.std.proofs.Common.{◌≡◌, ◌∙◌, Global, Vec, ℕ, subst, sym}
-use Rattle.std.specs.Prelude.{IfOk}
+use Rattle.std.proofs.Common.{◌≡◌, ◌∙◌, Global, Vec, ℕ, subst, sym, IfOk}
 use Rattle.book_model.specs.Words.{dispute_shown}
 use Rattle.book_reports.proofs.DisputeLemmas.{past_counted, still_counted}
 use Rattle.book_reports.proofs.streamed_disputes.counted_part.Goals as goal

@@ -1,11 +1,8 @@
 use Rattle.std.proofs.Common.{[], ap, length, map, refl, sym}
-use Rattle.std.proofs.KnownBytes.{Appends-nil}
-use Rattle.std.proofs.lemmas.List.{length-map}
-use Rattle.streams.specs.Sinks.{writer_of}
+use Rattle.book_model.proofs.Std.{length-map}
 use Rattle.book_model.specs.Words.{dispute_shown}
-use Rattle.book_lists.proofs.ReadingLemmas.{passed_on}
-use Rattle.book_lists.proofs.WrittenListLemmas.{some_by}
-use Rattle.book_reports.specs.StreamedDisputes.{counted_part, disputes_text, filled, missing_lines}
+use Rattle.book_reports.proofs.Words.{Appends-nil, writer_of, passed_on, some_by, counted_part}
+use Rattle.book_reports.proofs.Words.{disputes_text, filled, missing_lines}
 use Rattle.book_reports.proofs.DisputeLemmas.{listed_text, text_counted, text_uncounted}
 use Rattle.book_reports.proofs.streamed_disputes.write_disputes.Goals as goal
 

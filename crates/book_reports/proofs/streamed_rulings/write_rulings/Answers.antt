@@ -1,10 +1,9 @@
 use Rattle.std.proofs.Common.{[], ap, map, refl, Ok}
-use Rattle.streams.specs.Sinks.{writer_of}
 use Rattle.book_model.specs.Words.{ruling_shown, rulings_listed}
-use Rattle.report_texts.specs.RulingLists.{ruling_line, ruling_list_text}
-use Rattle.book_lists.proofs.WrittenListLemmas.{some_by, written_by}
+use Rattle.book_lists.proofs.WrittenListLemmas.{written_by}
 use Rattle.book_reports.specs.BookTexts.{ruling_text}
-use Rattle.book_reports.specs.StreamedAnswers.{answered_by}
+use Rattle.book_reports.proofs.Words.{writer_of, ruling_line, ruling_list_text, some_by}
+use Rattle.book_reports.proofs.Words.{answered_by}
 use Rattle.book_reports.proofs.RulingLemmas.{listed_written, rulings_written}
 use Rattle.book_reports.proofs.streamed_rulings.write_rulings.Goals as goal
 

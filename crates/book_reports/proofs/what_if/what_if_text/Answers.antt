@@ -1,7 +1,6 @@
 use Rattle.std.proofs.Common.{◌∙◌, ap, refl}
-use Rattle.sha2.specs.Sha256.{sha256}
-use Rattle.book_lists.proofs.ReadingLemmas.{call_failed}
 use Rattle.book_reports.proofs.WhatIfLemmas.{table_read, text_read, text_refused}
+use Rattle.book_reports.proofs.Words.{sha256, call_failed}
 use Rattle.book_reports.proofs.what_if.what_if_text.Goals as goal
 
 -- the books did not say through which day the period was closed

@@ -1,11 +1,10 @@
 use Rattle.std.proofs.Common.{ap, map, List}
-use Rattle.std.specs.List.{list_all}
 use Rattle.clap.specs.Faults.{is_simple_and_free}
-use Rattle.clap.specs.Simple.{Shape, is_simple}
+use Rattle.clap.specs.Simple.{is_simple}
 use Rattle.report_rows.specs.ReportRows.{row_of}
 use Rattle.command_line.specs.declared.known_commands.KnownCommand.{KnownCommand}
-use Rattle.command_line.specs.Known.{command_seen, known_table}
-use Rattle.command_line.specs.Shapes.{app_for, distinct, leaf}
+use Rattle.command_line.proofs.Shared.{list_all, Shape, command_seen, app_for, distinct, leaf}
+use Rattle.command_line.specs.Known.{known_table}
 use Rattle.command_line.proofs.command_line.all_commands.Goals as goal
 
 pub returns : goal.returns

@@ -1,12 +1,10 @@
-use Rattle.std.proofs.Common.{◌≡◌, ◌∙◌, ap, sym, subst, map, true, List, [], Option}
-use Rattle.std.specs.Prelude.{IfSome, IsSomeAnd, string_bytes}
+use Rattle.std.proofs.Common.{◌≡◌, ◌∙◌, ap, sym, subst, map, true, List, [], Option, IfSome}
+use Rattle.std.proofs.Common.{IsSomeAnd, string_bytes}
 use Rattle.clap.specs.Faults.{fault_of, is_simple_and_free}
 use Rattle.clap.specs.Kinds.{HasKind}
-use Rattle.clap.specs.Simple.{App, app_of, is_simple, subcommand_of, subcommand_rows_of}
-use Rattle.clap.specs.Walk.{Row, Text}
-use Rattle.command_line.specs.Given.{HasWordsOf}
+use Rattle.clap.specs.Simple.{app_of, is_simple, subcommand_of, subcommand_rows_of}
+use Rattle.command_line.proofs.Shared.{App, Row, Text, HasWordsOf, app_for}
 use Rattle.command_line.specs.Requests.{IsRequest}
-use Rattle.command_line.specs.Shapes.{app_for}
 use Rattle.command_line.proofs.EnteredLemmas.{words_of_command}
 use Rattle.command_line.proofs.ReadLemmas.{read_ok, read_err}
 use Rattle.command_line.proofs.command_line.requested_by.Goals as goal

@@ -1,6 +1,4 @@
-use Rattle.clap.specs.Matches.{found_of, one_text}
-use Rattle.clap.proofs.WalkLemmas.{one_text-rows}
-use Rattle.command_line.specs.Requests.{rows_in}
+use Rattle.command_line.proofs.Shared.{found_of, one_text, one_text-rows, rows_in}
 use Rattle.command_line.proofs.ReaderLemmas.{has_flag, read_flag}
 use Rattle.command_line.proofs.given_words.flag_in.Goals as goal
 

@@ -1,37 +1,11 @@
 use Rattle.std.proofs.Common.{[], ◌∷◌, codes}
-use Rattle.clap.specs.Walk.{first_of}
-use Rattle.command_line.specs.Requests.{rows_in}
+use Rattle.command_line.proofs.Shared.{first_of, rows_in}
 use Rattle.command_line.proofs.ReaderLemmas.{not_given}
 use Rattle.command_line.proofs.given_words.kind_in.Goals as goal
 
 pub returns-in_default-clause-some : goal.returns-in_default-clause-some
 returns-in_default-clause-some c =
-    let at = c.in_default in
     λ has. absurd (not_given (codes "frame" ∷ codes "ledger" ∷ codes "tariff" ∷ codes "damaged"
     ∷ codes "io" ∷ codes "busy" ∷ codes "exists" ∷ codes "word" ∷ codes "unsound" ∷ codes "log"
     ∷ codes "layout" ∷ codes "far" ∷ []) (first_of (codes "kind") (rows_in c.args.found.now)) _
-    c.in_ok-text_in.ensures.text (
-      at.not-frame,
-      (
-        at.not-ledger,
-        (
-          at.not-tariff,
-          (
-            at.not-damaged,
-            (
-              at.not-io,
-              (
-                at.not-busy,
-                (
-                  at.not-exists,
-                  (
-                    at.not-word,
-                    (at.not-unsound, (at.not-log, (at.not-layout, (at.not-far, tt)))),
-                  ),
-                ),
-              ),
-            ),
-          ),
-        ),
-      ),
-    ) has)
+    c.in_ok-text_in.ensures.text (assumption c.in_default) has)

@@ -1,7 +1,5 @@
 use Rattle.std.proofs.Common.{refl}
-use Rattle.clap.specs.Matches.{found_of, one_text}
-use Rattle.clap.proofs.WalkLemmas.{one_text-rows}
-use Rattle.command_line.specs.Requests.{rows_in}
+use Rattle.command_line.proofs.Shared.{found_of, one_text, one_text-rows, rows_in}
 use Rattle.command_line.proofs.ReaderLemmas.{ReadsUnsigned, has_rate, read_number}
 use Rattle.command_line.proofs.given_words.rate_in.Goals as goal
 

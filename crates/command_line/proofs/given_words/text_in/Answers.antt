@@ -1,7 +1,6 @@
 use Rattle.std.proofs.Common.{◌∙◌}
-use Rattle.clap.specs.Matches.{found_of}
 use Rattle.clap.proofs.WalkLemmas.{first_value-rows}
-use Rattle.command_line.specs.Requests.{rows_in}
+use Rattle.command_line.proofs.Shared.{found_of, rows_in}
 use Rattle.command_line.proofs.ReaderLemmas.{has_text, none_read, read_text}
 use Rattle.command_line.proofs.given_words.text_in.Goals as goal
 

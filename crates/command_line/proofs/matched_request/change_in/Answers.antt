@@ -1,8 +1,7 @@
-use Rattle.std.proofs.Common.{refl, subst, sym}
-use Rattle.std.specs.Prelude.{IfSome}
-use Rattle.command_line.specs.Given.{HasWordsOf}
+use Rattle.std.proofs.Common.{refl, subst, sym, IfSome}
+use Rattle.command_line.proofs.Shared.{HasWordsOf, rows_in}
 use Rattle.command_line.specs.Known.{known_table}
-use Rattle.command_line.specs.Requests.{IsOfBooks, rows_in}
+use Rattle.command_line.specs.Requests.{IsOfBooks}
 use Rattle.command_line.proofs.matched_request.change_in.Goals as goal
 
 pub returns-in-init-clause-some : goal.returns-in-init-clause-some

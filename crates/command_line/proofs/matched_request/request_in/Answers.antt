@@ -1,8 +1,7 @@
 use Rattle.std.proofs.Common.{subst}
 use Rattle.report_rows.specs.ReportRows.{row_of}
-use Rattle.command_line.specs.Given.{HasWordsOf}
+use Rattle.command_line.proofs.Shared.{HasWordsOf, rows_in}
 use Rattle.command_line.specs.Known.{known_table}
-use Rattle.command_line.specs.Requests.{rows_in}
 use Rattle.command_line.proofs.matched_request.request_in.Goals as goal
 
 pub returns-in-trial-clause-some : goal.returns-in-trial-clause-some

@@ -1,9 +1,8 @@
-use Rattle.std.proofs.Common.{inr, refl, subst, sym}
-use Rattle.std.specs.Prelude.{IfSome}
+use Rattle.std.proofs.Common.{inr, refl, subst, sym, IfSome}
 use Rattle.report_rows.specs.ReportRows.{row_of}
-use Rattle.command_line.specs.Given.{HasWordsOf}
+use Rattle.command_line.proofs.Shared.{HasWordsOf, rows_in}
 use Rattle.command_line.specs.Known.{known_table}
-use Rattle.command_line.specs.Requests.{IsOfBooks, rows_in}
+use Rattle.command_line.specs.Requests.{IsOfBooks}
 use Rattle.command_line.proofs.matched_request.service_in.Goals as goal
 
 pub returns-in-statement-clause-request : goal.returns-in-statement-clause-request

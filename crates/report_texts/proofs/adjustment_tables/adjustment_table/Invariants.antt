@@ -1,5 +1,4 @@
-use Rattle.std.proofs.Common.{◌≡◌, ◌++◌, take}
-use Rattle.std.specs.List.{flat_map}
+use Rattle.std.proofs.Common.{◌≡◌, ◌++◌, take, flat_map}
 use Rattle.report_texts.specs.AdjustmentTables.{line_fields, line_heading}
 use Rattle.report_texts.specs.Tables.{fields_line}
 use Rattle.report_texts.proofs.adjustment_tables.adjustment_table.Given as goal

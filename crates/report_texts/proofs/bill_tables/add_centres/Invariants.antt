@@ -1,5 +1,4 @@
-use Rattle.std.proofs.Common.{◌≡◌, ◌++◌, take}
-use Rattle.std.specs.List.{flat_map}
+use Rattle.std.proofs.Common.{◌≡◌, ◌++◌, take, flat_map}
 use Rattle.report_texts.specs.BillTables.{centre_row}
 use Rattle.report_texts.proofs.bill_tables.add_centres.Given as goal
 

@@ -1,6 +1,5 @@
-use Rattle.std.proofs.Common.{subst, sym}
-use Rattle.std.specs.Prelude.{All}
-use Rattle.report_texts.specs.Charges.{FitCharges}
+use Rattle.std.proofs.Common.{subst, sym, All}
+use Rattle.report_texts.proofs.Words.{FitCharges}
 use Rattle.report_texts.specs.declared.charges.CentreCharges.{CentreCharges}
 use Rattle.report_texts.proofs.bill_tables.office_bill_table.Goals as goal
 

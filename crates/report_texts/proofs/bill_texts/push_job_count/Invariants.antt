@@ -1,5 +1,4 @@
-use Rattle.std.proofs.Common.{[]}
-use Rattle.std.specs.Fmt.{decimal}
+use Rattle.std.proofs.Common.{[], decimal}
 use Rattle.report_texts.specs.Statements.{work_columns}
 use Rattle.report_texts.proofs.bill_texts.push_job_count.Given as goal
 

@@ -1,5 +1,4 @@
-use Rattle.std.proofs.Common.{◌≡◌, ◌∙◌, ◌++◌, ℕ, List, ap, append_assoc}
-use Rattle.std.specs.Prelude.{codes}
+use Rattle.std.proofs.Common.{◌≡◌, ◌∙◌, ◌++◌, ℕ, List, ap, append_assoc, codes}
 use Rattle.report_texts.specs.BillTexts.{job_lines, work_lines}
 use Rattle.report_texts.specs.Statements.{row_lines}
 use Rattle.report_texts.proofs.bill_texts.push_work_lines.Goals as goal

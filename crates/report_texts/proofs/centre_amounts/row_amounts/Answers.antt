@@ -1,6 +1,5 @@
 use Rattle.std.proofs.Common.{ap, arith}
-use Rattle.book_model.specs.declared.row.ChargeRow.{ChargeRow}
-use Rattle.report_texts.specs.CentreAmounts.{cost_among}
+use Rattle.report_texts.proofs.Words.{ChargeRow, cost_among}
 use Rattle.report_texts.proofs.CentreAmountLemmas.{own_all, own_fits, own_more}
 use Rattle.report_texts.proofs.centre_amounts.row_amounts.Goals as goal
 

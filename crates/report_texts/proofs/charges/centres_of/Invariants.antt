@@ -1,7 +1,6 @@
 use Rattle.std.proofs.Common.{◌≡◌, take}
-use Rattle.book_model.specs.declared.line.Line.{Line}
-use Rattle.book_model.specs.declared.row.ChargeRow.{ChargeRow}
 use Rattle.report_texts.proofs.ChargeLemmas.{joined}
+use Rattle.report_texts.proofs.Words.{Line, ChargeRow}
 use Rattle.report_texts.proofs.charges.centres_of.Given as goal
 
 -- the centres so far have joined those that were there

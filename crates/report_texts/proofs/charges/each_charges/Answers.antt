@@ -1,5 +1,4 @@
-use Rattle.std.proofs.Common.{◌∙◌, ap, map}
-use Rattle.std.proofs.lemmas.List.{take_all}
+use Rattle.std.proofs.Common.{◌∙◌, ap, map, take_all}
 use Rattle.report_texts.specs.Charges.{centres_of}
 use Rattle.report_texts.proofs.CentreAmountLemmas.{all_charged, charged_by}
 use Rattle.report_texts.proofs.charges.each_charges.Goals as goal

@@ -1,5 +1,4 @@
-use Rattle.std.proofs.Common.{◌++◌}
-use Rattle.std.specs.Prelude.{codes}
+use Rattle.std.proofs.Common.{◌++◌, codes}
 use Rattle.report_texts.specs.Columns.{left_aligned}
 use Rattle.report_texts.proofs.columns.push_left.Given as goal
 

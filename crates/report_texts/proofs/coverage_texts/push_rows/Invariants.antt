@@ -1,5 +1,4 @@
-use Rattle.std.proofs.Common.{◌≡◌, ◌++◌, take}
-use Rattle.std.specs.List.{flat_map}
+use Rattle.std.proofs.Common.{◌≡◌, ◌++◌, take, flat_map}
 use Rattle.report_texts.specs.Coverage.{coverage_line}
 use Rattle.report_texts.proofs.coverage_texts.push_rows.Given as goal
 

@@ -1,5 +1,4 @@
-use Rattle.std.proofs.Common.{◌≡◌, ◌++◌, map, take}
-use Rattle.std.specs.List.{flat_map}
+use Rattle.std.proofs.Common.{◌≡◌, ◌++◌, map, take, flat_map}
 use Rattle.book_model.specs.Words.{dispute_shown}
 use Rattle.report_texts.specs.DisputeLists.{dispute_lines}
 use Rattle.report_texts.proofs.dispute_lists.push_disputes.Given as goal

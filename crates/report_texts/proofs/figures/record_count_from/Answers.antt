@@ -1,6 +1,5 @@
-use Rattle.std.proofs.Common.{◌∙◌, ap, take, w32}
-use Rattle.std.proofs.lemmas.Int.{to_z-of_z}
-use Rattle.std.proofs.lemmas.List.{take_all}
+use Rattle.std.proofs.Common.{◌∙◌, ap, take, w32, take_all}
+use Rattle.book_model.proofs.Std.{to_z-of_z}
 use Rattle.report_texts.specs.Figures.{record_count_from}
 use Rattle.report_texts.proofs.figures.record_count_from.Goals as goal
 

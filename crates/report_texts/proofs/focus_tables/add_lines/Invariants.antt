@@ -1,6 +1,5 @@
-use Rattle.std.proofs.Common.{◌≡◌, ◌++◌, take}
-use Rattle.std.specs.List.{flat_map}
-use Rattle.report_texts.specs.FocusTables.{LineSeen, head_shown, row_line}
+use Rattle.std.proofs.Common.{◌≡◌, ◌++◌, take, flat_map}
+use Rattle.report_texts.proofs.Words.{LineSeen, head_shown, row_line}
 use Rattle.report_texts.proofs.focus_tables.add_lines.Given as goal
 
 -- the rows of the lines so far are there

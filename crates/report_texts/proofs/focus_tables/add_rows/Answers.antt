@@ -1,6 +1,5 @@
-use Rattle.std.proofs.Common.{◌∙◌, ◌++◌, ap, append_assoc, sym}
-use Rattle.std.specs.List.{flat_map}
-use Rattle.report_texts.specs.FocusTables.{LineSeen, head_shown, row_line}
+use Rattle.std.proofs.Common.{◌∙◌, ◌++◌, ap, append_assoc, sym, flat_map}
+use Rattle.report_texts.proofs.Words.{LineSeen, head_shown, row_line}
 use Rattle.report_texts.proofs.FocusLemmas.{rows_in_turn}
 use Rattle.report_texts.proofs.focus_tables.add_rows.Goals as goal
 

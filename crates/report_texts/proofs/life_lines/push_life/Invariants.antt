@@ -1,5 +1,4 @@
-use Rattle.std.proofs.Common.{◌≡◌, ◌++◌, take}
-use Rattle.std.specs.List.{flat_map}
+use Rattle.std.proofs.Common.{◌≡◌, ◌++◌, take, flat_map}
 use Rattle.report_texts.specs.LifeLines.{turn_line}
 use Rattle.report_texts.proofs.life_lines.push_life.Given as goal
 

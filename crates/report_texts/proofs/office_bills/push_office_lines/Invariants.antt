@@ -1,5 +1,4 @@
-use Rattle.std.proofs.Common.{◌≡◌, ◌++◌, take}
-use Rattle.std.specs.List.{flat_map}
+use Rattle.std.proofs.Common.{◌≡◌, ◌++◌, take, flat_map}
 use Rattle.report_texts.specs.OfficeBills.{centre_line}
 use Rattle.report_texts.proofs.office_bills.push_office_lines.Given as goal
 

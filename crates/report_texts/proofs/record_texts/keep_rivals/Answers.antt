@@ -1,10 +1,9 @@
-use Rattle.std.proofs.Common.{◌≡◌, rules, subst, sym}
-use Rattle.std.specs.Prelude.{All, not}
-use Rattle.std.proofs.lemmas.Fn.{filter_same}
-use Rattle.std.proofs.lemmas.List.Elements.{All-filter}
+use Rattle.std.proofs.Common.{◌≡◌, rules, subst, sym, All, not}
+use Rattle.book_model.proofs.Std.{All-filter}
 use Rattle.book_model.specs.declared.dispute.Variant.{Variant}
 use Rattle.book_model.specs.Words.{IsDay, same_bytes}
 use Rattle.report_texts.specs.RecordTexts.{rivals_of}
+use Rattle.report_texts.proofs.Words.{filter_same}
 use Rattle.report_texts.proofs.record_texts.keep_rivals.Goals as goal
 
 pub returns : goal.returns

@@ -1,5 +1,4 @@
-use Rattle.std.proofs.Common.{◌≡◌, ◌++◌, take}
-use Rattle.std.specs.List.{flat_map}
+use Rattle.std.proofs.Common.{◌≡◌, ◌++◌, take, flat_map}
 use Rattle.report_texts.specs.StatementTables.{table_heading, table_line}
 use Rattle.report_texts.proofs.statement_tables.row_table.Given as goal
 

@@ -1,5 +1,4 @@
-use Rattle.std.proofs.Common.{◌≡◌, take}
-use Rattle.std.specs.List.{sum_by}
+use Rattle.std.proofs.Common.{◌≡◌, take, sum_by}
 use Rattle.report_texts.proofs.statements.row_sums.Given as goal
 
 -- the sums of the rows so far

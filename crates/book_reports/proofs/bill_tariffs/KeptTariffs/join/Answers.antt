@@ -1,7 +1,6 @@
 use Rattle.std.proofs.Common.{◌∙◌, ◌++◌, append-nil, ap, subst, sym, w32}
-use Rattle.std.proofs.lemmas.Int.{to_z-of_z}
-use Rattle.std.proofs.lemmas.Result.{on_ok_weaker}
-use Rattle.book_reports.specs.BillTariffs.{HasKept, kept_of, left_by}
+use Rattle.book_model.proofs.Std.{to_z-of_z}
+use Rattle.book_reports.proofs.Words.{on_ok_weaker, HasKept, kept_of, left_by}
 use Rattle.book_reports.proofs.KeptTariffLemmas.{kept_more, through_none, through_one}
 use Rattle.book_reports.proofs.bill_tariffs.KeptTariffs.join.Goals as goal
 

@@ -1,11 +1,8 @@
 use Rattle.std.proofs.Common.{map, subst, sym}
-use Rattle.std.proofs.lemmas.Result.{on_ok_weaker}
 use Rattle.book_model.specs.Words.{IsDay}
-use Rattle.book_model.proofs.DayLemmas.{day_kept}
-use Rattle.book_lists.specs.TariffsInTurn.{tariff_shown}
-use Rattle.book_lists.proofs.CursorLemmas.{map_push}
-use Rattle.book_reports.specs.BillTariffs.{HasKept, kept_of}
-use Rattle.book_reports.proofs.bill_tariffs.KeptStepStep.add.Goals as goal
+use Rattle.book_model.proofs.Lemmas.{day_kept}
+use Rattle.book_reports.proofs.Words.{on_ok_weaker, tariff_shown, map_push, HasKept, kept_of}
+use Rattle.book_reports.proofs.bill_tariffs.KeptStepStepListedTariff.add.Goals as goal
 
 pub join-requires : goal.join-requires
 join-requires c = subst IsDay (sym (day_kept c.args.tariff.now.day c.requires)) c.requires

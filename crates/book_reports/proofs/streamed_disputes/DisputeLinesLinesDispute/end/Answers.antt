@@ -1,6 +1,6 @@
 use Rattle.std.proofs.Common.{◌≤◌, ◌∙◌, length, subst, sym}
 use Rattle.book_reports.proofs.DisputeLemmas.{none_missing}
-use Rattle.book_reports.proofs.streamed_disputes.DisputeLinesLines.end.Goals as goal
+use Rattle.book_reports.proofs.streamed_disputes.DisputeLinesLinesDispute.end.Goals as goal
 
 -- none is missing
 pub returns : goal.returns

@@ -1,7 +1,6 @@
-use Rattle.std.proofs.Common.{ap, sym, ◌∙◌}
-use Rattle.std.specs.Str.{bytes_eq}
+use Rattle.std.proofs.Common.{ap, sym, ◌∙◌, bytes_eq}
 use Rattle.report_rows.specs.ReportRows.{Row}
-use Rattle.report_rows.proofs.named_reports.has_word.Goals as goal
+use Rattle.report_rows.proofs.report_row.has_word.Goals as goal
 
 pub returns : goal.returns
 returns c =

@@ -1,7 +1,7 @@
 use Rattle.std.proofs.Common.{◌∙◌, ap, map}
 use Rattle.book_model.specs.Words.{dispute_shown, held_back_in}
 use Rattle.book_lists.proofs.CursorLemmas.{map_push}
-use Rattle.book_reports.proofs.held_back.HeldStepStep.add.Goals as goal
+use Rattle.book_reports.proofs.held_back.HeldStepStepDispute.add.Goals as goal
 
 -- with one more dispute
 pub returns-clause-added : goal.returns-clause-added

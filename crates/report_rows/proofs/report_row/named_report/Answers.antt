@@ -1,6 +1,6 @@
 use Rattle.std.proofs.Common.{ap, sym, ◌∙◌, find, option_copied}
 use Rattle.report_rows.specs.ReportRows.{has_word}
-use Rattle.report_rows.proofs.named_reports.named_report.Goals as goal
+use Rattle.report_rows.proofs.report_row.named_report.Goals as goal
 
 pub returns-in-Some : goal.returns-in-Some
 returns-in-Some c =
