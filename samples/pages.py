@@ -6,7 +6,7 @@ WIDTH, COLOURS, MOST_NAMED = 10000, 8, 12
 REFERENCES = {"&": "&amp;", "<": "&lt;", ">": "&gt;", '"': "&quot;", "'": "&#39;"}
 # The reports to which a page leads, by their paths.
 OF_ALL = "periods rulings disputes disputes-csv".split()
-OF_PERIODS = "statement statement-csv adjustments adjustments-csv details details-csv".split()
+OF_PERIODS = "statement statement-csv adjustments adjustments-csv details details-csv focus coverage coverage-csv".split()
 
 STYLE = """:root{color-scheme:light dark;--ink:#1d2129;--soft:#626a78;--line:#dfe3ea;--page:#fbfbfa;--card:#fff;--link:#2257a5}
 @media(prefers-color-scheme:dark){:root{--ink:#e8eaee;--soft:#9aa3b2;--line:#333a46;--page:#15181d;--card:#1c2027;--link:#8ab4f0}}

@@ -33,7 +33,8 @@ report_link period path =
 abbrev pub report_paths : List (List ℕ)
 report_paths =
     codes "statement" ∷ codes "statement-csv" ∷ codes "adjustments" ∷ codes "adjustments-csv"
-    ∷ codes "details" ∷ codes "details-csv" ∷ []
+    ∷ codes "details" ∷ codes "details-csv" ∷ codes "focus" ∷ codes "coverage"
+    ∷ codes "coverage-csv" ∷ []
 
 -- the links to them and back, and the end of the page
 unfoldable pub period_foot : ℕ → List ℕ

@@ -79,13 +79,16 @@ fn push_links(out: &mut Draft, period: u16, paths: &[&str])
 pub(crate) fn push_period_foot(out: &mut Draft, period: u16)
     ensures { out.new ≡ out.old ++ spec.period_foot period }
 {
-    let paths: [&str; 6] = [
+    let paths: [&str; 9] = [
         "statement",
         "statement-csv",
         "adjustments",
         "adjustments-csv",
         "details",
         "details-csv",
+        "focus",
+        "coverage",
+        "coverage-csv",
     ];
     out.push_str("<nav aria-label='Texts'>\n<a href='/'>office</a>\n");
     push_links(out, period, &paths);
