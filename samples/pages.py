@@ -187,14 +187,20 @@ def office_page(books):
 
 # ---- The page of a period
 
+def gaps(books, period):
+    """How often a system has no record on a day of the period, where anything is counted."""
+    records = [times for _, _, times in books.coverage_rows(period)]
+    return sum(not times for times in records) if records else "No records"
+
+
 def head(books, period):
-    """Its number, whether it is open, and its sums."""
+    """Its number, whether it is open, its sums, and its gaps."""
     _, *amounts = figures(books, period)
     yield "<header>\n<p><a href='/'>Office</a></p>\n<h1>Period %d</h1>\n<p>%s</p>\n</header>\n<dl>\n" % (
         period, books.head(period))
     for name, one in zip(("Charged", "Added", "Reversed", "Owed"), amounts):
         yield "<div><dt>%s</dt><dd>%s</dd></div>\n" % (name, amount(one))
-    yield "</dl>\n"
+    yield "<div><dt>Gaps</dt><dd>%s</dd></div>\n</dl>\n" % gaps(books, period)
 
 
 def row_cells(place, sums):

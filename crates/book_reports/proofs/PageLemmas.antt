@@ -5,15 +5,16 @@ use Rattle.std.proofs.lemmas.List.{map-append}
 use Rattle.std.proofs.lemmas.List.FromFn.{map-range_with_len_more}
 use Rattle.book_model.specs.declared.line.Line.{Line}
 use Rattle.book_model.specs.declared.row.ChargeRow.{ChargeRow}
-use Rattle.book_model.specs.Words.{Book, Disputed, Naming, charges_outcome, disputes_outcome}
-use Rattle.book_model.specs.Words.{periods_outcome}
+use Rattle.book_model.specs.Words.{Book, Disputed, Naming, disputes_outcome, periods_outcome}
 use Rattle.page_texts.specs.declared.figures.PeriodFigures.{PeriodFigures}
 use Rattle.page_texts.specs.Figures.{FiguresSeen, figures_of, figures_seen}
 use Rattle.page_texts.specs.OfficePage.{office_page_text}
 use Rattle.page_texts.specs.PeriodPage.{period_page_text}
 use Rattle.report_texts.specs.Figures.{number_after, period_open}
+use Rattle.report_texts.specs.declared.coverage_rows.CoverageRow.{CoverageRow}
 use Rattle.book_lists.specs.Shown.{shown_by}
 use Rattle.book_lists.proofs.WritingLemmas.{same_value}
+use Rattle.book_reports.specs.Coverage.{coverage_rows_answer}
 use Rattle.book_reports.specs.Figures.{lines_outcome, rows_outcome}
 use Rattle.book_reports.specs.Pages.{first_figures, office_page_outcome, page_figures}
 use Rattle.book_reports.specs.Pages.{page_figures_outcome, period_page_outcome}
@@ -60,16 +61,18 @@ module _ {naming : Naming} {closes : List ℤ} {count : ℕ} {periods : List Per
         let shown = ap (λ count. first_figures naming count book) numbered ∙ sym it.figures in
         (λ i. Ok (office_page_text (closed i) (shown i))) ∙ ap Ok (sym made)
 
--- the page of a period that has these rows, lines and disputes
+-- the page of a period that has these rows, lines and disputes, and this coverage
 pub page_known : (naming : Naming) (period : ℕ) (closes : List ℤ) (rows : List ChargeRow)
-    (lines : List Line) (disputes : List Disputed) (page : List ℕ) (book : Book)
-    → page ≡ period_page_text period closes rows lines disputes
-    → (charges_outcome period book).answer ≡ Ok rows
+    (lines : List Line) (disputes : List Disputed) (coverage : List CoverageRow) (page : List ℕ)
+    (book : Book) → page ≡ period_page_text period closes rows lines disputes coverage
+    → coverage_rows_answer naming period book ≡ Ok coverage
+    → (rows_outcome period book).answer ≡ Ok rows
     → (lines_outcome naming period book).answer ≡ Ok lines
     → (disputes_outcome naming book).answer ≡ Ok disputes
     → (periods_outcome book).answer ≡ Ok closes
     → (period_page_outcome naming period book).answer ≡ Ok page
-page_known naming period closes rows lines disputes page book made charged lined disputed closed =
-    (λ i. shown_by (λ rows. period_page_text period (same_value closed i) rows (same_value lined i)
-    (same_value disputed i)) (charged i))
+page_known naming period closes rows lines disputes coverage page book made covered charged lined
+    disputed closed =
+    (λ i. shown_by (λ coverage. period_page_text period (same_value closed i) (same_value charged i)
+    (same_value lined i) (same_value disputed i) coverage) (covered i))
     ∙ ap Ok (sym made)
