@@ -188,7 +188,7 @@ pub fn report_text<L: Ledger>(
             |closes| Ok(period_list_text(alloc, &closes)?.into_bytes()),
         ),
         Report::RulingList => ruling_list(alloc, ledger),
-        Report::TariffText(day) => tariff_text(alloc, ledger, day),
+        Report::TariffText(day) => tariff_text(ledger, day),
         Report::Record(name) => made_of(
             ledger.trail_of(alloc, &name),
             |trail| Ok(record_text(alloc, &name, trail)?.into_bytes()),
