@@ -6,7 +6,7 @@ WIDTH, COLOURS, MOST_NAMED = 10000, 8, 12
 REFERENCES = {"&": "&amp;", "<": "&lt;", ">": "&gt;", '"': "&quot;", "'": "&#39;"}
 # The reports to which a page leads, by their paths.
 OF_ALL = "periods rulings disputes disputes-csv".split()
-OF_PERIODS = "statement statement-csv adjustments adjustments-csv details details-csv".split()
+OF_PERIODS = "statement statement-csv adjustments adjustments-csv details details-csv focus coverage coverage-csv".split()
 
 STYLE = """:root{color-scheme:light dark;--ink:#1d2129;--soft:#626a78;--line:#dfe3ea;--page:#fbfbfa;--card:#fff;--link:#2257a5}
 @media(prefers-color-scheme:dark){:root{--ink:#e8eaee;--soft:#9aa3b2;--line:#333a46;--page:#15181d;--card:#1c2027;--link:#8ab4f0}}
@@ -187,14 +187,20 @@ def office_page(books):
 
 # ---- The page of a period
 
+def gaps(books, period):
+    """How often a system has no record on a day of the period, where anything is counted."""
+    records = [times for _, _, times in books.coverage_rows(period)]
+    return sum(not times for times in records) if records else "No records"
+
+
 def head(books, period):
-    """Its number, whether it is open, and its sums."""
+    """Its number, whether it is open, its sums, and its gaps."""
     _, *amounts = figures(books, period)
     yield "<header>\n<p><a href='/'>Office</a></p>\n<h1>Period %d</h1>\n<p>%s</p>\n</header>\n<dl>\n" % (
         period, books.head(period))
     for name, one in zip(("Charged", "Added", "Reversed", "Owed"), amounts):
         yield "<div><dt>%s</dt><dd>%s</dd></div>\n" % (name, amount(one))
-    yield "</dl>\n"
+    yield "<div><dt>Gaps</dt><dd>%s</dd></div>\n</dl>\n" % gaps(books, period)
 
 
 def row_cells(place, sums):

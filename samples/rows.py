@@ -324,11 +324,12 @@ class Rows:
         return self.books.of_period(getattr(self.books, OF_OFFICE[verb]), int(period))
 
     def page_asks(self, period):
-        """How often a page asks the books. For the days of the closes, for the rows and the lines of the period, or of each
-        one, and of one period for the disputes. Where there is no such period the days are all."""
+        """How often a page asks the books. That of the office: for the days of the closes, and for the rows and the lines of
+        each period. That of a period: for its coverage, which is all where there is no such period, for its rows and its
+        lines, for the disputes, and for the days of the closes."""
         if period is None:
             return 1 + 2 * self.books.open
-        return 4 if 0 < period <= self.books.open else 1
+        return self.office_asks("coverage", period) + 4 * (0 < period <= self.books.open)
 
     def page(self, period=None):
         """The page of a period, or of the office, or why there is none."""

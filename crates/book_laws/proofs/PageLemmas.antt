@@ -2,27 +2,31 @@
 use Rattle.std.proofs.Common.{◌≡◌, ◌∙◌, ℕ, suc, zero, ◌+◌, ◌-◌, ◌<◌, ◌≤◌, Bool, true, false, List}
 use Rattle.std.proofs.Common.{[], ◌∷◌, ◌++◌, append-nil, append_assoc, codes, get_or, length, Some}
 use Rattle.std.proofs.Common.{None, Ok, ap, arith, refl, sym, lt-ltb, ok_or, option_map, ◌==◌, cond}
-use Rattle.std.proofs.Common.{flat_map, slice_get, sum_by}
+use Rattle.std.proofs.Common.{flat_map, map, slice_get, sum_by}
 use Rattle.std.proofs.lemmas.List.FromFn.{get_or-map-range_with_len, length-map-range_with_len}
 use Rattle.book_model.proofs.Std.{nat_tests, option_map_or}
-use Rattle.book_model.specs.Words.{Book, Naming, Period, disputes_in, lines_of, open_by}
+use Rattle.book_model.specs.Words.{Book, Naming, Period, details_of, disputes_in, lines_of, open_by}
 use Rattle.book_model.specs.Words.{open_period, close_of, last_period, period_of, rows_for}
 use Rattle.report_texts.specs.AdjustmentLists.{adjustment_line, adjustment_list_text, sum_line}
 use Rattle.report_texts.specs.Figures.{period_open}
+use Rattle.report_texts.specs.declared.coverage_rows.CoverageRow.{CoverageRow}
 use Rattle.report_texts.specs.Periods.{title_line}
 use Rattle.report_texts.specs.Statements.{heading, row_line, statement_text, total_line}
 use Rattle.page_texts.specs.Figures.{FiguresSeen, figures_of}
 use Rattle.page_texts.specs.Frame.{page_start, table_end}
 use Rattle.page_texts.specs.OfficePage.{cost_part, last_first, office_foot, office_head, office_row}
 use Rattle.page_texts.specs.OfficePage.{office_rows}
-use Rattle.page_texts.specs.PeriodHead.{period_foot, period_head, period_title}
+use Rattle.page_texts.specs.PeriodHead.{gaps_figure, period_foot, period_head, period_title}
 use Rattle.page_texts.specs.PeriodPage.{period_page_text}
 use Rattle.page_texts.specs.PeriodPictures.{centre_part, day_part}
 use Rattle.page_texts.specs.PeriodTables.{adjustment_part, dispute_part, statement_part}
 use Rattle.book_reports.specs.BookTexts.{closed_through, report_answer, shown_by}
+use Rattle.book_reports.specs.Coverage.{closes_around, rows_by}
 use Rattle.book_reports.specs.Pages.{first_figures, page_figures}
+use Rattle.book_reports.specs.SystemDetails.{on_system}
 use Rattle.book_reports.specs.declared.report.PeriodReport.TheVariants.{AdjustmentList}
 use Rattle.book_reports.specs.declared.report.Report.TheVariants.{OfPeriod, OfficePage, PeriodPage}
+use Rattle.book_laws.specs.CoverageLaws.{coverage_in}
 use Rattle.book_laws.specs.PageLaws.{EndsWith, HasPart, OpenIsOpen, PageTotalsAreTheReports}
 use Rattle.book_laws.specs.PageLaws.{adjustments_end, statement_end}
 use Rattle.book_laws.proofs.Words.{NoSuchPeriod, Line, ChargeRow, Statement}
@@ -51,10 +55,10 @@ row_stands row before (figures ∷ later) (suc i) number other is inside =
     )
 
 -- texts that stand one after the other, with all before a part and all behind it together
-page_parts : (start head days centres rows lines disputes foot : List ℕ)
-    → start ++ head ++ days ++ centres ++ rows ++ lines ++ disputes ++ foot
-    ≡ start ++ head ++ (days ++ centres ++ rows ++ lines ++ disputes ++ foot)
-page_parts start head days centres rows lines disputes foot = simp append_assoc
+page_parts : (start head gaps days centres rows lines disputes foot : List ℕ)
+    → start ++ head ++ gaps ++ days ++ centres ++ rows ++ lines ++ disputes ++ foot
+    ≡ start ++ head ++ (gaps ++ days ++ centres ++ rows ++ lines ++ disputes ++ foot)
+page_parts start head gaps days centres rows lines disputes foot = simp append_assoc
 
 office_parts : (start head front own behind last costs foot : List ℕ)
     → start ++ head ++ (front ++ own ++ behind) ++ last ++ costs ++ foot
@@ -72,6 +76,9 @@ module _ (naming : Naming) (book : Book) (number : ℕ) (period : Period)
 
     abbrev its_figures : FiguresSeen
     its_figures = figures_of its_rows its_lines
+
+    abbrev its_coverage : List CoverageRow
+    its_coverage = coverage_in naming book number period
 
     -- the first number is 1
     number_counts : 0 < number
@@ -118,18 +125,20 @@ module _ (naming : Naming) (book : Book) (number : ℕ) (period : Period)
         let closes = book.rulings.closes in
         let disputes = disputes_in naming book.rulings book.held in (
           page_start (period_title number),
-          day_part its_rows ++ centre_part its_rows ++ statement_part its_rows
-              ++ adjustment_part its_lines
+          gaps_figure its_coverage ++ day_part its_rows ++ centre_part its_rows
+              ++ statement_part its_rows ++ adjustment_part its_lines
               ++ dispute_part (close_of (number - 1) closes) (close_of number closes) disputes
               ++ period_foot number,
-          (λ i. shown_by (λ rows. period_page_text number closes rows
-              (option_map_or (lines_of naming book.rulings) (is i) []) disputes)
-              (ok_or (option_map (λ (period : Period). rows_for book.rulings period.counted) (is i))
-              NoSuchPeriod))
+          (λ i. shown_by (λ coverage. period_page_text number closes
+              (option_map_or (λ (period : Period). rows_for book.rulings period.counted) (is i) [])
+              (option_map_or (lines_of naming book.rulings) (is i) []) disputes coverage)
+              (shown_by (rows_by (closes_around number book)) (shown_by (map (on_system naming book))
+              (ok_or (option_map (λ (period : Period). details_of naming book.rulings period) (is i))
+              NoSuchPeriod))))
               ∙ ap Ok (page_parts (page_start (period_title number))
               (period_head (period_title number) (close_of number closes) its_figures)
-              (day_part its_rows) (centre_part its_rows) (statement_part its_rows)
-              (adjustment_part its_lines)
+              (gaps_figure its_coverage) (day_part its_rows) (centre_part its_rows)
+              (statement_part its_rows) (adjustment_part its_lines)
               (dispute_part (close_of (number - 1) closes) (close_of number closes) disputes)
               (period_foot number)),
         )

@@ -1,12 +1,11 @@
 -- The coverage of a period, of calls that show one book.
 use Rattle.std.proofs.Common.{◌≡◌, ◌∙◌, ℕ, ◌-◌, ℤ, List, map, refl, sym, ap, subst, Option, Result}
 use Rattle.std.proofs.Common.{Ok, Err, IfOk, IsErrAnd}
-use Rattle.book_model.specs.Words.{no_event}
+use Rattle.book_model.specs.Words.{Book, Naming, no_event}
 use Rattle.book_core.specs.Words.{IsCall, Seen}
 use Rattle.book_reports.specs.declared.coverage_sums.CoverageSums.{CoverageSums}
 use Rattle.book_reports.specs.declared.period_days.PeriodDays.{PeriodDays}
-use Rattle.book_reports.specs.declared.what_if.StatementForm.{StatementForm}
-use Rattle.book_reports.specs.Coverage.{around_outcome, closes_around, coverage_answer, coverage_by}
+use Rattle.book_reports.specs.Coverage.{around_outcome, closes_around}
 use Rattle.book_reports.proofs.Words.{LedgerFault, Memory, Folds, shown_by, map_same, by_names}
 use Rattle.book_reports.proofs.Words.{answers, answers_none, both_shown, refused_next, shown}
 use Rattle.book_reports.proofs.Words.{then_stays, same_value, IsCoverageOf, SystemDetails}
@@ -42,14 +41,19 @@ module _ (period earlier : ℕ) {old mid new : Seen} {before : Option ℤ} (is :
         λ i. Ok (days (early i) (late i)))
         (both_shown (λ book. refl) (shown (λ book. refl) first) next)
 
--- ---- the coverage
+-- ---- the coverage, or what else the days of a period and its records make
 
-module _ (form : StatementForm) (period : ℕ) {old mid new : Seen} {days : PeriodDays}
-    {result : Result CoverageSums LedgerFault}
+module _ {A : Type 0} (by : PeriodDays → SystemDetails → A) (period : ℕ) {old mid new : Seen}
+    {days : PeriodDays} {result : Result CoverageSums LedgerFault}
     (first : IsCall (λ days. days) old mid (Ok days) (around_outcome period))
     (it : Folds (λ one. one) mid new (λ book. system_details mid.naming period book) IsCoverageOf
     result)
   where
+    -- what a book answers to it
+    abbrev made_answer : Naming → Book → Result A LedgerFault
+    made_answer naming book =
+        shown_by (by (closes_around period book)) (system_details naming period book)
+
     -- the same call by the names that there were
     its_call : IsCall (λ sums. map (λ one. one) it.items) mid new result
         (λ book. no_event (system_details old.naming period book))
@@ -58,13 +62,11 @@ module _ (form : StatementForm) (period : ℕ) {old mid new : Seen} {days : Peri
         it.read
 
     -- the records were refused
-    pub coverage_refused : {T : Type 0} (show : T → List ℕ) (fault : LedgerFault)
-        → result ≡ Err fault
-        → IsCall show old new (Err fault)
-        (λ book. no_event (coverage_answer old.naming form period book))
+    pub coverage_refused : {T : Type 0} (show : T → A) (fault : LedgerFault) → result ≡ Err fault
+        → IsCall show old new (Err fault) (λ book. no_event (made_answer old.naming book))
     coverage_refused show fault is =
         refused_next (Err fault) refl (λ book. refl) (λ book. refl)
-        (λ book known. ap (shown_by (coverage_by form period (closes_around period book))))
+        (λ book known. ap (shown_by (by (closes_around period book))))
         (shown (λ book. refl) first)
         (subst (λ result. IsCall (λ sums. map (λ one. one) it.items) mid new result
         (λ book. no_event (system_details old.naming period book))) is its_call)
@@ -81,23 +83,20 @@ module _ (form : StatementForm) (period : ℕ) {old mid new : Seen} {days : Peri
       sums_are = subst (λ result. IfOk result (λ sums. IsCoverageOf sums it.items)) is it.has
 
       -- there was no memory for its text
-      pub coverage_stopped : {T : Type 0} (show : T → List ℕ)
-          → IsCall show old new (Err Memory)
-          (λ book. no_event (coverage_answer old.naming form period book))
+      pub coverage_stopped : {T : Type 0} (show : T → A)
+          → IsCall show old new (Err Memory) (λ book. no_event (made_answer old.naming book))
       coverage_stopped show =
           answers_none (λ book. refl)
           (then_stays (λ book. refl) (shown (λ book. refl) first) read_call)
 
       -- or this is its text
-      pub coverage_made : {T : Type 0} (show : T → List ℕ) (text : T)
-          → ((details : SystemDetails) → IsCoverageOf sums details
-          → show text ≡ coverage_by form period days details)
-          → IsCall show old new (Ok text)
-          (λ book. no_event (coverage_answer old.naming form period book))
+      pub coverage_made : {T : Type 0} (show : T → A) (text : T)
+          → ((details : SystemDetails) → IsCoverageOf sums details → show text ≡ by days details)
+          → IsCall show old new (Ok text) (λ book. no_event (made_answer old.naming book))
       coverage_made show text makes =
           answers text (λ book. refl)
           (λ book both.
-          ap (shown_by (coverage_by form period (closes_around period book))) both.next
-          ∙ (λ i. Ok (coverage_by form period (same_value both.first i) (sym (map_same it.items) i)))
+          ap (shown_by (by (closes_around period book))) both.next
+          ∙ (λ i. Ok (by (same_value both.first i) (sym (map_same it.items) i)))
           ∙ ap Ok (sym (makes it.items sums_are)))
           (both_shown (λ book. refl) (shown (λ book. refl) first) read_call)

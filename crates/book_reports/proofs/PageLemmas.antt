@@ -3,14 +3,14 @@ use Rattle.std.proofs.Common.{◌≡◌, ◌∙◌, ℕ, ◌+◌, ℤ, List, [],
 use Rattle.std.proofs.Common.{Ok}
 use Rattle.std.proofs.lemmas.List.FromFn.{map-range_with_len_more}
 use Rattle.book_model.proofs.Std.{map-append}
-use Rattle.book_model.specs.Words.{Book, Disputed, Naming, charges_outcome, disputes_outcome}
-use Rattle.book_model.specs.Words.{periods_outcome}
+use Rattle.book_model.specs.Words.{Book, Disputed, Naming, disputes_outcome, periods_outcome}
 use Rattle.page_texts.specs.declared.figures.PeriodFigures.{PeriodFigures}
 use Rattle.page_texts.specs.Figures.{FiguresSeen}
 use Rattle.report_texts.specs.Figures.{period_open}
+use Rattle.book_reports.specs.Coverage.{coverage_rows_answer}
 use Rattle.book_reports.proofs.Words.{Line, ChargeRow, figures_of, figures_seen, office_page_text}
-use Rattle.book_reports.proofs.Words.{period_page_text, number_after, shown_by, same_value}
-use Rattle.book_reports.proofs.Words.{lines_outcome}
+use Rattle.book_reports.proofs.Words.{period_page_text, number_after, CoverageRow, shown_by}
+use Rattle.book_reports.proofs.Words.{same_value, lines_outcome}
 use Rattle.book_reports.specs.Figures.{rows_outcome}
 use Rattle.book_reports.specs.Pages.{first_figures, office_page_outcome, page_figures}
 use Rattle.book_reports.specs.Pages.{page_figures_outcome, period_page_outcome}
@@ -57,16 +57,18 @@ module _ {naming : Naming} {closes : List ℤ} {count : ℕ} {periods : List Per
         let shown = ap (λ count. first_figures naming count book) numbered ∙ sym it.figures in
         (λ i. Ok (office_page_text (closed i) (shown i))) ∙ ap Ok (sym made)
 
--- the page of a period that has these rows, lines and disputes
+-- the page of a period that has these rows, lines and disputes, and this coverage
 pub page_known : (naming : Naming) (period : ℕ) (closes : List ℤ) (rows : List ChargeRow)
-    (lines : List Line) (disputes : List Disputed) (page : List ℕ) (book : Book)
-    → page ≡ period_page_text period closes rows lines disputes
-    → (charges_outcome period book).answer ≡ Ok rows
+    (lines : List Line) (disputes : List Disputed) (coverage : List CoverageRow) (page : List ℕ)
+    (book : Book) → page ≡ period_page_text period closes rows lines disputes coverage
+    → coverage_rows_answer naming period book ≡ Ok coverage
+    → (rows_outcome period book).answer ≡ Ok rows
     → (lines_outcome naming period book).answer ≡ Ok lines
     → (disputes_outcome naming book).answer ≡ Ok disputes
     → (periods_outcome book).answer ≡ Ok closes
     → (period_page_outcome naming period book).answer ≡ Ok page
-page_known naming period closes rows lines disputes page book made charged lined disputed closed =
-    (λ i. shown_by (λ rows. period_page_text period (same_value closed i) rows (same_value lined i)
-    (same_value disputed i)) (charged i))
+page_known naming period closes rows lines disputes coverage page book made covered charged lined
+    disputed closed =
+    (λ i. shown_by (λ coverage. period_page_text period (same_value closed i) (same_value charged i)
+    (same_value lined i) (same_value disputed i) coverage) (covered i))
     ∙ ap Ok (sym made)

@@ -29,10 +29,18 @@ abbrev pub coverage_as : StatementForm → ℕ → Option ℤ → List CoverageR
 coverage_as form.Text = coverage_text
 coverage_as form.Table = λ period through rows. coverage_table period rows
 
--- the coverage that its records make
+-- the rows that its records make
+abbrev pub rows_by : PeriodDays → List SystemDetail → List CoverageRow
+rows_by days details = coverage_rows days.before days.through details
+
+-- what a book answers to them
+abbrev pub coverage_rows_answer : Naming → ℕ → Book → Result (List CoverageRow) LedgerFault
+coverage_rows_answer naming period book =
+    shown_by (rows_by (closes_around period book)) (system_details naming period book)
+
+-- the coverage that they make
 abbrev pub coverage_by : StatementForm → ℕ → PeriodDays → List SystemDetail → List ℕ
-coverage_by form period days details =
-    coverage_as form period days.through (coverage_rows days.before days.through details)
+coverage_by form period days details = coverage_as form period days.through (rows_by days details)
 
 -- what a book answers to it
 abbrev pub coverage_answer : Naming → StatementForm → ℕ → Book → Result (List ℕ) LedgerFault

@@ -1,6 +1,6 @@
 -- Read in this order: the lines of receipts and of check lists, the names of records as they are
--- spelled, the day of a close, the parts of a bill and the bill as a whole, pages, the days and the
--- rows of a table of cost and usage, the records of a period with their systems and its coverage, the
+-- spelled, the day of a close, the parts of a bill and the bill as a whole, the days and the rows of a
+-- table of cost and usage, the records of a period with their systems and its coverage, pages, the
 -- texts that books answer, also by another tariff, the figures of a period, a report as a whole, lists
 -- that are written while they are read, also those that books may refuse, the sums of what was worked
 -- and of coverage, and how long the text of details is.
@@ -14,12 +14,12 @@ pub mod PeriodDays
 pub mod HeldBack
 pub mod BillTariffs
 pub mod Bills
-pub mod Pages
 pub mod FocusDays
 pub mod FocusReports
 pub mod SystemDetails
 pub mod SystemsInTurn
 pub mod Coverage
+pub mod Pages
 pub mod BookTexts
 pub mod WhatIfTexts
 pub mod Figures

@@ -2,13 +2,14 @@
 use Rattle.std.specs.Prelude.{ℕ, List, map, Result, Ok}
 use Rattle.std.specs.List.{range_with_len}
 use Rattle.book_model.specs.declared.fault.LedgerFault.{LedgerFault}
-use Rattle.book_model.specs.declared.row.ChargeRow.{ChargeRow}
-use Rattle.book_model.specs.Words.{Book, Naming, Outcome, charges_outcome, disputes_in, no_event}
+use Rattle.book_model.specs.Words.{Book, Naming, Outcome, disputes_in, no_event}
 use Rattle.page_texts.specs.Figures.{FiguresSeen, figures_of}
 use Rattle.page_texts.specs.OfficePage.{office_page_text}
 use Rattle.page_texts.specs.PeriodPage.{period_page_text}
 use Rattle.report_texts.specs.Figures.{lines_in, period_open, rows_in}
+use Rattle.report_texts.specs.declared.coverage_rows.CoverageRow.{CoverageRow}
 use Rattle.book_lists.specs.Shown.{shown_by}
+use Rattle.book_reports.specs.Coverage.{coverage_rows_answer}
 
 -- what the page of the office shows of a period
 abbrev pub page_figures : Naming → ℕ → Book → FiguresSeen
@@ -33,16 +34,16 @@ office_page_answer naming book = Ok (office_page naming book)
 abbrev pub office_page_outcome : Naming → Book → Outcome (List ℕ)
 office_page_outcome naming book = no_event (office_page_answer naming book)
 
--- the page of a period whose charge rows these are
-abbrev pub page_with : Naming → ℕ → Book → List ChargeRow → List ℕ
-page_with naming period book rows =
-    period_page_text period book.rulings.closes rows (lines_in naming period book)
-    (disputes_in naming book.rulings book.held)
+-- the page of a period whose coverage these rows are
+abbrev pub page_with : Naming → ℕ → Book → List CoverageRow → List ℕ
+page_with naming period book coverage =
+    period_page_text period book.rulings.closes (rows_in period book) (lines_in naming period book)
+    (disputes_in naming book.rulings book.held) coverage
 
--- what a book answers to it: a period that is not there is refused, as its statement is
+-- what a book answers to it: a period that is not there is refused, as its coverage is
 abbrev pub period_page_answer : Naming → ℕ → Book → Result (List ℕ) LedgerFault
 period_page_answer naming period book =
-    shown_by (page_with naming period book) (charges_outcome period book).answer
+    shown_by (page_with naming period book) (coverage_rows_answer naming period book)
 
 abbrev pub period_page_outcome : Naming → ℕ → Book → Outcome (List ℕ)
 period_page_outcome naming period book = no_event (period_page_answer naming period book)

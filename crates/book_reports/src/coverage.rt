@@ -5,8 +5,10 @@ ghost use Rattle.std.specs.Prelude.{◌≡◌, All, IfOk};
 ghost use Rattle.std.specs.Option.{ForSome};
 ghost use Rattle.book_model.specs.Words.{IsDay, no_event};
 ghost use Rattle.book_core.specs.Calls.{IsCall};
+ghost use Rattle.book_lists.specs.Cursors.{Folds};
 ghost use Rattle.book_reports.specs.Coverage as spec;
 ghost use Rattle.book_reports.specs.CoverageSums.{IsCoverageOf, SystemDetails};
+ghost use Rattle.book_reports.specs.SystemDetails.{system_details};
 
 use crate::book_texts::closed_through;
 use crate::coverage_sums::{CoverageStep, CoverageSums, coverage_rows};
@@ -28,6 +30,34 @@ fn closes_around<L: Ledger>(ledger: &mut L, period: u16) -> Result<PeriodDays, L
     let before = closed_through(ledger, period.saturating_sub(1))?;
     let through = closed_through(ledger, period)?;
     Ok(PeriodDays { before, through })
+}
+
+/// What the records of a period come to.
+fn period_sums<L: Ledger>(
+    alloc: Global,
+    ledger: &mut L,
+    period: u16,
+) -> Result<CoverageSums, LedgerFault>
+    ensures { Folds (λ one. one) (L.seen ledger.old) (L.seen ledger.new)
+        (λ book. system_details (L.seen ledger.old).naming period book) IsCoverageOf result }
+{
+    let records = SystemCursor { alloc, period };
+    fold(alloc, ledger, &records, &CoverageStep)
+}
+
+/// The rows of a period's coverage.
+pub(crate) fn period_coverage<L: Ledger>(
+    alloc: Global,
+    ledger: &mut L,
+    period: u16,
+) -> Result<Vec<CoverageRow>, LedgerFault>
+    ensures { IsCall (λ rows. rows.items) (L.seen ledger.old) (L.seen ledger.new) result
+        (λ book. no_event (spec.coverage_rows_answer (L.seen ledger.old).naming period book)) }
+{
+    let days = closes_around(ledger, period)?;
+    let sums = period_sums(alloc, ledger, period)?;
+    let rows = coverage_rows(alloc, sums, days.before, days.through)?;
+    Ok(rows)
 }
 
 /// The rows of a period as a list or as a table.
@@ -78,8 +108,7 @@ pub(crate) fn coverage_report<L: Ledger>(
         (λ book. no_event (spec.coverage_answer (L.seen ledger.old).naming form period book)) }
 {
     let days = closes_around(ledger, period)?;
-    let records = SystemCursor { alloc, period };
-    let sums = fold(alloc, ledger, &records, &CoverageStep)?;
+    let sums = period_sums(alloc, ledger, period)?;
     let text = coverage_by(alloc, form, period, days, sums)?;
     Ok(text)
 }

@@ -5,6 +5,7 @@ ghost use Rattle.book_core.specs.Calls.{IsCall};
 ghost use Rattle.page_texts.specs.Figures.{figures_seen};
 ghost use Rattle.book_reports.specs.Pages as spec;
 
+use crate::coverage::period_coverage;
 use crate::figures::{lines_of_period, period_after, rows_of_period};
 use book_core::{Ledger, LedgerFault};
 use page_texts::{PeriodFigures, office_page, period_figures, period_page};
@@ -53,10 +54,11 @@ pub(crate) fn period_page_report<L: Ledger>(
     ensures { IsCall (λ text. text.items) (L.seen ledger.old) (L.seen ledger.new) result
         (spec.period_page_outcome (L.seen ledger.old).naming period) }
 {
-    let rows = ledger.charges(period)?;
+    let coverage = period_coverage(alloc, ledger, period)?;
+    let rows = rows_of_period(alloc, ledger, period)?;
     let lines = lines_of_period(alloc, ledger, period)?;
     let disputes = ledger.disputes()?;
     let closes = ledger.periods()?;
-    let page = period_page(alloc, period, &closes, &rows, &lines, &disputes)?;
+    let page = period_page(alloc, period, &closes, &rows, &lines, &disputes, &coverage)?;
     Ok(page.into_bytes())
 }

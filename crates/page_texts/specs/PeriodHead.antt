@@ -1,8 +1,11 @@
 -- The head of a period's page, and its foot with the links.
-use Rattle.std.specs.Prelude.{ℕ, ℤ, List, [], ◌∷◌, ◌++◌, codes, flat_map, Option}
+use Rattle.std.specs.Prelude.{ℕ, ℤ, List, [], ◌∷◌, ◌++◌, ◌==◌, codes, flat_map, length, Option}
+use Rattle.std.specs.Prelude.{if◌then◌else◌}
 use Rattle.std.specs.Fmt.{decimal}
 use Rattle.std.specs.List.{concat}
 use Rattle.report_texts.specs.Columns.{amount_text}
+use Rattle.report_texts.specs.Coverage.{gaps}
+use Rattle.report_texts.specs.declared.coverage_rows.CoverageRow.{CoverageRow}
 use Rattle.report_texts.specs.Periods.{head_text}
 use Rattle.page_texts.specs.Figures.{FiguresSeen, owed_text}
 
@@ -20,7 +23,17 @@ period_head title through figures =
     ∷ codes "</dd></div>\n<div><dt>Added</dt><dd>" ∷ amount_text figures.added
     ∷ codes "</dd></div>\n<div><dt>Reversed</dt><dd>" ∷ amount_text figures.reversed
     ∷ codes "</dd></div>\n<div><dt>Owed</dt><dd>" ∷ owed_text figures
-    ∷ codes "</dd></div>\n</dl>\n" ∷ [])
+    ∷ codes "</dd></div>\n" ∷ [])
+
+-- how many gaps a coverage has, where anything is counted
+unfoldable pub gaps_text : List CoverageRow → List ℕ
+gaps_text coverage =
+    if length coverage == 0 then codes "No records" else decimal (length (gaps coverage))
+
+-- what stands below the sums: the gaps
+unfoldable pub gaps_figure : List CoverageRow → List ℕ
+gaps_figure coverage =
+    codes "<div><dt>Gaps</dt><dd>" ++ gaps_text coverage ++ codes "</dd></div>\n</dl>\n"
 
 -- a link to a report on a period, by the report's path
 unfoldable pub report_link : ℕ → List ℕ → List ℕ
@@ -33,7 +46,8 @@ report_link period path =
 abbrev pub report_paths : List (List ℕ)
 report_paths =
     codes "statement" ∷ codes "statement-csv" ∷ codes "adjustments" ∷ codes "adjustments-csv"
-    ∷ codes "details" ∷ codes "details-csv" ∷ []
+    ∷ codes "details" ∷ codes "details-csv" ∷ codes "focus" ∷ codes "coverage"
+    ∷ codes "coverage-csv" ∷ []
 
 -- the links to them and back, and the end of the page
 unfoldable pub period_foot : ℕ → List ℕ

@@ -9,16 +9,18 @@ use crate::figures::{centre_costs, day_costs, period_figures};
 use crate::frame::push_page_start;
 use crate::period_adjustments::push_adjustment_part;
 use crate::period_disputes::push_dispute_part;
-use crate::period_head::{period_title, push_period_foot, push_period_head};
+use crate::period_head::{period_title, push_gaps_figure, push_period_foot, push_period_head};
 use crate::period_pictures::{push_centre_table, push_day_table};
 use crate::period_statement::push_statement_part;
 use book_model::{ChargeRow, Dispute, Line};
+use report_texts::CoverageRow;
 use std::alloc::{AllocError, Global};
 use text_drafts::Draft;
 
 /// The page of a period: by its number, the days through which periods were closed, in order, its
-/// charge rows and its adjustment lines in the order in which the books give them, and all disputes
-/// of the office. It shows the disputes that have a record dated in the period.
+/// charge rows and its adjustment lines in the order in which the books give them, all disputes of
+/// the office, and the rows of its coverage. It shows the disputes that have a record dated in the
+/// period.
 #[tactic(auto, unfolding(crate::specs::PeriodPictures::day_part, crate::specs::PeriodPictures::centre_part))]
 pub fn period_page(
     alloc: Global,
@@ -27,13 +29,14 @@ pub fn period_page(
     rows: &[ChargeRow],
     lines: &[Line],
     disputes: &[Dispute],
+    coverage: &[CoverageRow],
 ) -> Result<String, AllocError>
     requires closes { All IsDay closes.now }
     requires rows { AreRows rows.now }
     requires lines { AreLines lines.now }
     requires disputes { AreDisputes (map dispute_shown disputes.now) }
     ensures { IfOk result (λ page. string_bytes page ≡ spec.period_page_text period closes.now
-        rows.now lines.now (map dispute_shown disputes.now)) }
+        rows.now lines.now (map dispute_shown disputes.now) coverage.now) }
 {
     let number = usize::from(period);
     let before = close_of(closes, number.saturating_sub(1));
@@ -45,6 +48,7 @@ pub fn period_page(
     let mut page = Draft::new(alloc);
     push_page_start(&mut page, &title);
     push_period_head(&mut page, &title, through, &figures);
+    push_gaps_figure(&mut page, coverage);
     push_day_table(&mut page, &days);
     push_centre_table(&mut page, &centres);
     push_statement_part(&mut page, rows);

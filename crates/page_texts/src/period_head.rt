@@ -8,6 +8,7 @@ ghost use Rattle.page_texts.specs.PeriodHead as spec;
 
 use crate::amounts::{push_head, push_money};
 use crate::figures::{PeriodFigures, push_owed};
+use report_texts::{CoverageRow, count_gaps};
 use std::alloc::Global;
 use text_drafts::Draft;
 
@@ -46,6 +47,27 @@ pub(crate) fn push_period_head(
     push_money(out, figures.reversed);
     out.push_str("</dd></div>\n<div><dt>Owed</dt><dd>");
     push_owed(out, figures);
+    out.push_str("</dd></div>\n");
+}
+
+/// Appends how many gaps a coverage has, where anything is counted.
+#[tactic(auto, unfolding(crate::specs::PeriodHead::gaps_text))]
+fn push_gaps(out: &mut Draft, coverage: &[CoverageRow])
+    ensures { out.new ≡ out.old ++ spec.gaps_text coverage.now }
+{
+    if coverage.is_empty() {
+        out.push_str("No records");
+    } else {
+        out.push_number(count_gaps(coverage) as u64);
+    }
+}
+
+/// Appends what stands below the sums: the gaps.
+pub(crate) fn push_gaps_figure(out: &mut Draft, coverage: &[CoverageRow])
+    ensures { out.new ≡ out.old ++ spec.gaps_figure coverage.now }
+{
+    out.push_str("<div><dt>Gaps</dt><dd>");
+    push_gaps(out, coverage);
     out.push_str("</dd></div>\n</dl>\n");
 }
 
@@ -79,13 +101,16 @@ fn push_links(out: &mut Draft, period: u16, paths: &[&str])
 pub(crate) fn push_period_foot(out: &mut Draft, period: u16)
     ensures { out.new ≡ out.old ++ spec.period_foot period }
 {
-    let paths: [&str; 6] = [
+    let paths: [&str; 9] = [
         "statement",
         "statement-csv",
         "adjustments",
         "adjustments-csv",
         "details",
         "details-csv",
+        "focus",
+        "coverage",
+        "coverage-csv",
     ];
     out.push_str("<nav aria-label='Texts'>\n<a href='/'>office</a>\n");
     push_links(out, period, &paths);

@@ -89,7 +89,7 @@ fn push_rows(out: &mut Draft, rows: &[CoverageRow])
 }
 
 /// How many rows have no record.
-fn count_gaps(rows: &[CoverageRow]) -> usize
+pub fn count_gaps(rows: &[CoverageRow]) -> usize
     ensures { result ≡ length (filter (λ row. row.count == 0) rows.now) }
 {
     rows.iter().filter(|row| row.count == 0).count()

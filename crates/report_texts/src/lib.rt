@@ -47,7 +47,7 @@ pub use columns::{push_amount, push_number, push_seconds, seconds_text};
 pub use coverage_rows::{
     CoveragePlace, CoverageRow, SystemDetail, coverage_place, coverage_with, empty_coverage,
 };
-pub use coverage_texts::{coverage_table, coverage_text};
+pub use coverage_texts::{count_gaps, coverage_table, coverage_text};
 pub use detail_lists::{detail_head, detail_total, push_detail_line};
 pub use detail_tables::{detail_row, detail_table_head};
 pub use dispute_lists::{

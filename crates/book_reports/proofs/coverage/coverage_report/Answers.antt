@@ -1,5 +1,6 @@
 use Rattle.std.proofs.Common.{refl}
 use Rattle.book_lists.proofs.ReadingLemmas.{call_failed, passed_on}
+use Rattle.book_reports.specs.Coverage.{coverage_by}
 use Rattle.book_reports.proofs.CoverageReading.{coverage_made, coverage_refused, coverage_stopped}
 use Rattle.book_reports.proofs.CoverageReading.{sums_are}
 use Rattle.book_reports.proofs.coverage.coverage_report.Goals as goal
@@ -14,24 +15,24 @@ returns-in_err-days g c =
 pub returns-in_err-sums : goal.returns-in_err-sums
 returns-in_err-sums g c =
     rw (passed_on c.from_residual-in_err-sums.result c.from_residual-in_err-sums.ensures.1)
-    (coverage_refused c.args.form c.args.period c.in_ok-days.ensures.days c.in_err-sums.ensures _
-    c.in_err-sums.field-0.0 refl)
+    (coverage_refused (coverage_by c.args.form c.args.period) c.args.period
+    c.in_ok-days.ensures.days c.in_err-sums.ensures _ c.in_err-sums.field-0.0 refl)
 
 -- these records were read, and the sums are theirs
 pub coverage_by-requires-clause-sums : goal.coverage_by-requires-clause-sums
 coverage_by-requires-clause-sums g c =
-    (c.in_ok-sums.ensures.items, sums_are c.args.form c.args.period c.in_ok-days.ensures.days
-    c.in_ok-sums.ensures c.in_ok-sums.sums refl)
+    (c.in_ok-sums.ensures.items, sums_are (coverage_by c.args.form c.args.period) c.args.period
+    c.in_ok-days.ensures.days c.in_ok-sums.ensures c.in_ok-sums.sums refl)
 
 -- there is no memory for the text
 pub returns-in_err-text : goal.returns-in_err-text
 returns-in_err-text g c =
     rw (passed_on c.from_residual-in_err-text.result c.from_residual-in_err-text.ensures.1)
-    (coverage_stopped c.args.form c.args.period c.in_ok-days.ensures.days c.in_ok-sums.ensures
-    c.in_ok-sums.sums refl _)
+    (coverage_stopped (coverage_by c.args.form c.args.period) c.args.period
+    c.in_ok-days.ensures.days c.in_ok-sums.ensures c.in_ok-sums.sums refl _)
 
 -- or this is it
 pub returns : goal.returns
 returns g c =
-    coverage_made c.args.form c.args.period c.in_ok-days.ensures.days c.in_ok-sums.ensures
-    c.in_ok-sums.sums refl _ c.in_ok-text.text c.in_ok-text.ensures
+    coverage_made (coverage_by c.args.form c.args.period) c.args.period c.in_ok-days.ensures.days
+    c.in_ok-sums.ensures c.in_ok-sums.sums refl _ c.in_ok-text.text c.in_ok-text.ensures

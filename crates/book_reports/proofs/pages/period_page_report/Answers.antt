@@ -7,23 +7,33 @@ use Rattle.book_reports.proofs.Words.{answers_none, both_shown, refused_next, sh
 use Rattle.book_reports.proofs.pages.period_page_report.Goals as goal
 
 -- the period is not there
-pub returns-in_err-rows : goal.returns-in_err-rows
-returns-in_err-rows g c =
+pub returns-in_err-coverage : goal.returns-in_err-coverage
+returns-in_err-coverage g c =
     let naming = (g.L.Ledger.seen c.args.ledger.now).naming in
     call_failed c.from_residual.result c.from_residual.ensures.1 (λ book. refl) (λ book. refl)
-    (λ book. ap (shown_by (page_with naming c.args.period book))) c.in_err-rows.ensures.rows
+    (λ book. ap (shown_by (page_with naming c.args.period book))) c.in_err-coverage.ensures
+
+pub returns-in_err-rows : goal.returns-in_err-rows
+returns-in_err-rows g c =
+    refused_next c.from_residual-in_err-rows.result c.from_residual-in_err-rows.ensures.1
+    (λ book. refl) (λ book. refl) (λ book known is. cc is)
+    (shown (λ book. refl) c.in_ok-coverage.ensures) c.in_err-rows.ensures.rows
 
 pub returns-in_err-lines : goal.returns-in_err-lines
 returns-in_err-lines g c =
     refused_next c.from_residual-in_err-lines.result c.from_residual-in_err-lines.ensures.1
     (λ book. refl) (λ book. refl) (λ book known is. cc is)
-    (shown (λ book. refl) c.in_ok-rows.ensures.rows) c.in_err-lines.ensures.lines
+    (then_stays (λ book. refl) (shown (λ book. refl) c.in_ok-coverage.ensures)
+    c.in_ok-rows.ensures.rows)
+    c.in_err-lines.ensures.lines
 
 pub returns-in_err-disputes : goal.returns-in_err-disputes
 returns-in_err-disputes g c =
     refused_next c.from_residual-in_err-disputes.result c.from_residual-in_err-disputes.ensures.1
     (λ book. refl) (λ book. refl) (λ book known is. cc is)
-    (then_stays (λ book. refl) (shown (λ book. refl) c.in_ok-rows.ensures.rows)
+    (then_stays (λ book. refl)
+    (then_stays (λ book. refl) (shown (λ book. refl) c.in_ok-coverage.ensures)
+    c.in_ok-rows.ensures.rows)
     c.in_ok-lines.ensures.lines)
     c.in_err-disputes.ensures.disputes
 
@@ -32,7 +42,9 @@ returns-in_err-closes g c =
     refused_next c.from_residual-in_err-closes.result c.from_residual-in_err-closes.ensures.1
     (λ book. refl) (λ book. refl) (λ book known is. cc is)
     (then_stays (λ book. refl)
-    (then_stays (λ book. refl) (shown (λ book. refl) c.in_ok-rows.ensures.rows)
+    (then_stays (λ book. refl)
+    (then_stays (λ book. refl) (shown (λ book. refl) c.in_ok-coverage.ensures)
+    c.in_ok-rows.ensures.rows)
     c.in_ok-lines.ensures.lines)
     c.in_ok-disputes.ensures.disputes)
     c.in_err-closes.ensures.days
@@ -44,7 +56,9 @@ returns-in_err-page g c =
     (answers_none (λ book. refl)
     (then_stays (λ book. refl)
     (then_stays (λ book. refl)
-    (then_stays (λ book. refl) (shown (λ book. refl) c.in_ok-rows.ensures.rows)
+    (then_stays (λ book. refl)
+    (then_stays (λ book. refl) (shown (λ book. refl) c.in_ok-coverage.ensures)
+    c.in_ok-rows.ensures.rows)
     c.in_ok-lines.ensures.lines)
     c.in_ok-disputes.ensures.disputes)
     c.in_ok-closes.ensures.days))
@@ -53,17 +67,20 @@ returns-in_err-page g c =
 pub returns : goal.returns
 returns g c =
     let naming = (g.L.Ledger.seen c.args.ledger.now).naming in
-    let rows = shown (λ book. refl) c.in_ok-rows.ensures.rows in
+    let coverage = shown (λ book. refl) c.in_ok-coverage.ensures in
+    let rows = both_shown (λ book. refl) coverage c.in_ok-rows.ensures.rows in
     let lines = both_shown (λ book. refl) rows (rw rows.work.naming at c.in_ok-lines.ensures.lines) in
     let disputes = both_shown (λ book. refl) lines
     (rw lines.work.naming at c.in_ok-disputes.ensures.disputes) in
     let all = both_shown (λ book. refl) disputes c.in_ok-closes.ensures.days in
     let made : c.into_bytes.result.items
     ≡ period_page_text c.args.period c.in_ok-closes.closes.items c.in_ok-rows.rows.items
-    c.in_ok-lines.lines.items (map dispute_shown c.in_ok-disputes.disputes.items) = search rules in
+    c.in_ok-lines.lines.items (map dispute_shown c.in_ok-disputes.disputes.items)
+    c.in_ok-coverage.coverage.items = search rules in
     answers c.into_bytes.result (λ book. refl)
     (λ book known. page_known naming c.args.period c.in_ok-closes.closes.items
     c.in_ok-rows.rows.items c.in_ok-lines.lines.items
-    (map dispute_shown c.in_ok-disputes.disputes.items) c.into_bytes.result.items book made
-    known.first.first.first known.first.first.next known.first.next known.next)
+    (map dispute_shown c.in_ok-disputes.disputes.items) c.in_ok-coverage.coverage.items
+    c.into_bytes.result.items book made known.first.first.first.first known.first.first.first.next
+    known.first.first.next known.first.next known.next)
     all
