@@ -113,8 +113,8 @@ counted_are_held naming book sound =
 -- ---- each day stands
 
 -- a day is one of so many from another on
-day_among : (count : ℕ) (first day : ℤ) → first ≤ℤ day → day +ℤ pos 1 ≤ℤ first +ℤ pos count
-    → Contains (days_from first count) day
+day_among : (count : ℕ) (first day : ℤ) → first ≤ℤ day
+    → (day +ℤ pos 1) ≤ℤ (first +ℤ pos count) → Contains (days_from first count) day
 day_among zero first day late early = absurd (omega (arith, ints, late, early))
 day_among (suc count) first day late early =
     by_lt_z first day
