@@ -39,11 +39,11 @@ pub copy_of : {A D Given : Type 0} (g : Ghosts D) (work : A → Transition) (fou
     → (Given → AreVisited g work found answer copy) → (Given → OpenOnly g (HoldsBooks found) copy)
     → IfOk answer (λ made. Given → IsCopyOf g (work made) found copy)
 copy_of g work found (Ok made) copy visited books = λ given. record {
-      history = (visited given).history;
-      alone = (visited given).alone;
-      there = (visited given).there;
-      books = books given;
-    }
+  history = (visited given).history;
+  alone = (visited given).alone;
+  there = (visited given).there;
+  books = books given;
+}
 copy_of g work found (Err fault) copy visited books = tt
 
 -- a copy shows what was found of the files that were copied
