@@ -83,12 +83,11 @@ none_after (suc count) early start less =
 days_apart : (count : ℕ) (first : ℤ) → IsDistinct (eq_by_cmp int_cmp) (days_from first count)
 unfolding IsDistinct
 days_apart zero first = tt
-days_apart (suc count) first =
-    (
-      recursion_from_All (λ day. int_eq first day ≡ false) (days_from (first +ℤ pos 1) count)
-          (none_after count first (first +ℤ pos 1) (omega (arith, ints))),
-      days_apart count (first +ℤ pos 1),
-    )
+days_apart (suc count) first = (
+  recursion_from_All (λ day. int_eq first day ≡ false) (days_from (first +ℤ pos 1) count)
+      (none_after count first (first +ℤ pos 1) (omega (arith, ints))),
+  days_apart count (first +ℤ pos 1),
+)
 
 between_apart : (first last : Option ℤ) → IsDistinct (eq_by_cmp int_cmp) (days_between first last)
 unfolding IsDistinct

@@ -137,9 +137,7 @@ impl Step<SystemDetail> for CoverageStep {
 fn row_among(rows: &BTreeMap<CoveragePlace, CoverageRow>, place: CoveragePlace) -> CoverageRow
     ensures { result ≡ kept.row_among rows.now.entries place }
 {
-    rows.get(&place)
-        .copied()
-        .unwrap_or(empty_coverage(place))
+    rows.get(&place).copied().unwrap_or(empty_coverage(place))
 }
 
 /// The systems, in the order of their bytes.

@@ -8,9 +8,7 @@ ghost use Rattle.book_core.specs.Calls.{IsCall};
 ghost use Rattle.book_reports.specs.StreamedDetails as spec;
 
 use crate::book_texts::closed_through;
-use crate::streamed_details::{
-    DetailReport, NO_SUMS, Sums, end_of, head_of, part_of, with_detail,
-};
+use crate::streamed_details::{DetailReport, NO_SUMS, Sums, end_of, head_of, part_of, with_detail};
 use book_core::{Detail, Ledger, LedgerFault};
 use book_lists::{DetailCursor, Step, fold};
 use std::alloc::{AllocError, Global};

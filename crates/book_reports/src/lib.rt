@@ -36,8 +36,10 @@ pub use figures::{OpenPeriod, open_period, period_figures, rows_of_period};
 pub use receipt_lines::receipt_line_text;
 pub use record_names::name_of_text;
 pub use report::{PeriodReport, Report, centre_named};
-pub use reports::{adjustment_list, dispute_list, period_list, receipt_line, statement};
-pub use reports::{statement_csv, write_report};
+pub use reports::{
+    adjustment_list, dispute_list, period_list, receipt_line, statement, statement_csv,
+    write_report,
+};
 pub use streamed_details::{DetailReport, write_details};
 pub use streamed_disputes::write_disputes;
 pub use streamed_rulings::write_rulings;

@@ -201,5 +201,11 @@ pub fn write_details<L: Ledger, W: Writer + Drop>(
         period: report.period,
         centre: report.centre,
     };
-    write_list(alloc, ledger, &details, &DetailLines { report, through }, sink)
+    write_list(
+        alloc,
+        ledger,
+        &details,
+        &DetailLines { report, through },
+        sink,
+    )
 }

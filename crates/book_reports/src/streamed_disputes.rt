@@ -90,12 +90,7 @@ impl Step<Dispute> for DisputeLines {
         Ok(0)
     }
 
-    fn add(
-        &self,
-        _alloc: Global,
-        number: &mut u64,
-        _dispute: &Dispute,
-    ) -> Result<(), LedgerFault> {
+    fn add(&self, _alloc: Global, number: &mut u64, _dispute: &Dispute) -> Result<(), LedgerFault> {
         let Some(more) = number.checked_add(1) else {
             return Err(LedgerFault::Memory);
         };
@@ -140,10 +135,7 @@ impl Lines<Dispute> for DisputeLines {
 
 /// How many disputes there are. Each is read for it, one at a time: they are numbered as they are
 /// where they are shown.
-pub(crate) fn count_disputes<L: Ledger>(
-    alloc: Global,
-    ledger: &mut L,
-) -> Result<u64, LedgerFault>
+pub(crate) fn count_disputes<L: Ledger>(alloc: Global, ledger: &mut L) -> Result<u64, LedgerFault>
     ensures { IsCall (λ count. count) (L.seen ledger.old) (L.seen ledger.new) result
         (dispute_count_outcome (L.seen ledger.old).naming) }
 {
@@ -174,5 +166,11 @@ pub fn write_disputes<L: Ledger, W: Writer + Drop>(
     ensures failed { has_failed sink.old ≡ false → has_failed sink.new ≡ is_write_fault result }
 {
     let count = count_disputes(alloc, ledger)?;
-    write_list(alloc, ledger, &DisputeCursor, &DisputeLines { form, count }, sink)
+    write_list(
+        alloc,
+        ledger,
+        &DisputeCursor,
+        &DisputeLines { form, count },
+        sink,
+    )
 }

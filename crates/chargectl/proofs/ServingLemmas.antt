@@ -164,10 +164,10 @@ turn_some : {S C : Type 0} (shelf : S → Shelf) (sent : C → Option (List ℕ)
 turn_some shelf sent may_come book first last old new [] it = it.1
 turn_some shelf sent may_come book first last old new (what ∷ before)
     (middle, between, earlier, came, served) = (
-  between,
-  turn_some shelf sent may_come book first middle old between before earlier,
-  one_some book (sent middle) what (shelf between) (shelf new) served,
-)
+      between,
+      turn_some shelf sent may_come book first middle old between before earlier,
+      one_some book (sent middle) what (shelf between) (shelf new) served,
+    )
 
 -- connections that came in turn were served in turn
 turn_of : {S C : Type 0} {sent : C → Option (List ℕ)} {may_come : Coming C} {left : C → ℕ}

@@ -63,8 +63,9 @@ fn clap_arg<'a>(alloc: Global, word: Argument, highest: u32) -> Arg<'a>
         Argument::InPlace(name, help, kind) => {
             value_arg(alloc, name, help, kind, highest).required(true)
         }
-        Argument::InPlaceOr(name, help, kind, text) => value_arg(alloc, name, help, kind, highest)
-            .default_value(text),
+        Argument::InPlaceOr(name, help, kind, text) => value_arg(
+            alloc, name, help, kind, highest,
+        ).default_value(text),
         Argument::Named(name, help, kind) => value_arg(alloc, name, help, kind, highest)
             .long(name)
             .required(true),

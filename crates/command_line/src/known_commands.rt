@@ -53,14 +53,23 @@ const MOST_WAIT: i64 = 3_600;
 const MOST_REQUESTS: i64 = 1_000_000;
 
 const BOOK: Argument = Argument::InPlace("book", Help::Book, ValueKind::Text);
+
 const DUMP: Argument = Argument::InPlace("file", Help::Dump, ValueKind::Text);
+
 const TARIFF: Argument = Argument::InPlace("file", Help::Tariff, ValueKind::Text);
+
 const COPY: Argument = Argument::InPlace("file", Help::Copy, ValueKind::Text);
+
 const PERIOD: Argument = Argument::InPlace("period", Help::Period, ValueKind::AtMost(MOST_NUMBER));
+
 const DATE: Argument = Argument::InPlace("date", Help::Date, ValueKind::Text);
+
 const FIRST_DAY: Argument = Argument::InPlace("date", Help::FirstDay, ValueKind::Text);
+
 const SHA256: Argument = Argument::InPlaceIfGiven("sha256", Help::Sha256, ValueKind::Text);
+
 const RECORD_NAME: Argument = Argument::InPlace("sha256", Help::RecordName, ValueKind::Text);
+
 const NAMES: Argument = Argument::NamedIfGiven("from", Help::Names, ValueKind::Text);
 
 const LAYOUT: Argument = Argument::NamedOr(
@@ -71,20 +80,34 @@ const LAYOUT: Argument = Argument::NamedOr(
 );
 
 const QUIET: Argument = Argument::Flag("quiet", Help::Quiet);
+
 const DRY_RUN: Argument = Argument::Flag("dry-run", Help::DryRun);
+
 const CSV: Argument = Argument::Flag("csv", Help::Csv);
+
 const DISPUTE_CSV: Argument = Argument::Flag("csv", Help::DisputeCsv);
+
 const WAIT: Argument = Argument::NamedOr("wait", Help::Wait, ValueKind::AtMost(MOST_WAIT), "10");
+
 const CENTRE: Argument = Argument::NamedIfGiven("centre", Help::Centre, ValueKind::Text);
+
 const CPU: Argument = Argument::NamedOr("cpu", Help::Cpu, ValueKind::Rate, "0");
+
 const EXCP: Argument = Argument::NamedOr("excp", Help::Excp, ValueKind::Rate, "0");
+
 const RECORD: Argument = Argument::NamedOr("record", Help::Record, ValueKind::Rate, "0");
+
 const PRICES: Argument = Argument::NamedIfGiven("tariff", Help::Prices, ValueKind::Text);
+
 const OTHER_PRICES: Argument = Argument::NamedIfGiven("tariff", Help::OtherPrices, ValueKind::Text);
+
 const PORT: Argument = Argument::Named("port", Help::Port, ValueKind::UpTo(65_535));
 
-const REQUESTS: Argument =
-    Argument::Named("requests", Help::Requests, ValueKind::UpTo(MOST_REQUESTS));
+const REQUESTS: Argument = Argument::Named(
+    "requests",
+    Help::Requests,
+    ValueKind::UpTo(MOST_REQUESTS),
+);
 
 const NUMBER_KIND: Argument = Argument::InPlace(
     "kind",
@@ -95,8 +118,12 @@ const NUMBER_KIND: Argument = Argument::InPlace(
     ]),
 );
 
-const NUMBER: Argument =
-    Argument::InPlaceOr("number", Help::Number, ValueKind::AtMost(MOST_NUMBER), "0");
+const NUMBER: Argument = Argument::InPlaceOr(
+    "number",
+    Help::Number,
+    ValueKind::AtMost(MOST_NUMBER),
+    "0",
+);
 
 /// The commands in the order of the program's help. The commands of reports have the words that the
 /// rows of `report_rows` give them.

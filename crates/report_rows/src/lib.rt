@@ -6,5 +6,6 @@ mod about;
 pub mod report_row;
 
 pub use about::About;
-pub use report_row::{BodyKind, ReportName, ReportRow, Shape};
-pub use report_row::{all_reports, named_report, report_about, row_of};
+pub use report_row::{
+    BodyKind, ReportName, ReportRow, Shape, all_reports, named_report, report_about, row_of,
+};

@@ -75,7 +75,11 @@ fn line_amounts(
 {
     let mut amounts = BTreeMap::new(alloc);
     for line in lines {
-        add_amount(&mut amounts, line.priced.centre, side_amount(is_reversed, line))?;
+        add_amount(
+            &mut amounts,
+            line.priced.centre,
+            side_amount(is_reversed, line),
+        )?;
     }
     Ok(amounts)
 }

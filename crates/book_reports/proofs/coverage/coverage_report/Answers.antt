@@ -20,9 +20,11 @@ returns-in_err-sums g c =
 
 -- these records were read, and the sums are theirs
 pub coverage_by-requires-clause-sums : goal.coverage_by-requires-clause-sums
-coverage_by-requires-clause-sums g c =
-    (c.in_ok-sums.ensures.items, sums_are (coverage_by c.args.form c.args.period) c.args.period
-    c.in_ok-days.ensures.days c.in_ok-sums.ensures c.in_ok-sums.sums refl)
+coverage_by-requires-clause-sums g c = (
+  c.in_ok-sums.ensures.items,
+  sums_are (coverage_by c.args.form c.args.period) c.args.period
+      c.in_ok-days.ensures.days c.in_ok-sums.ensures c.in_ok-sums.sums refl,
+)
 
 -- there is no memory for the text
 pub returns-in_err-text : goal.returns-in_err-text

@@ -7,8 +7,7 @@ use Rattle.command_line.proofs.report_words.charged.Goals as goal
 pub returns : goal.returns
 unfolding row_of
 returns c =
-    λ rows named shown left_out.
-    (
+    λ rows named shown left_out. (
       record {
         word = refl;
         table = λ is. shown;
