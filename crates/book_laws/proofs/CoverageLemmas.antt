@@ -25,12 +25,12 @@ use Rattle.book_model.proofs.DetailLemmas.{read_once}
 use Rattle.book_model.proofs.Lemmas.{is, is_first}
 use Rattle.table_model.proofs.HeldPeriods.{all_held}
 use Rattle.table_model.proofs.TrailLemmas.{named_itself}
-use Rattle.report_texts.specs.Coverage.{coverage_rows, day_of_first, day_of_last, day_rows}
-use Rattle.report_texts.specs.Coverage.{begins_on, days_between, days_from, ends_on, row_at}
-use Rattle.report_texts.specs.Coverage.{systems_of}
-use Rattle.report_texts.specs.declared.coverage_rows.CoverageRow.{CoverageRow}
-use Rattle.report_texts.specs.declared.coverage_rows.SystemDetail.{SystemDetail}
-use Rattle.report_texts.proofs.CoverageLemmas.{days_through, gap_is}
+use Rattle.coverage_texts.specs.Coverage.{coverage_rows, day_of_first, day_of_last, day_rows}
+use Rattle.coverage_texts.specs.Coverage.{begins_on, days_between, days_from, ends_on, row_at}
+use Rattle.coverage_texts.specs.Coverage.{systems_of}
+use Rattle.coverage_texts.specs.declared.coverage_rows.CoverageRow.{CoverageRow}
+use Rattle.coverage_texts.specs.declared.coverage_rows.SystemDetail.{SystemDetail}
+use Rattle.coverage_texts.proofs.CoverageLemmas.{days_through, gap_is}
 use Rattle.book_laws.specs.CoverageLaws.{CountedAreHeld, EachDayStands, IsHeldDetail}
 use Rattle.book_laws.proofs.ReadLemmas.{named}
 use Rattle.book_laws.proofs.Words.{or-true}

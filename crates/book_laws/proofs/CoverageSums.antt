@@ -35,13 +35,13 @@ use Rattle.book_model.proofs.PricingLemmas.{priced_day}
 use Rattle.book_model.proofs.RecordSets.{first_of, second_of}
 use Rattle.book_model.proofs.SumsAlike.{length-sum_by}
 use Rattle.table_model.proofs.HeldPeriods.{all_held}
-use Rattle.report_texts.specs.Coverage as cover
-use Rattle.report_texts.specs.Coverage.{begins_on, coverage_rows, day_of_first, day_of_last}
-use Rattle.report_texts.specs.Coverage.{day_rows, days_between, days_from, days_of, ends_on}
-use Rattle.report_texts.specs.Coverage.{systems_of}
-use Rattle.report_texts.specs.declared.coverage_rows.CoverageRow.{CoverageRow}
-use Rattle.report_texts.specs.declared.coverage_rows.SystemDetail.{SystemDetail}
-use Rattle.report_texts.proofs.CoverageLemmas.{days_through}
+use Rattle.coverage_texts.specs.Coverage as cover
+use Rattle.coverage_texts.specs.Coverage.{begins_on, coverage_rows, day_of_first, day_of_last}
+use Rattle.coverage_texts.specs.Coverage.{day_rows, days_between, days_from, days_of, ends_on}
+use Rattle.coverage_texts.specs.Coverage.{systems_of}
+use Rattle.coverage_texts.specs.declared.coverage_rows.CoverageRow.{CoverageRow}
+use Rattle.coverage_texts.specs.declared.coverage_rows.SystemDetail.{SystemDetail}
+use Rattle.coverage_texts.proofs.CoverageLemmas.{days_through}
 use Rattle.book_reports.specs.SystemDetails.{on_system}
 use Rattle.book_laws.specs.CoverageLaws.{CoverageAddsUp}
 use Rattle.book_laws.specs.DetailLaws.{AddUp}

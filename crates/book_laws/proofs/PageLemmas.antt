@@ -9,7 +9,7 @@ use Rattle.book_model.specs.Words.{Book, Naming, Period, details_of, disputes_in
 use Rattle.book_model.specs.Words.{open_period, close_of, last_period, period_of, rows_for}
 use Rattle.report_texts.specs.AdjustmentLists.{adjustment_line, adjustment_list_text, sum_line}
 use Rattle.report_texts.specs.Figures.{period_open}
-use Rattle.report_texts.specs.declared.coverage_rows.CoverageRow.{CoverageRow}
+use Rattle.coverage_texts.specs.declared.coverage_rows.CoverageRow.{CoverageRow}
 use Rattle.report_texts.specs.Periods.{title_line}
 use Rattle.report_texts.specs.Statements.{heading, row_line, statement_text, total_line}
 use Rattle.page_texts.specs.Figures.{FiguresSeen, figures_of}

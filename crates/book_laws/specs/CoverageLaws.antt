@@ -6,10 +6,10 @@ use Rattle.book_model.specs.declared.detail.Detail.{Detail}
 use Rattle.book_model.specs.Words.{Book, Event, IsMadeByCalls, IsSound, Naming, Period, all_periods}
 use Rattle.book_model.specs.Words.{book_after, detail_of, details_of, period_of, record_named}
 use Rattle.book_model.specs.Words.{rows_for, through_of, trail_outcome}
-use Rattle.report_texts.specs.Coverage.{begins_on, coverage_rows, day_of_first, day_of_last}
-use Rattle.report_texts.specs.Coverage.{ends_on, row_at, systems_of}
-use Rattle.report_texts.specs.declared.coverage_rows.CoverageRow.{CoverageRow}
-use Rattle.report_texts.specs.declared.coverage_rows.SystemDetail.{SystemDetail}
+use Rattle.coverage_texts.specs.Coverage.{begins_on, coverage_rows, day_of_first, day_of_last}
+use Rattle.coverage_texts.specs.Coverage.{ends_on, row_at, systems_of}
+use Rattle.coverage_texts.specs.declared.coverage_rows.CoverageRow.{CoverageRow}
+use Rattle.coverage_texts.specs.declared.coverage_rows.SystemDetail.{SystemDetail}
 use Rattle.book_reports.specs.SystemDetails.{on_system}
 
 -- The record of a detail is held under the name that the detail has, and so its trail is answered.

@@ -14,13 +14,13 @@ use Rattle.book_model.proofs.Std.{int_cmp_total, nat_list_cmp_total, on_total, s
 use Rattle.book_model.proofs.Std.{texts_ties, then_total}
 use Rattle.book_model.specs.Words.{IsDay, by_bytes, members, set_of}
 use Rattle.book_core.proofs.GroupLemmas.{groups-none, groups-push, lookup-groups}
-use Rattle.report_texts.specs.Coverage.{begins_on, coverage_rows, day_of_first, day_of_last}
-use Rattle.report_texts.specs.Coverage.{day_rows, earlier, ends_on, later, place_of, row_at, row_of}
-use Rattle.report_texts.specs.Coverage.{row_with, same_place, systems_of, those}
-use Rattle.report_texts.specs.declared.coverage_rows.CoveragePlace.{CoveragePlace}
+use Rattle.coverage_texts.specs.Coverage.{begins_on, coverage_rows, day_of_first, day_of_last}
+use Rattle.coverage_texts.specs.Coverage.{day_rows, earlier, ends_on, later, place_of, row_at, row_of}
+use Rattle.coverage_texts.specs.Coverage.{row_with, same_place, systems_of, those}
+use Rattle.coverage_texts.specs.declared.coverage_rows.CoveragePlace.{CoveragePlace}
 use Rattle.report_texts.proofs.ChargeLemmas.{one_more}
-use Rattle.report_texts.proofs.CoverageLemmas.{begins_late, dated, days_shown, first_shown}
-use Rattle.report_texts.proofs.CoverageLemmas.{last_shown}
+use Rattle.coverage_texts.proofs.CoverageLemmas.{begins_late, dated, days_shown, first_shown}
+use Rattle.coverage_texts.proofs.CoverageLemmas.{last_shown}
 use Rattle.book_reports.specs.declared.coverage_sums.CoverageSums.{CoverageSums}
 use Rattle.book_reports.proofs.Words.{days_between, CoverageRow, SystemDetail, ends_early}
 use Rattle.book_reports.proofs.Words.{IsCoverageOf, SystemDetails, row_on, rows_on}

@@ -16,13 +16,13 @@ pub use Rattle.book_model.specs.declared.fault.LedgerFault.TheVariants.{NoSuchRe
 pub use Rattle.book_model.specs.declared.line.Line.{Line}
 pub use Rattle.book_model.specs.declared.row.ChargeRow.{ChargeRow}
 pub use Rattle.book_model.specs.declared.trail.Trail.{Trail}
-pub use Rattle.report_texts.proofs.CoverageLemmas.{ends_early}
+pub use Rattle.coverage_texts.proofs.CoverageLemmas.{ends_early}
 pub use Rattle.report_texts.specs.Centres.{lines_of_centre}
-pub use Rattle.report_texts.specs.Coverage.{days_between}
+pub use Rattle.coverage_texts.specs.Coverage.{days_between}
 pub use Rattle.report_texts.specs.Figures.{figures_by, number_after}
 pub use Rattle.report_texts.specs.RulingLists.{ruling_line, ruling_list_text}
-pub use Rattle.report_texts.specs.declared.coverage_rows.CoverageRow.{CoverageRow}
-pub use Rattle.report_texts.specs.declared.coverage_rows.SystemDetail.{SystemDetail}
+pub use Rattle.coverage_texts.specs.declared.coverage_rows.CoverageRow.{CoverageRow}
+pub use Rattle.coverage_texts.specs.declared.coverage_rows.SystemDetail.{SystemDetail}
 pub use Rattle.report_texts.specs.declared.figures.Figures.{Figures}
 pub use Rattle.page_texts.specs.Figures.{figures_of, figures_seen}
 pub use Rattle.page_texts.specs.OfficePage.{office_page_text}

@@ -3,9 +3,9 @@
 use Rattle.std.specs.Prelude.{ℕ, ℤ, ◌-◌, List, Option, Result, Ok}
 use Rattle.book_model.specs.declared.fault.LedgerFault.{LedgerFault}
 use Rattle.book_model.specs.Words.{Book, Naming, Outcome, no_event}
-use Rattle.report_texts.specs.Coverage.{coverage_rows, coverage_table, coverage_text}
-use Rattle.report_texts.specs.declared.coverage_rows.CoverageRow.{CoverageRow}
-use Rattle.report_texts.specs.declared.coverage_rows.SystemDetail.{SystemDetail}
+use Rattle.coverage_texts.specs.Coverage.{coverage_rows, coverage_table, coverage_text}
+use Rattle.coverage_texts.specs.declared.coverage_rows.CoverageRow.{CoverageRow}
+use Rattle.coverage_texts.specs.declared.coverage_rows.SystemDetail.{SystemDetail}
 use Rattle.book_lists.specs.Shown.{shown_by}
 use Rattle.book_reports.specs.declared.period_days.PeriodDays.{PeriodDays}
 use Rattle.book_reports.specs.declared.what_if.StatementForm.{StatementForm}

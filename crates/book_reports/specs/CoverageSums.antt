@@ -4,11 +4,11 @@ use Rattle.std.specs.BTreeMap.{is_at}
 use Rattle.std.specs.Map.{lookup}
 use Rattle.book_model.specs.Std.{int_cmp, ordering_then, Ordering}
 use Rattle.book_model.specs.Words.{IsDay, by_bytes, members, set_of}
-use Rattle.report_texts.specs.Coverage.{day_of_first, day_of_last, place_of, row_at, row_of}
-use Rattle.report_texts.specs.Coverage.{systems_of}
-use Rattle.report_texts.specs.declared.coverage_rows.CoveragePlace.{CoveragePlace}
-use Rattle.report_texts.specs.declared.coverage_rows.CoverageRow.{CoverageRow}
-use Rattle.report_texts.specs.declared.coverage_rows.SystemDetail.{SystemDetail}
+use Rattle.coverage_texts.specs.Coverage.{day_of_first, day_of_last, place_of, row_at, row_of}
+use Rattle.coverage_texts.specs.Coverage.{systems_of}
+use Rattle.coverage_texts.specs.declared.coverage_rows.CoveragePlace.{CoveragePlace}
+use Rattle.coverage_texts.specs.declared.coverage_rows.CoverageRow.{CoverageRow}
+use Rattle.coverage_texts.specs.declared.coverage_rows.SystemDetail.{SystemDetail}
 use Rattle.book_reports.specs.declared.coverage_sums.CoverageSums.{CoverageSums}
 
 -- records, in the order in which they are read

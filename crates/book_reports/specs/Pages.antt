@@ -7,7 +7,7 @@ use Rattle.page_texts.specs.Figures.{FiguresSeen, figures_of}
 use Rattle.page_texts.specs.OfficePage.{office_page_text}
 use Rattle.page_texts.specs.PeriodPage.{period_page_text}
 use Rattle.report_texts.specs.Figures.{lines_in, period_open, rows_in}
-use Rattle.report_texts.specs.declared.coverage_rows.CoverageRow.{CoverageRow}
+use Rattle.coverage_texts.specs.declared.coverage_rows.CoverageRow.{CoverageRow}
 use Rattle.book_lists.specs.Shown.{shown_by}
 use Rattle.book_reports.specs.Coverage.{coverage_rows_answer}
 

@@ -9,7 +9,7 @@ use Rattle.book_model.specs.declared.fault.LedgerFault.TheVariants.{Memory, Reop
 use Rattle.book_model.specs.declared.trail.Trail.{Trail}
 use Rattle.book_model.specs.Words.{record_named, Book, Naming, Outcome, details_outcome}
 use Rattle.book_model.specs.Words.{next_detail_outcome, no_event}
-use Rattle.report_texts.specs.declared.coverage_rows.SystemDetail.{SystemDetail}
+use Rattle.coverage_texts.specs.declared.coverage_rows.SystemDetail.{SystemDetail}
 use Rattle.book_lists.specs.Shown.{shown_by}
 
 -- the system of a record that was found

@@ -17,7 +17,7 @@ use crate::system_details::SystemCursor;
 use crate::what_if::StatementForm;
 use book_core::{Ledger, LedgerFault};
 use book_lists::fold;
-use report_texts::{CoverageRow, coverage_table, coverage_text};
+use coverage_texts::{CoverageRow, coverage_table, coverage_text};
 use std::alloc::{AllocError, Global};
 
 /// The days of the closes of a period and of the one before it.

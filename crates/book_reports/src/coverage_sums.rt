@@ -7,13 +7,13 @@ ghost use Rattle.std.specs.BTreeSet.{insert_key};
 ghost use Rattle.std.specs.Option.{ForSome};
 ghost use Rattle.smf_text.specs.Day.{last_day};
 ghost use Rattle.book_model.specs.Words.{IsDay, by_bytes};
-ghost use Rattle.report_texts.specs.Coverage as spec;
+ghost use Rattle.coverage_texts.specs.Coverage as spec;
 ghost use Rattle.book_reports.specs.CoverageSums as kept;
 ghost use Rattle.book_reports.specs.CoverageSums.{SystemDetails, keyed_coverage};
 
 use book_core::LedgerFault;
 use book_lists::Step;
-use report_texts::{
+use coverage_texts::{
     CoveragePlace, CoverageRow, SystemDetail, coverage_place, coverage_with, empty_coverage,
 };
 use std::alloc::{AllocError, Global};

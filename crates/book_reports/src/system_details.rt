@@ -8,7 +8,7 @@ ghost use Rattle.book_reports.specs.SystemDetails as spec;
 
 use book_core::{Detail, Ledger, LedgerFault, Trail};
 use book_lists::Cursor;
-use report_texts::SystemDetail;
+use coverage_texts::SystemDetail;
 use smf_frames::Header;
 use std::alloc::Global;
 
@@ -98,7 +98,7 @@ impl<L: Ledger> Cursor<L> for SystemCursor {
     ghost use Rattle.std.specs.Prelude.{◌≡◌, ◌<◌, IfOk, IfSome, false, option_map};
     ghost use Rattle.book_core.specs.Calls.{IsCall};
     ghost use Rattle.book_model.specs.Words.{IsDay, no_event};
-    ghost use Rattle.report_texts.specs.declared.coverage_rows.SystemDetail.{SystemDetail};
+    ghost use Rattle.coverage_texts.specs.declared.coverage_rows.SystemDetail.{SystemDetail};
     ghost use Rattle.book_reports.specs.SystemDetails.{next_on_system, system_details};
     ghost use Rattle.book_reports.specs.SystemsInTurn.{systems_in_turn};
 

@@ -4,8 +4,8 @@ use Rattle.std.specs.Prelude.{if◌then◌else◌}
 use Rattle.std.specs.Fmt.{decimal}
 use Rattle.std.specs.List.{concat}
 use Rattle.report_texts.specs.Columns.{amount_text}
-use Rattle.report_texts.specs.Coverage.{gaps}
-use Rattle.report_texts.specs.declared.coverage_rows.CoverageRow.{CoverageRow}
+use Rattle.coverage_texts.specs.Coverage.{gaps}
+use Rattle.coverage_texts.specs.declared.coverage_rows.CoverageRow.{CoverageRow}
 use Rattle.report_texts.specs.Periods.{head_text}
 use Rattle.page_texts.specs.Figures.{FiguresSeen, owed_text}
 

@@ -4,7 +4,7 @@ use Rattle.std.specs.Prelude.{ℕ, ℤ, ◌-◌, List, ◌++◌}
 use Rattle.book_model.specs.declared.line.Line.{Line}
 use Rattle.book_model.specs.declared.row.ChargeRow.{ChargeRow}
 use Rattle.book_model.specs.Words.{Disputed, close_of}
-use Rattle.report_texts.specs.declared.coverage_rows.CoverageRow.{CoverageRow}
+use Rattle.coverage_texts.specs.declared.coverage_rows.CoverageRow.{CoverageRow}
 use Rattle.page_texts.specs.Figures.{figures_of}
 use Rattle.page_texts.specs.Frame.{page_start}
 use Rattle.page_texts.specs.PeriodHead.{gaps_figure, period_foot, period_head, period_title}

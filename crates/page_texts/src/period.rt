@@ -13,7 +13,7 @@ use crate::period_head::{period_title, push_gaps_figure, push_period_foot, push_
 use crate::period_pictures::{push_centre_table, push_day_table};
 use crate::period_statement::push_statement_part;
 use book_model::{ChargeRow, Dispute, Line};
-use report_texts::CoverageRow;
+use coverage_texts::CoverageRow;
 use std::alloc::{AllocError, Global};
 use text_drafts::Draft;
 

@@ -8,7 +8,7 @@ ghost use Rattle.page_texts.specs.PeriodHead as spec;
 
 use crate::amounts::{push_head, push_money};
 use crate::figures::{PeriodFigures, push_owed};
-use report_texts::{CoverageRow, count_gaps};
+use coverage_texts::{CoverageRow, count_gaps};
 use std::alloc::Global;
 use text_drafts::Draft;
 

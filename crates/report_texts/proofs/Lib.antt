@@ -11,5 +11,4 @@ pub mod DifferenceLemmas
 pub mod ChargeLemmas
 pub mod CentreAmountLemmas
 pub mod FocusLemmas
-pub mod CoverageLemmas
 pub mod MidnightLemmas

@@ -34,7 +34,7 @@ pub(crate) fn push_right_aligned(out: &mut Draft, width: usize, text: &str)
 }
 
 /// Appends what a draft says at the left of a column, and the blank after the column.
-pub(crate) fn push_left(out: &mut Draft, width: usize, text: &Draft)
+pub fn push_left(out: &mut Draft, width: usize, text: &Draft)
     ensures { out.new ≡ out.old ++ spec.left_aligned width text.now ++ codes " " }
 {
     match text.whole() {
@@ -54,7 +54,7 @@ pub(crate) fn push_right(out: &mut Draft, width: usize, text: &Draft)
 }
 
 /// Appends a number at the right of a column.
-pub(crate) fn push_count(out: &mut Draft, width: usize, number: u64)
+pub fn push_count(out: &mut Draft, width: usize, number: u64)
     ensures { out.new ≡ out.old ++ spec.right_aligned width (decimal number) }
 {
     let mut text = Draft::new(out.alloc());

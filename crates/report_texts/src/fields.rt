@@ -14,7 +14,7 @@ use tariff_rules::Priced;
 use text_drafts::{Draft, RowDraft, TableDraft};
 
 /// Adds a number.
-pub(crate) fn add_number(row: &mut RowDraft, number: u64)
+pub fn add_number(row: &mut RowDraft, number: u64)
     ensures { row.new ≡ row.old ++ decimal number ∷ [] }
 {
     let mut text = Draft::new(row.alloc());
@@ -41,7 +41,7 @@ pub(crate) fn add_seconds(row: &mut RowDraft, hundredths: u64)
 }
 
 /// Adds bytes as they are shown.
-pub(crate) fn add_shown(row: &mut RowDraft, bytes: &[u8])
+pub fn add_shown(row: &mut RowDraft, bytes: &[u8])
     ensures { row.new ≡ row.old ++ show_text bytes.now ∷ [] }
 {
     let mut text = Draft::new(row.alloc());
@@ -50,7 +50,7 @@ pub(crate) fn add_shown(row: &mut RowDraft, bytes: &[u8])
 }
 
 /// Adds a day.
-pub(crate) fn add_day(row: &mut RowDraft, day: i32)
+pub fn add_day(row: &mut RowDraft, day: i32)
     requires { IsDay day }
     ensures { row.new ≡ row.old ++ day_text_of day ∷ [] }
 {
@@ -100,7 +100,7 @@ pub(crate) fn add_name(row: &mut RowDraft, name: &[u8])
 
 /// Adds a row that was made field by field.
 #[tactic(auto, unfolding(crate::specs::Tables::fields_line))]
-pub(crate) fn add_row(table: &mut TableDraft, row: &RowDraft)
+pub fn add_row(table: &mut TableDraft, row: &RowDraft)
     ensures { table.new ≡ table.old ++ fields_line row.now }
 {
     table.add_row(row);

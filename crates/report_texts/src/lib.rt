@@ -9,8 +9,6 @@ mod centre_amounts;
 mod centres;
 mod charges;
 mod columns;
-mod coverage_rows;
-mod coverage_texts;
 mod detail_lists;
 mod detail_tables;
 mod dispute_lists;
@@ -43,11 +41,7 @@ pub use centres::{
     centre_statement_text, keep_lines,
 };
 pub use charges::Charges;
-pub use columns::{push_amount, push_number, push_seconds, seconds_text};
-pub use coverage_rows::{
-    CoveragePlace, CoverageRow, SystemDetail, coverage_place, coverage_with, empty_coverage,
-};
-pub use coverage_texts::{count_gaps, coverage_table, coverage_text};
+pub use columns::{push_amount, push_count, push_left, push_number, push_seconds, seconds_text};
 pub use detail_lists::{detail_head, detail_total, push_detail_line};
 pub use detail_tables::{detail_row, detail_table_head};
 pub use dispute_lists::{
@@ -56,12 +50,14 @@ pub use dispute_lists::{
 };
 pub use dispute_tables::{dispute_rows, dispute_table, dispute_table_head};
 pub use dry_runs::{TriedRuling, dry_run_text};
+pub use fields::{add_day, add_number, add_row, add_shown};
 pub use figures::{Figures, figures_of, record_count, record_count_from};
 pub use focus_tables::{FocusHead, focus_table};
 pub use life_lines::is_charge;
+pub use moments::push_time;
 pub use office_bills::office_bill_text;
 pub use period_lists::period_list_text;
-pub use periods::push_head;
+pub use periods::{push_head, push_title};
 pub use record_texts::record_text;
 pub use ruling_lists::{push_ruling_line, ruling_list_head};
 pub use statement_tables::statement_table;

@@ -29,7 +29,7 @@ fn push_two_digits(out: &mut Draft, number: u32)
 
 /// Appends a time of day, given in hundredths of a second since midnight.
 #[tactic(auto, unfolding(crate::specs::Moments::time_text))]
-pub(crate) fn push_time(out: &mut Draft, time: u32)
+pub fn push_time(out: &mut Draft, time: u32)
     ensures { out.new ≡ out.old ++ spec.time_text time }
 {
     push_two_digits(out, time / 360_000);

@@ -1,6 +1,6 @@
 use Rattle.std.proofs.Common.{◌≤ℤ◌, ◌<ℤ◌, arith}
 use Rattle.std.proofs.lemmas.Int.{ints}
-use Rattle.report_texts.proofs.CoverageLemmas.{all_made, day_made, gap_smaller}
+use Rattle.coverage_texts.proofs.CoverageLemmas.{all_made, day_made, gap_smaller}
 use Rattle.book_reports.specs.CoverageSums.{rows_on}
 use Rattle.book_reports.proofs.coverage_sums.rows_between.Goals as goal
 

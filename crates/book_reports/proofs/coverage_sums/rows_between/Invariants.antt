@@ -1,6 +1,6 @@
 use Rattle.std.proofs.Common.{◌≡◌, ◌++◌, ◌+ℤ◌, pos, flat_map}
 use Rattle.std.specs.Int.{int_gap}
-use Rattle.report_texts.proofs.CoverageLemmas.{days_through}
+use Rattle.coverage_texts.proofs.CoverageLemmas.{days_through}
 use Rattle.book_reports.proofs.Words.{rows_on}
 use Rattle.book_reports.proofs.coverage_sums.rows_between.Given as goal
 

@@ -2,7 +2,7 @@ use Rattle.std.proofs.Common.{◌∙◌, refl, sym}
 use Rattle.std.proofs.lemmas.List.Elements.{All-nil}
 use Rattle.book_model.specs.Words.{IsDay, by_bytes}
 use Rattle.book_model.proofs.SetLemmas.{members-empty}
-use Rattle.report_texts.specs.declared.coverage_rows.SystemDetail.{SystemDetail}
+use Rattle.coverage_texts.specs.declared.coverage_rows.SystemDetail.{SystemDetail}
 use Rattle.book_reports.proofs.CoverageLemmas.{keyed_coverage-none}
 use Rattle.book_reports.proofs.coverage_sums.CoverageSums.new.Goals as goal
 

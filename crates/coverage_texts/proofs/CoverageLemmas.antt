@@ -8,10 +8,10 @@ use Rattle.std.specs.Option.{ForSome}
 use Rattle.book_model.proofs.Std.{ints, All-append, All-cons, All-head, All-nil, All-tail}
 use Rattle.smf_text.specs.Day.{first_day, last_day}
 use Rattle.book_model.specs.Words.{IsDay}
-use Rattle.report_texts.specs.Coverage.{begins_on, day_of_first, day_of_last, days_between}
-use Rattle.report_texts.specs.Coverage.{days_from, ends_on}
-use Rattle.report_texts.specs.declared.coverage_rows.CoverageRow.{CoverageRow}
-use Rattle.report_texts.specs.declared.coverage_rows.SystemDetail.{SystemDetail}
+use Rattle.coverage_texts.specs.Coverage.{begins_on, day_of_first, day_of_last, days_between}
+use Rattle.coverage_texts.specs.Coverage.{days_from, ends_on}
+use Rattle.coverage_texts.specs.declared.coverage_rows.CoverageRow.{CoverageRow}
+use Rattle.coverage_texts.specs.declared.coverage_rows.SystemDetail.{SystemDetail}
 
 -- ---- how many days there are
 

@@ -1,6 +1,6 @@
 use Rattle.std.proofs.Common.{◌≡◌, ◌++◌, take, flat_map}
-use Rattle.report_texts.specs.Coverage.{coverage_row}
-use Rattle.report_texts.proofs.coverage_texts.add_all.Given as goal
+use Rattle.coverage_texts.specs.Coverage.{coverage_row}
+use Rattle.coverage_texts.proofs.coverage_texts.add_all.Given as goal
 
 -- the lines of the rows so far are there
 abbrev pub invariant-loop-row : goal.invariant-loop-row

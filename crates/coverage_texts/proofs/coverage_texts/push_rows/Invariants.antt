@@ -1,6 +1,6 @@
 use Rattle.std.proofs.Common.{◌≡◌, ◌++◌, take, flat_map}
-use Rattle.report_texts.specs.Coverage.{coverage_line}
-use Rattle.report_texts.proofs.coverage_texts.push_rows.Given as goal
+use Rattle.coverage_texts.specs.Coverage.{coverage_line}
+use Rattle.coverage_texts.proofs.coverage_texts.push_rows.Given as goal
 
 -- the lines of the rows so far are appended
 abbrev pub invariant-loop-row : goal.invariant-loop-row

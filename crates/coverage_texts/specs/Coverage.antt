@@ -6,9 +6,9 @@ use Rattle.std.specs.Prelude.{ℤ, pos, ◌+ℤ◌, decimal, fold}
 use Rattle.std.specs.Int.{int_gap}
 use Rattle.book_model.specs.Std.{int_eq}
 use Rattle.book_model.specs.Words.{by_bytes, day_text_of, members, same_bytes, set_of, show_text}
-use Rattle.report_texts.specs.declared.coverage_rows.CoveragePlace.{CoveragePlace}
-use Rattle.report_texts.specs.declared.coverage_rows.CoverageRow.{CoverageRow}
-use Rattle.report_texts.specs.declared.coverage_rows.SystemDetail.{SystemDetail}
+use Rattle.coverage_texts.specs.declared.coverage_rows.CoveragePlace.{CoveragePlace}
+use Rattle.coverage_texts.specs.declared.coverage_rows.CoverageRow.{CoverageRow}
+use Rattle.coverage_texts.specs.declared.coverage_rows.SystemDetail.{SystemDetail}
 use Rattle.report_texts.specs.Columns.{left_aligned, newline, right_aligned}
 use Rattle.report_texts.specs.Moments.{time_text}
 use Rattle.report_texts.specs.Periods.{title_line}

@@ -1,7 +1,7 @@
 //! Coverage by rows: how many of a period's records have the same day and system, and when.
 
 ghost use Rattle.std.specs.Prelude.{◌≡◌, [], IfSome};
-ghost use Rattle.report_texts.specs.Coverage as spec;
+ghost use Rattle.coverage_texts.specs.Coverage as spec;
 
 use book_model::Detail;
 

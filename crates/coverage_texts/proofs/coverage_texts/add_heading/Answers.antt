@@ -1,6 +1,6 @@
 use Rattle.csv.specs.Writing.{fields_text, is_blank}
-use Rattle.report_texts.specs.Coverage.{coverage_heading}
-use Rattle.report_texts.proofs.coverage_texts.add_heading.Goals as goal
+use Rattle.coverage_texts.specs.Coverage.{coverage_heading}
+use Rattle.coverage_texts.proofs.coverage_texts.add_heading.Goals as goal
 
 -- the names call for no quotes
 pub returns : goal.returns

@@ -5,13 +5,12 @@ ghost use Rattle.std.specs.Prelude.{length, string_bytes, ◌==◌};
 ghost use Rattle.std.specs.Option.{ForSome};
 ghost use Rattle.book_model.specs.Words.{IsDay, show_text};
 ghost use Rattle.report_texts.specs.Columns.{left_aligned};
-ghost use Rattle.report_texts.specs.Coverage as spec;
+ghost use Rattle.coverage_texts.specs.Coverage as spec;
 
-use crate::columns::{push_count, push_left};
 use crate::coverage_rows::CoverageRow;
-use crate::fields::{add_day, add_number, add_row, add_shown};
-use crate::moments::push_time;
-use crate::periods::push_title;
+use report_texts::{
+    add_day, add_number, add_row, add_shown, push_count, push_left, push_time, push_title,
+};
 use std::alloc::{AllocError, Global};
 use text_drafts::{Draft, RowDraft, TableDraft};
 
