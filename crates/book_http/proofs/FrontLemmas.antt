@@ -1,6 +1,6 @@
 -- What is served is found by the front of its paths, and whatever goes on behind that.
 use Rattle.std.proofs.Common.{◌≡◌, ◌∙◌, ℕ, suc, zero, ◌-◌, ◌<◌, Bool, true, false, cond, ◌&&◌, List}
-use Rattle.std.proofs.Common.{[], ◌∷◌, ◌++◌, length, Option, Some, None, IfSome, arith, refl, sym}
+use Rattle.std.proofs.Common.{[], ◌∷◌, ◌++◌, length, Option, Some, None, arith, refl, sym}
 use Rattle.std.proofs.Common.{ap, subst, append-nil, true≢false, option_and_then, ◌==◌, decimal}
 use Rattle.std.proofs.Common.{option_map}
 use Rattle.matchit.proofs.OnLiterals.{matchit_on_literals}
@@ -14,7 +14,7 @@ use Rattle.report_rows.specs.ReportRows.{row_of}
 use Rattle.book_http.specs.declared.endpoint.Endpoint.{Endpoint}
 use Rattle.book_http.proofs.Words.{digit_at, is_ascii_digit, IsInRange, StatementForm, About}
 use Rattle.book_http.proofs.Words.{ReportName, Shape, OfCentre, OfDay, OfOffice, OfPeriod, OfRecord}
-use Rattle.book_http.proofs.Words.{IsPathPeriod, Names, front_of, period_text, shape_of}
+use Rattle.book_http.proofs.Words.{IsPathPeriod, Names, front_of, shape_of}
 use Rattle.book_http.specs.Routes.{Key, endpoint_of, route_rows}
 use Rattle.book_http.proofs.NamedPeriodLemmas.{after_number, text_begins}
 use Rattle.book_http.proofs.PeriodLemmas.{are_digits, decimal_digits, three_pass}

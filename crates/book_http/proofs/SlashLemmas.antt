@@ -1,10 +1,9 @@
 -- Texts that a slash cuts in two.
 use Rattle.std.proofs.Common.{◌≡◌, ◌≢◌, ℕ, suc, ◌<◌, Bool, true, false, cond, List, [], ◌∷◌, ◌++◌}
-use Rattle.std.proofs.Common.{length, get_or, arith, lit<, Option, Some, None, refl, ap, ap₂, ◌∙◌, Bor}
-use Rattle.std.proofs.lemmas.Bool.Decides.{nat_tests}
+use Rattle.std.proofs.Common.{length, get_or, arith, lit<, Option, Some, None, refl, ap, ap₂, ◌∙◌}
+use Rattle.std.proofs.Common.{Bor, MatchOption, ◌==◌}
 use Rattle.std.proofs.lemmas.Str.Pattern.{IsSplitOnceResult, split_parts}
-use Rattle.std.specs.Option.{MatchOption}
-use Rattle.std.specs.Prelude.{◌==◌}
+use Rattle.book_model.proofs.Std.{nat_tests}
 use Rattle.book_reports.specs.BookTexts.{centre_named}
 use Rattle.book_http.specs.Routes.{after_slash, before_slash, period, period_by, period_in}
 use Rattle.book_http.specs.Routes.{period_of_all, period_of_centre}

@@ -1,6 +1,5 @@
 -- The statement of books that were never closed.
-use Rattle.std.proofs.Common.{◌≡◌, List, [], refl, sym, subst, Ok}
-use Rattle.std.specs.Prelude.{ℤ}
+use Rattle.std.proofs.Common.{◌≡◌, List, [], refl, sym, subst, Ok, ℤ}
 use Rattle.book_model.specs.Words.{Book, charges_outcome}
 use Rattle.report_texts.specs.Statements.{statement_text}
 use Rattle.book_reports.specs.BookTexts.{open_statement, shown_by, closed_through}

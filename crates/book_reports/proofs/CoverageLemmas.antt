@@ -1,5 +1,5 @@
 -- The coverage of a period, one more record at a time; and its rows, day by day.
-use Rattle.std.proofs.Common.{◌≡◌, ◌∙◌, ℕ, ℤ, ◌+◌, List, [], ◌∷◌, ◌++◌, length, map, refl, sym, ap}
+use Rattle.std.proofs.Common.{◌≡◌, ◌∙◌, ℕ, ℤ, ◌+◌, List, [], ◌∷◌, ◌++◌, map, refl, sym, ap}
 use Rattle.std.proofs.Common.{subst, fold, int_cmp, length-append, nat_cmp, unwrap_or, Option, Some}
 use Rattle.std.proofs.Common.{None, All, flat_map}
 use Rattle.std.specs.BTreeMap.{insert_entry, is_at}
@@ -23,7 +23,7 @@ use Rattle.coverage_texts.proofs.CoverageLemmas.{begins_late, dated, days_shown,
 use Rattle.coverage_texts.proofs.CoverageLemmas.{last_shown}
 use Rattle.book_reports.specs.declared.coverage_sums.CoverageSums.{CoverageSums}
 use Rattle.book_reports.proofs.Words.{days_between, CoverageRow, SystemDetail, ends_early}
-use Rattle.book_reports.proofs.Words.{IsCoverageOf, SystemDetails, row_on, rows_on}
+use Rattle.book_reports.proofs.Words.{IsCoverageOf, SystemDetails, rows_on}
 use Rattle.book_reports.specs.CoverageSums.{by_place, first_with, keyed_coverage, row_among}
 use Rattle.std.specs.FinMap as finite
 

@@ -1,5 +1,5 @@
 -- The coverage of a period, of calls that show one book.
-use Rattle.std.proofs.Common.{◌≡◌, ◌∙◌, ℕ, ◌-◌, ℤ, List, map, refl, sym, ap, subst, Option, Result}
+use Rattle.std.proofs.Common.{◌≡◌, ◌∙◌, ℕ, ◌-◌, ℤ, map, refl, sym, ap, subst, Option, Result}
 use Rattle.std.proofs.Common.{Ok, Err, IfOk, IsErrAnd}
 use Rattle.book_model.specs.Words.{Book, Naming, no_event}
 use Rattle.book_core.specs.Words.{IsCall, Seen}
