@@ -1,5 +1,5 @@
 -- The coverage of a period, one more record at a time; and its rows, day by day.
-use Rattle.std.proofs.Common.{◌≡◌, ◌∙◌, ℕ, ℤ, ◌+◌, List, [], ◌∷◌, ◌++◌, map, refl, sym, ap}
+use Rattle.std.proofs.Common.{◌≡◌, ◌∙◌, ℕ, ℤ, List, [], ◌∷◌, ◌++◌, map, refl, sym, ap}
 use Rattle.std.proofs.Common.{subst, fold, int_cmp, length-append, nat_cmp, unwrap_or, Option, Some}
 use Rattle.std.proofs.Common.{None, All, flat_map}
 use Rattle.std.specs.BTreeMap.{insert_entry, is_at}

@@ -147,8 +147,8 @@ kept_none days = by days.before days.through
     by (Some close) (Some through) = refl
 
 -- tariffs that were kept have days
-pub kept_dated : {result : Result KeptTariffs LedgerFault} {read : List RulingSeen}
+pub kept_dated : (result : Result KeptTariffs LedgerFault) (read : List RulingSeen)
     → IfOk result (λ kept. HasKept kept read)
     → IfOk result (λ kept. All (λ (tariff : BilledTariff). IsDay tariff.day) kept.tariffs.items)
-kept_dated {result = Ok kept} has = has.days
-kept_dated {result = Err fault} has = tt
+kept_dated (Ok kept) read has = has.days
+kept_dated (Err fault) read has = tt

@@ -47,34 +47,35 @@ hindrance_tells Reopen answer = tt
 hindrance_tells fault answer = tt
 
 -- so the system that a trail shows is that of the record of the name
-pub system_read : {old new : Seen} {name : List ℕ} (answer : Result Trail LedgerFault)
+pub system_read : {old new : Seen} (name : List ℕ) (answer : Result Trail LedgerFault)
     (result : Result (List ℕ) LedgerFault)
     → IsCall trail_shown old new answer (trail_outcome old.naming name)
     → IsSystemBy answer result
     → IsCall (λ system. system) old new result (system_outcome old.naming name)
-system_read {old} {new} {name} (Ok trail) result call is =
+system_read {old} {new} name (Ok trail) result call is =
     rw is
     (read_as (λ book. refl) (λ book. refl) (record { reopen = refl; store = refl })
     (λ book told. ap Ok
     (system_told old.naming book (record_named old.naming book.held name) (trail_shown trail) told))
     call)
-system_read {old} {new} {name} (Err fault) result call is =
+system_read {old} {new} name (Err fault) result call is =
     rw is
     (read_as (λ book. refl) (λ book. refl) (hindrance_alike fault)
     (λ book told. hindrance_tells fault (Ok (system_named old.naming book name))) call)
 
 -- ---- the next record
 
+-- the answer to the next detail is that to the one after the last
+asked_same : (naming : Naming) (period : ℕ) (last : Option SystemDetail) {asked : Option Detail}
+    → asked ≡ detail_in last → (book : Book)
+    → (next_detail_outcome naming period None (detail_in last) book).answer
+    ≡ (next_detail_outcome naming period None asked book).answer
+asked_same naming period last is book =
+    ap (λ asked. (next_detail_outcome naming period None asked book).answer) (sym is)
+
 module _ {old mid : Seen} (period : ℕ) (last : Option SystemDetail) {asked : Option Detail}
     (is : asked ≡ detail_in last)
   where
-    -- the answer to the next detail is that to the one after the last
-    asked_same : (book : Book)
-        → (next_detail_outcome old.naming period None (detail_in last) book).answer
-        ≡ (next_detail_outcome old.naming period None asked book).answer
-    asked_same book =
-        ap (λ asked. (next_detail_outcome old.naming period None asked book).answer) (sym is)
-
     -- the next record is refused as the next detail is
     pub next_refused : {fault : LedgerFault} (result : Result (Option SystemDetail) LedgerFault)
         → IsErrAnd result (λ given. given ≡ fault)
@@ -85,7 +86,7 @@ module _ {old mid : Seen} (period : ℕ) (last : Option SystemDetail) {asked : O
     next_refused result passed call =
         call_failed result passed (λ book. refl) (λ book. refl)
         (λ book said. ap (shown_by (option_map (on_system old.naming book)))
-        (asked_same book ∙ said))
+        (asked_same old.naming period last is book ∙ said))
         call
 
     module _ {found : Option Detail}
@@ -98,7 +99,7 @@ module _ {old mid : Seen} (period : ℕ) (last : Option SystemDetail) {asked : O
         none_left none =
             read_as (λ book. refl) (λ book. refl) (record { reopen = refl; store = refl })
             (λ book said. ap (shown_by (option_map (on_system old.naming book)))
-            (asked_same book ∙ said ∙ ap Ok none))
+            (asked_same old.naming period last is book ∙ said ∙ ap Ok none))
             call
 
         module _ {new : Seen} (detail : Detail) (some : found ≡ Some detail) where
@@ -127,7 +128,7 @@ module _ {old mid : Seen} (period : ℕ) (last : Option SystemDetail) {asked : O
               answers _ (λ book. refl)
               (λ book both.
               ap (shown_by (option_map (on_system old.naming book)))
-              (asked_same book ∙ both.first ∙ ap Ok some)
+              (asked_same old.naming period last is book ∙ both.first ∙ ap Ok some)
               ∙ ap (λ system. Ok (Some (made system))) (same_value both.next))
               (both_shown (λ book. refl) (shown (λ book. refl) call)
               (by_names (λ naming. system_outcome naming detail.name) call.work.naming next))

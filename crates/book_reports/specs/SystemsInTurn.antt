@@ -1,5 +1,5 @@
 -- The details of a period come in turn with their systems, as they do without them.
-use Rattle.std.specs.Prelude.{◌≡◌, ℕ, List, [], ◌∷◌, map, refl, take, Option, Some, None, Result}
+use Rattle.std.specs.Prelude.{◌≡◌, ℕ, List, [], ◌∷◌, map, refl, take, Option, None, Result}
 use Rattle.std.specs.Prelude.{Ok, Err, slice_get, option_map}
 use Rattle.std.proofs.Common.{◌∙◌, sym, ap}
 use Rattle.std.proofs.lemmas.List.{take-map}

@@ -153,14 +153,14 @@ fn push_day(
     made: &mut Vec<CoverageRow>,
     rows: &BTreeMap<CoveragePlace, CoverageRow>,
     systems: &[[u8; 4]],
-    day: &i32,
+    day: i32,
 ) -> Result<(), AllocError>
     ensures { OnOk result (made.new.items ≡ made.old.items
-        ++ map (kept.row_on rows.now.entries day.now) systems.now) }
+        ++ map (kept.row_on rows.now.entries day) systems.now) }
 {
     for system in systems {
         let place = CoveragePlace {
-            day: *day,
+            day,
             system: *system,
         };
         made.push(row_among(rows, place))?;
@@ -191,7 +191,7 @@ fn rows_between(
     let mut made = Vec::new(alloc);
     let mut day = first;
     while day <= last {
-        push_day(&mut made, rows, systems, &day)?;
+        push_day(&mut made, rows, systems, day)?;
         day = day_after(&day);
     }
     Ok(made)

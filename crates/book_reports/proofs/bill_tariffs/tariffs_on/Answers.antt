@@ -9,4 +9,4 @@ returns-clause-tariffs g c =
     c.fold.ensures (λ kept tariffs has. sym (kept_shown has))
 
 pub returns-clause-days : goal.returns-clause-days
-returns-clause-days g c = kept_dated c.fold.ensures.has
+returns-clause-days g c = kept_dated c.fold.result _ c.fold.ensures.has

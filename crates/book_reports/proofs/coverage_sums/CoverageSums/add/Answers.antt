@@ -5,4 +5,4 @@ pub returns-clause-added : goal.returns-clause-added
 returns-clause-added c = λ details is.
     record_joined c.args.self.now _ details c.args.one.now c.requires is
     (c.in_ok-add_record.ensures.joined details is.rows) c.in_ok-add_system.ensures
-    c.first_with.ensures c.day_of.ensures
+    c.first_with-self.ensures c.day_of-self.ensures
