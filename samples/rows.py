@@ -310,7 +310,7 @@ class Rows:
     def office_asks(self, verb, period):
         """How often such a text asks the books. FOCUS: for the days of the closes; for the tariffs, which is for the days, for
         each tariff, and for the end; for the rows, which is all where there is no such period, and for the lines. Coverage: for
-        the days of the close before and of its own; for each record and for its trail, and for the end."""
+        the days of the close before and of its own; for each detail and for its record, and for the end."""
         books = self.books
         is_there = 0 < period <= books.open
         if verb == "focus":

@@ -5,7 +5,7 @@ use Rattle.std.proofs.Common.{Result, Ok, Err, length, ℤ, ◌==◌, if◌then�
 use Rattle.std.proofs.Common.{nat_lt, sum_by}
 use Rattle.std.specs.List.{list_any}
 use Rattle.book_model.specs.declared.fault.LedgerFault.{LedgerFault}
-use Rattle.book_model.specs.declared.fault.LedgerFault.TheVariants.{NoSuchPeriod}
+use Rattle.book_model.specs.declared.fault.LedgerFault.TheVariants.{NoSuchPeriod, NoSuchRecord}
 use Rattle.book_model.specs.Words.{TariffFault, Priced, terms_ruled, Book, Naming, Period, Rulings}
 use Rattle.book_model.specs.Words.{Terms, accept_answer, accept_priced, adopt_answer, chosen_answer}
 use Rattle.book_model.specs.Words.{clashes, close_answer, costs_under, has, has_text, is_chosen}
@@ -36,6 +36,11 @@ answered_open list = opens refl refl
 pub listed_open : {A : Type 0} (found : Option A) → LeavesOpen (ok_or found NoSuchPeriod)
 listed_open None = opens refl refl
 listed_open (Some list) = opens refl refl
+
+-- or such a record
+pub named_open : {A : Type 0} (found : Option A) → LeavesOpen (ok_or found NoSuchRecord)
+named_open None = opens refl refl
+named_open (Some one) = opens refl refl
 
 -- the rows by another tariff
 pub what_if_open : (terms : Terms) (found : Option Period) → LeavesOpen (what_if_answer terms found)

@@ -8,6 +8,7 @@ ghost use Rattle.book_model.specs.Words.{HasDay, rule_outcome, ruling_asked};
 ghost use Rattle.book_model.specs.Words.{ShowsDispute, dispute_outcome, what_if_outcome};
 ghost use Rattle.book_model.specs.Words.{ShowsDetail, next_detail_outcome};
 ghost use Rattle.book_model.specs.Words.{IsTrail, trail_outcome, trail_shown};
+ghost use Rattle.book_model.specs.Words.{IsUsage, record_outcome};
 ghost use Rattle.book_core.specs.Ledgers.{StopIsHarmless, Seen};
 ghost use Rattle.book_core.specs.Calls.{IsCall};
 ghost use Rattle.book_core.specs.Submissions.{Takes, records_in};
@@ -161,6 +162,13 @@ pub trait Ledger {
             (seen self.old) (seen self.new) result
             (ruling_outcome (seen self.old).naming number) }
         ensures shown { IfOk result ShowsDays };
+
+    /// The record that is held under a name, and nothing else of it: one look where its trail
+    /// takes many. Refused: `NoSuchRecord`.
+    fn record_named(&mut self, alloc: Global, name: &[u8; 32]) -> Result<Vec<u8>, LedgerFault>
+        ensures bytes { IsCall (λ bytes. bytes.items) (seen self.old) (seen self.new) result
+            (record_outcome (seen self.old).naming name.now) }
+        ensures usage { IfOk result (λ bytes. IsUsage bytes.items) };
 
     /// The trail of the record that is held under a name: how its price came about, the other
     /// records of its identity and the choices among them, and what each period did with it.

@@ -7,7 +7,8 @@ use Rattle.book_model.specs.declared.fault.LedgerFault.TheVariants.{Store}
 use Rattle.book_model.specs.Words.{accept_answer, Book, new_book, dispute_shown}
 use Rattle.book_model.specs.Words.{book_after, Outcome, accept_outcome, charges_outcome}
 use Rattle.book_model.specs.Words.{adjustments_outcome, disputes_outcome, periods_outcome, Naming}
-use Rattle.book_model.specs.Words.{dispute_outcome, next_detail_outcome, ruling_outcome}
+use Rattle.book_model.specs.Words.{dispute_outcome, next_detail_outcome, record_outcome}
+use Rattle.book_model.specs.Words.{ruling_outcome}
 use Rattle.book_model.specs.Words.{ruling_shown, trail_outcome, trail_shown, what_if_outcome}
 use Rattle.book_core.specs.Words.{Calls, listed, Seen, IsOpenAt, Accepts, Takes, first_of}
 use Rattle.book_core.specs.Words.{IsTransition, MakesAnswered}
@@ -27,8 +28,8 @@ use Rattle.book_laws.specs.Calls.{Call, Request, RunRequests, AcceptRecord, Read
 use Rattle.book_laws.specs.Calls.{AcceptRecords, ChooseEach, MakeRuling, HttpDetails, HttpRequest}
 use Rattle.book_laws.specs.Calls.{ReadAdjustments}
 use Rattle.book_laws.specs.Calls.{ReadDisputes, ReadPeriods, ReadChargesUnder, ReadDetail}
-use Rattle.book_laws.specs.Calls.{ReadDispute, ReadRuling, ReadTrail, Step, AreDone, calls_of}
-use Rattle.book_laws.specs.Calls.{ledger_after_calls, work_of, works_of}
+use Rattle.book_laws.specs.Calls.{ReadDispute, ReadRecord, ReadRuling, ReadTrail, Step, AreDone}
+use Rattle.book_laws.specs.Calls.{calls_of, ledger_after_calls, work_of, works_of}
 use Rattle.book_laws.proofs.Words.{LedgerFault, after_all-append, work_leaves}
 
 -- what is read makes none
@@ -102,6 +103,9 @@ call_answered naming (ReadPeriods answer) =
 call_answered naming (ReadRuling number answer) =
     readings_answered naming (λ found. option_map ruling_shown found) (ruling_outcome naming number)
     answer (λ book. refl)
+call_answered naming (ReadRecord name answer) =
+    readings_answered naming (λ bytes. bytes.items) (record_outcome naming name) answer
+    (λ book. refl)
 call_answered naming (ReadTrail name answer) =
     readings_answered naming trail_shown (trail_outcome naming name) answer (λ book. refl)
 

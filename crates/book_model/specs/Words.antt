@@ -79,8 +79,9 @@ pub use Rattle.book_model.specs.Outcomes.{adjustments_outcome, adopt_outcome}
 pub use Rattle.book_model.specs.Outcomes.{charges_outcome, choose_outcome}
 pub use Rattle.book_model.specs.Outcomes.{close_outcome, dispute_outcome}
 pub use Rattle.book_model.specs.Outcomes.{disputes_outcome, if_done}
-pub use Rattle.book_model.specs.Outcomes.{periods_outcome, no_event, ruled_as, ruling_outcome}
-pub use Rattle.book_model.specs.Outcomes.{rule_outcome, tariff_outcome, what_if_outcome}
+pub use Rattle.book_model.specs.Outcomes.{periods_outcome, no_event, record_outcome, ruled_as}
+pub use Rattle.book_model.specs.Outcomes.{rule_outcome, ruling_outcome, tariff_outcome}
+pub use Rattle.book_model.specs.Outcomes.{what_if_outcome}
 pub use Rattle.book_model.specs.OtherPrices.{costs_under, rows_if_room, what_if_answer}
 pub use Rattle.book_model.specs.Details.{by_detail, comes_after, detail_by, detail_of, detail_with}
 pub use Rattle.book_model.specs.Details.{details_asked, is_asked}

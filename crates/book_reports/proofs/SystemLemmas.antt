@@ -1,14 +1,13 @@
 -- The records of a period with their systems: two calls of a ledger for each, which show one book.
 use Rattle.std.proofs.Common.{◌≡◌, ◌∙◌, ℕ, List, refl, sym, ap, Option, Some, None, Result, Ok, Err}
-use Rattle.std.proofs.Common.{ok_or, option_and_then, option_map, IsErrAnd}
+use Rattle.std.proofs.Common.{Global, IsErrAnd, Vec, ok_or, option_map}
 use Rattle.smf_frames.specs.Header.{header_of}
 use Rattle.book_model.specs.declared.fault.LedgerFault.TheVariants.{Reopen, Store}
-use Rattle.book_model.specs.Words.{record_named, TrailSeen, reckoning_in, trail_by, trail_of, Book}
-use Rattle.book_model.specs.Words.{Naming, next_detail_outcome, no_event, trail_outcome}
-use Rattle.book_model.specs.Words.{trail_shown, Reckoning}
+use Rattle.book_model.specs.Words.{Book, Naming, next_detail_outcome, no_event, record_named}
+use Rattle.book_model.specs.Words.{record_outcome}
 use Rattle.book_core.specs.Words.{IsCall, Seen}
-use Rattle.book_reports.proofs.Words.{Detail, LedgerFault, Memory, NoSuchRecord, Trail}
-use Rattle.book_reports.proofs.Words.{SystemDetail, shown_by, IsAlike, Tells, by_names, call_failed}
+use Rattle.book_reports.proofs.Words.{Detail, LedgerFault, Memory, NoSuchRecord, SystemDetail}
+use Rattle.book_reports.proofs.Words.{shown_by, IsAlike, Tells, by_names, call_failed}
 use Rattle.book_reports.proofs.Words.{read_as, answers, both_shown, refused_next, shown, same_value}
 use Rattle.book_reports.proofs.Words.{next_on_system}
 use Rattle.book_reports.specs.SystemDetails.{IsSystemBy, detail_in, hindrance, on_system}
@@ -16,19 +15,11 @@ use Rattle.book_reports.specs.SystemDetails.{system_found, system_named, system_
 
 -- ---- the system of a record
 
--- a trail is of the record that is held under the name
-system_told : (naming : Naming) (book : Book) (held : Option (List ℕ)) (seen : TrailSeen)
-    → ok_or (option_and_then (trail_of naming book) held) NoSuchRecord ≡ Ok seen
-    → system_found held ≡ (header_of seen.bytes).system
-system_told naming book None seen told = cc
-system_told naming book (Some bytes) seen told = by (reckoning_in book.rulings bytes) told
-  where
-    by : (reckoning : Option Reckoning)
-        → ok_or (option_map (trail_by naming book bytes) reckoning) NoSuchRecord ≡ Ok seen
-        → (header_of bytes).system ≡ (header_of seen.bytes).system
-    by None told = cc
-    by (Some reckoning) told =
-        ap (λ (seen : TrailSeen). (header_of seen.bytes).system) (same_value told)
+-- the record that was answered is the one that is held
+system_told : (held : Option (List ℕ)) (bytes : List ℕ) → ok_or held NoSuchRecord ≡ Ok bytes
+    → system_found held ≡ (header_of bytes).system
+system_told None bytes told = cc
+system_told (Some one) bytes told = ap (λ bytes. (header_of bytes).system) (same_value told)
 
 -- a hindrance reopens a ledger where the fault does
 hindrance_alike : {V U : Type 0} (fault : LedgerFault)
@@ -46,17 +37,17 @@ hindrance_tells Store answer = tt
 hindrance_tells Reopen answer = tt
 hindrance_tells fault answer = tt
 
--- so the system that a trail shows is that of the record of the name
-pub system_read : {old new : Seen} (name : List ℕ) (answer : Result Trail LedgerFault)
+-- so its system is that of the record of the name
+pub system_read : {old new : Seen} (name : List ℕ) (answer : Result (Vec ℕ Global) LedgerFault)
     (result : Result (List ℕ) LedgerFault)
-    → IsCall trail_shown old new answer (trail_outcome old.naming name)
+    → IsCall (λ (bytes : Vec ℕ Global). bytes.items) old new answer
+    (record_outcome old.naming name)
     → IsSystemBy answer result
     → IsCall (λ system. system) old new result (system_outcome old.naming name)
-system_read {old} {new} name (Ok trail) result call is =
+system_read {old} {new} name (Ok bytes) result call is =
     rw is
     (read_as (λ book. refl) (λ book. refl) (record { reopen = refl; store = refl })
-    (λ book told. ap Ok
-    (system_told old.naming book (record_named old.naming book.held name) (trail_shown trail) told))
+    (λ book told. ap Ok (system_told (record_named old.naming book.held name) bytes.items told))
     call)
 system_read {old} {new} name (Err fault) result call is =
     rw is

@@ -1,12 +1,12 @@
--- The records that a period counts, each with the system that wrote it: a detail, and then what its
--- trail says of the record.
+-- The records that a period counts, each with the system that wrote it: a detail, and then the
+-- record that is held under its name.
 use Rattle.std.specs.Prelude.{◌≡◌, ℕ, List, [], map, Option, None, Some, Result, Ok, Err}
-use Rattle.std.specs.Prelude.{option_map, MatchResult}
+use Rattle.std.specs.Prelude.{option_map, MatchResult, Vec}
+use Rattle.std.specs.Global.{Global}
 use Rattle.smf_frames.specs.Header.{header_of}
 use Rattle.book_model.specs.declared.detail.Detail.{Detail}
 use Rattle.book_model.specs.declared.fault.LedgerFault.{LedgerFault}
 use Rattle.book_model.specs.declared.fault.LedgerFault.TheVariants.{Memory, Reopen, Store}
-use Rattle.book_model.specs.declared.trail.Trail.{Trail}
 use Rattle.book_model.specs.Words.{record_named, Book, Naming, Outcome, details_outcome}
 use Rattle.book_model.specs.Words.{next_detail_outcome, no_event}
 use Rattle.coverage_texts.specs.declared.coverage_rows.SystemDetail.{SystemDetail}
@@ -52,8 +52,8 @@ hindrance Store = Store
 hindrance Reopen = Reopen
 hindrance fault = Memory
 
--- the system that a trail shows, or what hindered it
-abbrev pub IsSystemBy : Result Trail LedgerFault → Result (List ℕ) LedgerFault → Type 0
+-- the system of a record that was asked for, or what hindered it
+abbrev pub IsSystemBy : Result (Vec ℕ Global) LedgerFault → Result (List ℕ) LedgerFault → Type 0
 IsSystemBy answer result =
-    MatchResult answer (λ trail. result ≡ Ok (header_of trail.bytes.items).system)
+    MatchResult answer (λ bytes. result ≡ Ok (header_of bytes.items).system)
     (λ fault. result ≡ Err (hindrance fault))

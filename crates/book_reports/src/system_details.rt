@@ -2,11 +2,11 @@
 
 ghost use Rattle.std.specs.Prelude.{◌≡◌, IfOk, IfSome};
 ghost use Rattle.smf_frames.specs.Header.{header_of};
-ghost use Rattle.book_model.specs.Words.{IsDay, IsTrail, IsUsage, trail_shown, no_event};
+ghost use Rattle.book_model.specs.Words.{IsDay, IsUsage, no_event};
 ghost use Rattle.book_core.specs.Words.{IsCall};
 ghost use Rattle.book_reports.specs.SystemDetails as spec;
 
-use book_core::{Detail, Ledger, LedgerFault, Trail};
+use book_core::{Detail, Ledger, LedgerFault};
 use book_lists::Cursor;
 use coverage_texts::SystemDetail;
 use smf_frames::Header;
@@ -36,18 +36,18 @@ fn hindrance(fault: LedgerFault) -> LedgerFault
     match fault {
         LedgerFault::Store => LedgerFault::Store,
         LedgerFault::Reopen => LedgerFault::Reopen,
-        // A record that is counted is held under its name: no sound book refuses its trail.
+        // A record that is counted is held under its name: no sound book refuses it.
         _ => LedgerFault::Memory,
     }
 }
 
-/// The system that a trail shows.
-fn system_by(answer: Result<Trail, LedgerFault>) -> Result<[u8; 4], LedgerFault>
-    requires { IfOk answer (λ trail. IsTrail (trail_shown trail)) }
+/// The system of a record that was asked for.
+fn system_by(answer: Result<Vec<u8>, LedgerFault>) -> Result<[u8; 4], LedgerFault>
+    requires { IfOk answer (λ bytes. IsUsage bytes.items) }
     ensures { spec.IsSystemBy answer result }
 {
     match answer {
-        Ok(trail) => Ok(system_in(&trail.bytes)),
+        Ok(bytes) => Ok(system_in(&bytes)),
         Err(fault) => Err(hindrance(fault)),
     }
 }
@@ -61,7 +61,7 @@ fn system_named<L: Ledger>(
     ensures { IsCall (λ system. system) (L.seen ledger.old) (L.seen ledger.new) result
         (spec.system_outcome (L.seen ledger.old).naming name.now) }
 {
-    system_by(ledger.trail_of(alloc, name))
+    system_by(ledger.record_named(alloc, name))
 }
 
 /// The detail of the last record that was read.

@@ -10,15 +10,13 @@ use Rattle.book_model.specs.declared.dispute.Variant.{Variant}
 use Rattle.book_model.specs.declared.fault.LedgerFault.TheVariants.{NoSuchRecord}
 use Rattle.book_model.specs.Words.{Reckoning, Book, Choice, IsDay, Naming, TrailSeen, by_bytes}
 use Rattle.book_model.specs.Words.{choice_named, choices_among, day_of, identity_by, life_of}
-use Rattle.book_model.specs.Words.{period_on, reckoning_in, record_named, share_identity, trail_by}
+use Rattle.book_model.specs.Words.{period_on, reckoning_in, share_identity, trail_by}
 use Rattle.book_model.specs.Words.{trail_of, trail_outcome}
 use Rattle.book_model.proofs.Lemmas.{filter-map}
 use Rattle.plain_ledger.specs.declared.chosen.ChosenRecord.{ChosenRecord}
 use Rattle.plain_ledger.specs.declared.treatment.ClosedPeriod.{ClosedPeriod}
 use Rattle.plain_ledger.specs.declared.held.HeldRecord.{HeldRecord}
-use Rattle.book_core.specs.Words.{LeavesOpen}
 use Rattle.book_core.specs.declared.rulings.Rulings.{Rulings as OfficeRulings}
-use Rattle.book_core.proofs.OpenAnswers.{opens}
 use Rattle.plain_ledger.specs.Choices.{choice_of, is_of}
 use Rattle.plain_ledger.specs.Plain.{AreBooked, Entry, entry_has_identity, record_of, ruled_by}
 use Rattle.plain_ledger.specs.Plain.{variant_at}
@@ -122,13 +120,3 @@ module _ {naming : Naming} (ruled : OfficeRulings) (choices : List ChosenRecord)
         ap (λ one. ok_or (option_and_then (trail_of naming book) one) NoSuchRecord)
         (named-found kept rising name held found)
         ∙ (λ i. ok_or (option_map (λ reckoning. trail-held reckoning i) (sym is i)) NoSuchRecord)
-
--- no trail is a fault of a store
-pub trail_open : (naming : Naming) (book : Book) (name : List ℕ)
-    → LeavesOpen (trail_outcome naming name book).answer
-trail_open naming book name =
-    by_trail (option_and_then (trail_of naming book) (record_named naming book.held name))
-  where
-    by_trail : (found : Option TrailSeen) → LeavesOpen (ok_or found NoSuchRecord)
-    by_trail None = opens refl refl
-    by_trail (Some trail) = opens refl refl

@@ -159,6 +159,10 @@ impl<N: Naming + Drop> Ledger for PlainLedger<N> {
         self.ruling_listed(number)
     }
 
+    fn record_named(&mut self, alloc: Global, name: &[u8; 32]) -> Result<Vec<u8>, LedgerFault> {
+        self.record_held(alloc, name)
+    }
+
     fn trail_of(&mut self, alloc: Global, name: &[u8; 32]) -> Result<Trail, LedgerFault> {
         self.trail_held(alloc, name)
     }

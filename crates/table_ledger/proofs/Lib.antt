@@ -52,5 +52,6 @@ mod RulingReads
 mod TraceLemmas
 mod ChosenOrder
 mod TrailTries
+mod RecordTries
 mod GivenUp
 mod LooksRefused

@@ -13,6 +13,7 @@ use crate::details::try_next_detail;
 use crate::disputes::{try_dispute, try_disputes};
 use crate::finish::finish;
 use crate::listed_rulings::try_ruling;
+use crate::named_records::try_record;
 use crate::other_prices::try_charges_under;
 use crate::periods::try_periods;
 use crate::rulings::try_rule;
@@ -179,6 +180,14 @@ impl<S: Store, N: Naming + Drop> Ledger for TableLedger<S, N> {
             return Err(LedgerFault::Reopen);
         }
         let tried = try_ruling(&mut self.tables, &self.summary, self.alloc, number);
+        finish(&mut self.tables, &mut self.must_reopen, tried)
+    }
+
+    fn record_named(&mut self, alloc: Global, name: &[u8; 32]) -> Result<Vec<u8>, LedgerFault> {
+        if self.must_reopen {
+            return Err(LedgerFault::Reopen);
+        }
+        let tried = try_record(&mut self.tables, &self.summary, alloc, name);
         finish(&mut self.tables, &mut self.must_reopen, tried)
     }
 

@@ -22,6 +22,7 @@ mod ledger;
 mod listed_rulings;
 mod load;
 mod many;
+mod named_records;
 mod other_prices;
 mod periods;
 mod repricing;

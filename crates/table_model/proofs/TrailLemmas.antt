@@ -1,4 +1,4 @@
--- The trail of a record is answered from the tables.
+-- A record by its name, and its trail, are answered from the tables.
 use Rattle.std.proofs.Common.{◌≡◌, ◌∙◌, ℕ, List, map, refl, sym, ap, true, true≢false, Bool, Option}
 use Rattle.std.proofs.Common.{None, Some, is_some, filter, ok_or, option_and_then, option_map}
 use Rattle.book_model.proofs.Std.{get, nat_list_eq_equiv, All-weaker, map-map}
@@ -12,7 +12,8 @@ use Rattle.book_model.proofs.Lemmas.{filter-agree, filter-map, named_held}
 use Rattle.book_core.proofs.NamedLemmas.{is_some-named, its_name}
 use Rattle.table_model.specs.Words.{ChoiceRow, RecordRow, Tables, choice_row, tables_of}
 use Rattle.table_model.specs.Words.{name_has_identity, IsReadable, choices_with, NamedRow}
-use Rattle.table_model.specs.ListLaws.{TrailsFollow}
+use Rattle.table_model.specs.Words.{row_record}
+use Rattle.table_model.specs.ListLaws.{RecordsFollow, TrailsFollow}
 use Rattle.table_model.specs.TrailRead.{row_choice, trail_at, trail_row}
 use Rattle.table_model.proofs.CostLemmas.{day-price}
 use Rattle.table_model.proofs.DueLemmas.{its_identity}
@@ -117,7 +118,22 @@ module _ (naming : Naming) (book : Book) (whole : IsReadable naming book) where
           ∙ (λ i. no_event (ok_or (option_map (λ (reckoning : Reckoning). trail_is reckoning i)
           (reckoning_in book.rulings (framed i))) NoSuchRecord))
 
--- the law
+-- the law of records
+pub records_follow : RecordsFollow
+records_follow naming book name whole = by_row (get (tables_of naming book).records name) refl
+  where
+    by_row : (found : Option RecordRow) → get (tables_of naming book).records name ≡ found
+        → record_named naming book.held name ≡ option_map row_record found
+    by_row None none = unnamed naming book whole name none
+    by_row (Some row) some =
+        every_row naming book whole.sound
+        (λ entry. record_named naming book.held entry.0 ≡ Some (row_record entry.1))
+        (λ bytes priced there price.
+        named_itself naming book whole.sound bytes there
+        ∙ ap Some (whole.lines.framed bytes there).is)
+        name row some
+
+-- the law of trails
 pub trails_follow : TrailsFollow
 trails_follow naming book name whole = by_row (get (tables_of naming book).records name) refl
   where

@@ -2,12 +2,13 @@
 -- what the tables say, and can be shown.
 use Rattle.std.specs.Prelude.{◌≡◌, ◌+◌, ◌≤◌, ℕ, filter, map, List, [], ◌∷◌, ◌++◌, Ok, Some, length}
 use Rattle.std.specs.Prelude.{Option, slice_get, true, IsPermutation, option_map}
+use Rattle.std.specs.FinMap.{get}
 use Rattle.book_model.specs.Std.{entries, values, IsStrictlySortedBy}
 use Rattle.book_model.specs.declared.detail.Detail.{Detail}
 use Rattle.book_model.specs.Words.{details_outcome, next_detail_outcome, Book, charges_outcome}
 use Rattle.book_model.specs.Words.{adjustments_outcome, disputes_outcome, periods_outcome, no_event}
 use Rattle.book_model.specs.Words.{Naming, AreDisputes, AreLines, AreRows, Period, Terms, by_bytes}
-use Rattle.book_model.specs.Words.{choice_seen, dispute_outcome, most_held, period_of}
+use Rattle.book_model.specs.Words.{choice_seen, dispute_outcome, most_held, period_of, record_named}
 use Rattle.book_model.specs.Words.{ruling_outcome, set_of, trail_outcome, what_if_outcome}
 use Rattle.table_model.specs.TablesOf.{tables_of}
 use Rattle.table_model.specs.DisputesRead.{FindsDisputed, NamedRow, by_identity, dispute_with}
@@ -110,6 +111,13 @@ pub record DetailsFollow : Type 0 where
       → FindsLeast (is_sought number centre last book.rulings) (tables_of naming book) found
       → next_detail_outcome naming number centre last book
       ≡ no_event (of_period number book.rulings found)
+
+-- The record that is held under a name, by the row of the name.
+abbrev pub RecordsFollow : Type 0
+RecordsFollow =
+    (naming : Naming) (book : Book) (name : List ℕ) → IsReadable naming book
+    → record_named naming book.held name
+    ≡ option_map row_record (get (tables_of naming book).records name)
 
 -- The trail of the record of a name: its row, the rows of its identity, the choices that name one
 -- of these, and its life by its own lines alone.

@@ -6,7 +6,7 @@ ghost use Rattle.table_model.specs.AnswerLaws.{NumbersFit, TermsFollow};
 ghost use Rattle.table_model.specs.AnswerLaws.{TwoAreEnough, ViewIsDetermined};
 ghost use Rattle.table_model.specs.ReadingLaws.{BookFollows, CallsRead, CallsStay, TablesDetermine};
 ghost use Rattle.table_model.specs.ListLaws.{CountedFollows, DetailsFollow, DisputesFollow};
-ghost use Rattle.table_model.specs.ListLaws.{ListsFollow, ListsShow, TrailsFollow};
+ghost use Rattle.table_model.specs.ListLaws.{ListsFollow, ListsShow, RecordsFollow, TrailsFollow};
 
 /// New books are made by calls, and each call that is an event leaves such books.
 pub fn calls_stay()
@@ -82,6 +82,11 @@ pub fn details_follow()
 /// groups.
 pub fn disputes_follow()
     ensures { DisputesFollow }
+{}
+
+/// The record that is held under a name is answered by the row of the name.
+pub fn records_follow()
+    ensures { RecordsFollow }
 {}
 
 /// The trail of a record is answered by its row, by the rows of its identity and the choices that

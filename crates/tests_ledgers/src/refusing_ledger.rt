@@ -147,6 +147,13 @@ impl<L: Ledger> Ledger for RefusingLedger<'_, L> {
         self.inner.ruling(number)
     }
 
+    fn record_named(&mut self, alloc: Global, name: &[u8; 32]) -> Result<Vec<u8>, LedgerFault> {
+        if is_due(&mut self.calls_left) {
+            return Err(refusal(&mut *self.inner));
+        }
+        self.inner.record_named(alloc, name)
+    }
+
     fn trail_of(&mut self, alloc: Global, name: &[u8; 32]) -> Result<Trail, LedgerFault> {
         if is_due(&mut self.calls_left) {
             return Err(refusal(&mut *self.inner));

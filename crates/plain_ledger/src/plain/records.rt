@@ -1,4 +1,4 @@
-//! Records that are submitted to a plain ledger.
+//! Records that are submitted to a plain ledger, and one that is asked for by its name.
 
 ghost use Rattle.std.specs.Prelude.{◌≡◌, Ok, Err, if◌then◌else◌};
 ghost use Rattle.book_model.specs.Words.{same_bytes};
@@ -9,6 +9,7 @@ use crate::held::HeldRecord;
 use book_core::{is_full, name_of, price_in};
 use book_model::{Accepted, LedgerFault, Naming};
 use smf_type30::Type30;
+use std::alloc::Global;
 
 /// What is answered to a record with a name that one has that is held.
 fn known_or_clash(held: &HeldRecord, bytes: &[u8]) -> Result<Accepted, LedgerFault>
@@ -23,9 +24,10 @@ fn known_or_clash(held: &HeldRecord, bytes: &[u8]) -> Result<Accepted, LedgerFau
 }
 
 impl<N: Naming + Drop> PlainLedger<N> {
-    ghost use Rattle.std.specs.Prelude.{◌≡◌};
-    ghost use Rattle.book_model.specs.Words.{identity_of, IsUsageRecord, accept_outcome};
-    ghost use Rattle.plain_ledger.specs.PlainBook.{IsPlainCall, naming_in};
+    ghost use Rattle.std.specs.Prelude.{◌≡◌, IfOk};
+    ghost use Rattle.book_model.specs.Words.{Answers, identity_of, IsUsage, IsUsageRecord};
+    ghost use Rattle.book_model.specs.Words.{accept_outcome, record_outcome};
+    ghost use Rattle.plain_ledger.specs.PlainBook.{IsPlainCall, book_in, naming_in};
 
     /// Holds a record from now on where it is new, a tariff is in force on its day, and there is
     /// room for it.
@@ -68,5 +70,18 @@ impl<N: Naming + Drop> PlainLedger<N> {
         self.cache.remember(identity, record);
         self.total += amount;
         Ok(Accepted::Kept)
+    }
+
+    /// The record that is held under a name.
+    pub(super) fn record_held(&self, alloc: Global, name: &[u8; 32]) -> Result<Vec<u8>, LedgerFault>
+        ensures bytes { Answers (λ bytes. bytes.items) result (record_outcome
+            (N.name_of (naming_in self.now)) name.now (book_in self.now)).answer }
+        ensures usage { IfOk result (λ bytes. IsUsage bytes.items) }
+    {
+        let Some(held) = self.held.get(name) else {
+            return Err(LedgerFault::NoSuchRecord);
+        };
+        let bytes = Vec::from_slice(alloc, &held.bytes)?;
+        Ok(bytes)
     }
 }
