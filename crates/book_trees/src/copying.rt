@@ -104,13 +104,14 @@ fn copy_fault(error: &io::Error) -> OpenFault
 }
 
 /// Copies two files over those at a path, whatever these held, and looks through all pages of the
-/// copy. `T` stands for what the files at the path held. The two that are copied are only read.
-/// What the copy shows is what they hold, where no disk lied.
+/// copy, of which it keeps so many in memory. `T` stands for what the files at the path held. The two
+/// that are copied are only read. What the copy shows is what they hold, where no disk lied.
 pub fn copy_to<D: Disk, T: Start>(
     rt: &HostRuntime,
     from: &mut Files<D>,
     path: &str,
     seed: u64,
+    pages: usize,
     held: T,
 ) -> Result<FileStore<BookFile<T>>, (LookFault, Option<Files<BookFile<T>>>)>
     requires log { IsTrue (D.Disk.is_usable from.old.log) }
@@ -144,7 +145,11 @@ pub fn copy_to<D: Disk, T: Start>(
         Ok(()) => {}
         Err(error) => return Err((LookFault::Open(copy_fault(&error)), Some(files))),
     }
-    match look_through(rt.alloc(), files, Options::new(seed)) {
+    let options = Options {
+        cache_pages: pages,
+        ..Options::new(seed)
+    };
+    match look_through(rt.alloc(), files, options) {
         Ok(store) => Ok(store),
         Err((fault, files)) => Err((fault, Some(files))),
     }
