@@ -50,7 +50,7 @@ fn answer_of(kind: BodyKind, told: Result<office::Answer, LedgerFault>) -> Answe
 }
 
 /// Answers a report, as a body of this kind.
-fn answer_report<L: Ledger>(
+pub fn answer_report<L: Ledger>(
     alloc: Global,
     ledger: &mut L,
     report: Report,
