@@ -1,10 +1,11 @@
 //! Clients of a script, and what goes over their connections.
 
-ghost use Rattle.std.specs.Prelude.{length};
+ghost use Rattle.std.specs.Prelude.{◌≡◌, ◌<◌, ◌+◌, length};
 
 use book_http::Routes;
 use chargectl::{Attended, Connections, Peer, answer_peer};
 use named_books::Repository;
+use request_bursts::Nobody;
 use std::alloc::Global;
 use std::cell::{Cell, RefCell};
 use std::io;
@@ -103,6 +104,8 @@ impl Peer for ScriptedPeer<'_, '_> {
 
     fn hurry(&self) {}
 
+    fn finish(&self) {}
+
     fn drain(mut self) -> Self {
         self.read_rest();
         self.client.is_drained.set(true);
@@ -116,6 +119,21 @@ impl Peer for ScriptedPeer<'_, '_> {
 pub(crate) struct Queue<'c, 'a> {
     pub(crate) left: &'c [Client<'a>],
     pub(crate) routes: Routes,
+}
+
+impl<'c, 'a> Queue<'c, 'a> {
+    /// Takes the next one.
+    fn take(&mut self) -> &'c Client<'a>
+        requires { 0 < length self.old.left.now }
+        ensures { length self.new.left.now + 1 ≡ length self.old.left.now }
+    {
+        let left = self.left;
+        let [client, later @ ..] = left else {
+            unreachable!()
+        };
+        self.left = later;
+        client
+    }
 }
 
 impl Connections for Queue<'_, '_> {
@@ -134,16 +152,12 @@ impl Connections for Queue<'_, '_> {
     }
 
     fn next<S: Repository>(&mut self, repository: &mut S, book: &str) -> io::Result<Attended> {
-        let left = self.left;
-        let [client, later @ ..] = left else {
-            unreachable!()
-        };
-        self.left = later;
+        let client = self.take();
         let peer = ScriptedPeer {
             client,
             is_drained: false,
         };
-        let (attended, _) = answer_peer(&mut self.routes, peer, repository, book);
+        let (attended, _, _) = answer_peer(&mut self.routes, peer, Nobody, repository, book);
         Ok(attended)
     }
 }
