@@ -2,10 +2,11 @@
 
 ghost use Rattle.std.specs.Prelude.{◌≡◌, ◌<◌, ◌+◌, length};
 
-use book_http::Routes;
+use book_core::Ledger;
+use book_http::{Routes, Served};
 use chargectl::{Attended, Connections, Peer, answer_peer};
 use named_books::Repository;
-use request_bursts::Nobody;
+use request_bursts::{Arrivals, answer_seen};
 use std::alloc::Global;
 use std::cell::{Cell, RefCell};
 use std::io;
@@ -19,6 +20,8 @@ const DRAINING_READS: u32 = 1_000;
 /// A client: what it still sends, what it took of its answer, and whether it was drained.
 #[derive(Drop)]
 pub(crate) struct Client<'a> {
+    /// What is there while the books are open for the one before it.
+    soon: &'a [u8],
     reader: RefCell<LimitedReader<'a>>,
     writer: RefCell<LimitedWriter>,
     is_drained: Cell<bool>,
@@ -28,8 +31,11 @@ impl<'a> Client<'a> {
     /// It has sent nothing yet.
     pub(crate) fn new(alloc: Global, scripted: &'a ScriptedClient) -> Client<'a> {
         let connection = scripted.connection;
+        let request = scripted.request.as_slice();
+        let soon = request.len().min(connection.soon);
         Client {
-            reader: RefCell::new(connection.reader(&scripted.request)),
+            soon: &request[..soon],
+            reader: RefCell::new(connection.reader(request)),
             writer: RefCell::new(LimitedWriter::new(alloc, connection.writes)),
             is_drained: Cell::new(false),
         }
@@ -114,6 +120,40 @@ impl Peer for ScriptedPeer<'_, '_> {
     }
 }
 
+/// Clients that may come while the books are open for another, the next one first.
+#[derive(Drop)]
+struct Soon<'c, 'a> {
+    left: &'c [Client<'a>],
+}
+
+impl Arrivals for Soon<'_, '_> {
+    ghost left = { λ soon. length soon.left.now };
+
+    fn is_over(&self) -> bool {
+        self.left.is_empty()
+    }
+
+    fn next_open<L: Ledger>(&mut self, routes: &mut Routes, books: &mut L) -> Option<Served> {
+        let left = self.left;
+        let [client, later @ ..] = left else {
+            unreachable!()
+        };
+        let peer = ScriptedPeer {
+            client,
+            is_drained: false,
+        };
+        let (told, peer) = answer_seen(routes, client.soon, peer, books);
+        match told {
+            Some(what) => {
+                self.left = later;
+                peer.drain();
+                Some(what)
+            }
+            None => None,
+        }
+    }
+}
+
 /// Clients that are left, the next one first.
 #[derive(Drop)]
 pub(crate) struct Queue<'c, 'a> {
@@ -157,7 +197,9 @@ impl Connections for Queue<'_, '_> {
             client,
             is_drained: false,
         };
-        let (attended, _, _) = answer_peer(&mut self.routes, peer, Nobody, repository, book);
+        let soon = Soon { left: self.left };
+        let (attended, _, soon) = answer_peer(&mut self.routes, peer, soon, repository, book);
+        self.left = soon.left;
         Ok(attended)
     }
 }

@@ -1,4 +1,4 @@
-use Rattle.std.proofs.Common.{◌≡◌, ◌+◌, arith, length}
+use Rattle.std.proofs.Common.{◌+◌, arith, length}
 use Rattle.chargectl.specs.ClientRequests.{later_of}
 use Rattle.chargectl.proofs.ServingLemmas.{any_together, told_count}
 use Rattle.tests_books.proofs.client.QueueConnections.next.Goals as goal
@@ -6,7 +6,7 @@ use Rattle.tests_books.proofs.client.QueueConnections.next.Goals as goal
 pub returns-clause-left : goal.returns-clause-left
 returns-clause-left g c =
     let came = c.answer_peer-attended in
-    let count : 0 + length (later_of came.result.0) ≡ 0 = came.ensures.count in
+    let count = came.ensures.count in
     let long = told_count came.result.0 in
     omega (arith, count, long, c.take-client.ensures)
 
