@@ -21,10 +21,7 @@ pub const READ: usize = 1_048_576;
 
 /// Asks a source once for as many bytes as there is room for. Returns how many came, one or more; or
 /// none if the reader failed or has come to its end, which the source shows.
-pub(crate) fn read_into<R: Reader + Drop>(
-    source: &mut Source<R>,
-    piece: &mut [u8],
-) -> Option<usize>
+pub(crate) fn read_into<R: Reader + Drop>(source: &mut Source<R>, piece: &mut [u8]) -> Option<usize>
     requires room { 0 < length piece.old }
     requires asked { reads_of source.old < 2 ^ 63 }
     requires failed { has_failed source.old ≡ false }

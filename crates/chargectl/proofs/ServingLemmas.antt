@@ -198,12 +198,12 @@ came_then {S} {C} shelf sent may_come book first middle last old between new bef
     earlier)
 came_then shelf sent may_come book first middle last old between new before (what ∷ told) earlier
     (from, place, together, came, served) = (
-  from,
-  place,
-  came_then shelf sent may_come book first middle from old between place before told earlier together,
-  came,
-  served,
-)
+      from,
+      place,
+      came_then shelf sent may_come book first middle from old between place before told earlier together,
+      came,
+      served,
+    )
 
 -- lines of some, and then of others
 lines_then : (told before : List Served)
@@ -271,7 +271,7 @@ pub alone_together : {S C : Type 0} (shelf : S → Shelf) (sent : C → Option (
     → CameTogether shelf sent may_come book first last old new (told_of attended)
 alone_together shelf sent may_come book first last old new attended it none came =
     let same = subst (λ (later : List Served). ServesBehind shelf book it.between new later) none
-        it.behind in
+    it.behind in
     subst (λ (later : List Served). CameTogether shelf sent may_come book first last old new
     (later ++ attended.served ∷ [])) (sym none) (
       first,

@@ -128,8 +128,14 @@ impl Connections for Port<'_> {
             left: self.left,
             waiting: self.waiting.taken(),
         };
-        let (attended, soon) =
-            answer_stream(self.rt, &mut self.routes, &stream, soon, repository, book);
+        let (attended, soon) = answer_stream(
+            self.rt,
+            &mut self.routes,
+            &stream,
+            soon,
+            repository,
+            book,
+        );
         let Arriving { left, waiting } = soon;
         self.left = left;
         self.waiting = waiting;
@@ -191,8 +197,14 @@ pub fn answer_peer<P: Peer + Drop, C: Arrivals + Drop, S: Repository>(
     ensures drained { is_answered result.0.served ≡ true → P.is_drained result.1 ≡ true }
 {
     let mut source = Source::new(peer);
-    let (attended, peer, arrivals) =
-        serve_request(routes, &mut source, peer, arrivals, repository, book);
+    let (attended, peer, arrivals) = serve_request(
+        routes,
+        &mut source,
+        peer,
+        arrivals,
+        repository,
+        book,
+    );
     match attended.served {
         Served::Answered(_) => (attended, peer.drain(), arrivals),
         _ => (attended, peer, arrivals),

@@ -112,7 +112,10 @@ impl<'a> Waiting<'a> {
     /// whole, and what was seen of it is read. One that was not answered is the next one.
     pub(crate) fn put_by(&mut self, seen: Seen, is_answered: bool) {
         let Seen {
-            stream, mut bytes, count, ..
+            stream,
+            mut bytes,
+            count,
+            ..
         } = seen;
         if !is_answered {
             self.next = Some(stream);

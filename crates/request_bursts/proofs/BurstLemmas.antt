@@ -40,7 +40,7 @@ pub asks_report : {R : Type 0} {answers : _} {bytes : _} {remaining : R → Opti
     → remaining (reader_of last) ≡ Some rest → AskReport sent report kind
 asks_report {remaining = remaining} first last sent rest report kind read it is unended had left =
     let gave = subst (λ (read : Result WholeRequest Unanswered).
-        IsReadAs (has_ended last) read (bytes_read it.reads)) is it.gave in
+    IsReadAs (has_ended last) read (bytes_read it.reads)) is it.gave in
     record {
       taken = bytes_read it.reads;
       rest = rest;
@@ -121,9 +121,9 @@ one_answers naming sent held holds what was before events is it =
     let bytes = it.asks.taken ++ [] in
     let none = report_none naming report kind it.due was before events is it.answer in
     let unfailed = was_open kind (report_outcome naming report) it.due was before events is it.answer
-        it.short.text in
+    it.short.text in
     let made = bytes_answered naming bytes (WantsReport report kind) it.due (it.asks.asks []) was before
-        events is it.answer in
+    events is it.answer in
     record {
       none = none;
       due = record {
