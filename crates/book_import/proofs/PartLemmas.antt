@@ -24,13 +24,14 @@ something_left [] told is = absurd (true≢false (sym told ∙ is))
 something_left (byte ∷ left) told is = omega arith
 
 -- no more is left than there was
-pub no_longer : {n : ℕ} {rest later : List ℕ} → later ≡ drop n rest → length later ≤ length rest
-no_longer {n} {rest} is = omega (arith, ap length is, length-drop n rest)
+pub no_longer : (n : ℕ) (rest : List ℕ) {later : List ℕ} → later ≡ drop n rest
+    → length later ≤ length rest
+no_longer n rest is = omega (arith, ap length is, length-drop n rest)
 
 -- what was taken of a part was there
-pub part_within : {n : ℕ} (most : ℕ) {rest part : List ℕ} → part ≡ take most rest → n ≤ length part
-    → n ≤ length rest
-part_within most {rest = rest} part_is within =
+pub part_within : {n : ℕ} (most : ℕ) (rest : List ℕ) {part : List ℕ} → part ≡ take most rest
+    → n ≤ length part → n ≤ length rest
+part_within most rest part_is within =
     omega (arith, within, ap length part_is, length-take most rest)
 
 -- so far in a piece, of whose rest this part is fed
@@ -80,7 +81,7 @@ module _ (most : ℕ) {old joiner : Joining} {piece rest part : List ℕ} {Done 
   part_shorter {n = n} fed one_is later_is stood =
       let moves : 0 < n = fed.moves (stood.0 ++ goes.seen) (goes.stands stood.0 stood.1) goes.none
       (sym (ap (λ s. is_some s) one_is)) in
-      let within : n ≤ length rest = part_within most part_is fed.within in
+      let within : n ≤ length rest = part_within most rest part_is fed.within in
       omega (arith, moves, within, ap length later_is, length-drop n rest)
 
   -- more was done with a record that the part completes, which is then dropped
@@ -156,10 +157,12 @@ module _ (most : ℕ) {old joiner : Joining} {piece rest part : List ℕ} {Done 
     upto = text ++ (goes.seen ++ part)
 
     whole_is : upto ++ drop most rest ≡ text ++ piece
+    unfolding upto
     whole_is = append_assoc text (goes.seen ++ part) (drop most rest) ∙ ap (λ b. text ++ b) piece_is
 
     -- nothing after the fault is a record
     none_after : (front old.layout (text ++ piece)).records ≡ (front old.layout upto).records
+    unfolding upto
     none_after =
         ap (λ b. (front old.layout b).records) (sym whole_is)
         ∙ ap (λ (f : Front). f.records) (breaks in_part fed text (drop most rest) stood)
@@ -167,6 +170,7 @@ module _ (most : ℕ) {old joiner : Joining} {piece rest part : List ℕ} {Done 
     -- it breaks the front of the piece, whatever bytes follow that,
     pub part_breaks : (more : List ℕ) → front old.layout ((text ++ piece) ++ more)
         ≡ broken_by (front old.layout (text ++ piece)).records fault
+    unfolding upto
     part_breaks more =
         ap (λ b. front old.layout b)
         (ap (λ b. b ++ more) (sym whole_is) ∙ append_assoc upto (drop most rest) more)
@@ -176,6 +180,7 @@ module _ (most : ℕ) {old joiner : Joining} {piece rest part : List ℕ} {Done 
     -- and this was done up to the records of the piece
     pub part_broken_done : Done (front old.layout text).records
         (front old.layout (text ++ piece)).records
+    unfolding upto
     part_broken_done =
         subst (Done (front old.layout text).records) (sym none_after)
         (broken_done in_part fed text stood)

@@ -7,7 +7,7 @@ use Rattle.book_import.proofs.PartLemmas.{part_shorter, part_within, passed_shor
 use Rattle.book_import.proofs.gathering.gather.Goals as goal
 
 pub split_at-requires : goal.split_at-requires
-split_at-requires c = part_within piece_length c.next_part.ensures.first c.in-Ok.ensures.within
+split_at-requires c = part_within piece_length _ c.next_part.ensures.first c.in-Ok.ensures.within
 
 pub returns-in-Err-clause-gathers : goal.returns-in-Err-clause-gathers
 returns-in-Err-clause-gathers c = λ text stood.
@@ -43,13 +43,13 @@ add-requires c = record {
       (c.loop-fault.invariant.goes.stands _ c.requires.stands.1));
 }
 
-pub loop-fault-smaller-in_ok-add : goal.loop-fault-smaller-in_ok-add
-loop-fault-smaller-in_ok-add c =
+pub loop-fault-smaller-in-Some : goal.loop-fault-smaller-in-Some
+loop-fault-smaller-in-Some c =
     part_shorter piece_length c.loop-fault.invariant.goes c.next_part.ensures.first c.in-Ok.ensures
     c.in-Some.ensures.exact c.split_at.ensures.back c.requires.stands
 
-pub loop-fault-preserved-in_ok-add : goal.loop-fault-preserved-in_ok-add
-loop-fault-preserved-in_ok-add c =
+pub loop-fault-preserved-in-Some : goal.loop-fault-preserved-in-Some
+loop-fault-preserved-in-Some c =
     let goes = c.loop-fault.invariant.goes in
     let less = part_shorter piece_length goes c.next_part.ensures.first c.in-Ok.ensures
     c.in-Some.ensures.exact c.split_at.ensures.back c.requires.stands in
@@ -72,5 +72,5 @@ loop-fault-preserved c = record {
   goes = part_passed piece_length c.loop-fault.invariant.goes c.next_part.ensures.first
       c.in-Ok.ensures c.in_default.ensures.exact c.split_at.ensures.back;
   whole = c.loop-fault.invariant.whole;
-  few = omega (arith, c.loop-fault.invariant.few, no_longer c.split_at.ensures.back);
+  few = omega (arith, c.loop-fault.invariant.few, no_longer c.in-Ok.taken c.loop-fault.rest.now c.split_at.ensures.back);
 }
