@@ -21,20 +21,20 @@ returns-in_default-clause-booked g c =
     no_room (g.L.Ledger.seen c.args.ledger.now) g.most c.args.layout c.args.reads
     (cut_of c.args.source.now)
     (input g.R.Read.remaining c.args.source.now c.args.source.now) c.stopped.result c.stopped.ensures
-    refl refl c.requires.failed c.requires.ended
+    refl refl c.requires.1.1.1.0 c.requires.1.1.1.1.0
 
 pub read_into-requires-clause-room : goal.read_into-requires-clause-room
 read_into-requires-clause-room g c =
-    subst (λ (n : ℕ). 0 < n) (sym c.loop.invariant.room) c.requires.some
+    subst (λ (n : ℕ). 0 < n) (sym c.loop.invariant.room) c.requires.1.1.1.1.1.1.1.0
 
 pub loop-init : goal.loop-init
 loop-init g c =
     let seen = g.L.Ledger.seen c.args.ledger.now in
     record {
-      room = c.requires.room;
+      room = c.requires.1.1.1.1.1.1.0;
       asked = omega arith;
-      failed = c.requires.failed;
-      ended = c.requires.ended;
+      failed = c.requires.1.1.1.0;
+      ended = c.requires.1.1.1.1.0;
       few = subst (λ (receipt : Receipt). counted receipt ≤ 0) (sym c.stopped-receipt.ensures)
           (lit≤ tt);
       joins = (
@@ -128,7 +128,7 @@ loop-preserved g c =
       few = omega (
         arith,
         room,
-        c.requires.few,
+        c.requires.1.1.1.1.1.1.1.1,
         c.loop.invariant.few,
         c.in_default-import_piece.ensures.counted,
         c.in-Some.ensures.came.1,
