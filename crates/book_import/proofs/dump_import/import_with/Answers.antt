@@ -5,7 +5,7 @@ use Rattle.std.specs.Io.KnownBytes.{Consumes}
 use Rattle.std.proofs.KnownBytes.{Consumes-trans, Consumes-nil}
 use Rattle.streams.specs.Sources.{reader_of}
 use Rattle.streams.specs.InputOutput.{input}
-use Rattle.book_model.specs.Words.{Front, front}
+use Rattle.book_model.specs.Words.{Front}
 use Rattle.book_import.specs.declared.receipt.Receipt.{Receipt}
 use Rattle.book_import.specs.ReadLimits.{cut_of}
 use Rattle.book_import.specs.Receipts.{counted}
