@@ -21,20 +21,20 @@ returns-in_default-clause-booked g c =
     no_room (g.L.Ledger.seen c.args.ledger.now) g.most c.args.layout c.args.reads
     (cut_of c.args.source.now)
     (input g.R.Read.remaining c.args.source.now c.args.source.now) c.stopped.result c.stopped.ensures
-    refl refl c.requires.1.1.1.0 c.requires.1.1.1.1.0
+    refl refl (search rules) (search rules)
 
 pub read_into-requires-clause-room : goal.read_into-requires-clause-room
 read_into-requires-clause-room g c =
-    subst (λ (n : ℕ). 0 < n) (sym c.loop.invariant.room) c.requires.1.1.1.1.1.1.1.0
+    subst (λ (n : ℕ). 0 < n) (sym c.loop.invariant.room) (search rules)
 
 pub loop-init : goal.loop-init
 loop-init g c =
     let seen = g.L.Ledger.seen c.args.ledger.now in
     record {
-      room = c.requires.1.1.1.1.1.1.0;
+      room = search rules;
       asked = omega arith;
-      failed = c.requires.1.1.1.0;
-      ended = c.requires.1.1.1.1.0;
+      failed = search rules;
+      ended = search rules;
       few = subst (λ (receipt : Receipt). counted receipt ≤ 0) (sym c.stopped-receipt.ensures)
           (lit≤ tt);
       joins = (
@@ -128,7 +128,7 @@ loop-preserved g c =
       few = omega (
         arith,
         room,
-        c.requires.1.1.1.1.1.1.1.1,
+        c.requires,
         c.loop.invariant.few,
         c.in_default-import_piece.ensures.counted,
         c.in-Some.ensures.came.1,
