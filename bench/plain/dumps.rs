@@ -29,8 +29,8 @@ pub enum FrameFault {
     Truncated,
 }
 
-/// How many bytes a read asks for.
-const PIECE: usize = 65_536;
+/// How many bytes a read asks for, where no other number is given.
+pub const PIECE: usize = 65_536;
 
 /// Counts the reads of a reader.
 struct Counted<R> {
@@ -59,7 +59,11 @@ pub struct Dump<R> {
 
 impl<R: Read> Dump<R> {
     pub fn new(layout: Layout, input: R) -> Dump<R> {
-        let input = BufReader::with_capacity(PIECE, Counted { inner: input, reads: 0 });
+        Dump::by_reads_of(PIECE, layout, input)
+    }
+
+    pub fn by_reads_of(bytes: usize, layout: Layout, input: R) -> Dump<R> {
+        let input = BufReader::with_capacity(bytes, Counted { inner: input, reads: 0 });
         Dump { layout, input, left: None, is_begun: false, record: Vec::with_capacity(LONGEST_RECORD) }
     }
 

@@ -5,9 +5,10 @@
 //! thing is done differently, and no text shows it: chargectl keeps each record by its name, the SHA-256 of
 //! its data. Here a record is known by the data itself, and only those of a dispute list are named.
 //!
-//! Built with `--cfg books`, `plain import BOOK FILE CPU EXCP RECORD` keeps books in a file, by SQLite's own
-//! library, `plain tariff BOOK FILE` puts a tariff in force there, `plain adopt BOOK` adopts the second rule of
-//! identity, `plain statement BOOK PERIOD --tariff FILE` prints what a period would be charged by that tariff,
+//! Built with `--cfg books`, `plain import BOOK FILE CPU EXCP RECORD [BYTES]` keeps books in a file, by SQLite's own
+//! library, with a commit for each read of so many bytes, `plain tariff BOOK FILE` puts a tariff in force there,
+//! `plain adopt BOOK` adopts the second rule of identity, `plain statement BOOK PERIOD` prints the statement of a closed
+//! period, and with `--tariff FILE` what a period would be charged by that tariff,
 //! `plain details BOOK PERIOD` prints the details of a period, `plain upgrade BOOK` brings books of form 0 over,
 //! `plain audit BOOK` reads books a second time, and `plain serve BOOK PORT REQUESTS CPU EXCP RECORD` answers for them over
 //! HTTP.
@@ -38,6 +39,8 @@ mod texts;
 mod whatif;
 
 use books::{Books, Rates, import};
+#[cfg(books)]
+use dumps::PIECE;
 use dumps::{Dump, Layout, Stop};
 use std::fs::File;
 use std::io::{BufWriter, Write};
@@ -76,8 +79,8 @@ fn trial(layout: Layout, rates: &Rates) -> io::Result<Stop> {
 }
 
 #[cfg(books)]
-fn import_into(book: &str, file: &str, rates: &Rates) -> io::Result<Stop> {
-    let mut dump = Dump::new(Layout::Rdw, File::open(file)?);
+fn import_into(book: &str, file: &str, rates: &Rates, bytes: usize) -> io::Result<Stop> {
+    let mut dump = Dump::by_reads_of(bytes, Layout::Rdw, File::open(file)?);
     let db = filed::open(book);
     let mut filed = filed::Filed::over(&db);
     let (receipt, stop) = filed.import(&mut dump, rates)?;
@@ -109,6 +112,16 @@ fn adopt(book: &str) -> ExitCode {
     db.close();
     println!("{answer}");
     ExitCode::SUCCESS
+}
+
+/// Prints the statement of a closed period.
+#[cfg(books)]
+fn statement(book: &str, period: i64) -> io::Result<ExitCode> {
+    let db = filed::open(book);
+    let text = served::closed_statement(&db, period)?;
+    db.close();
+    io::stdout().write_all(&text)?;
+    Ok(ExitCode::SUCCESS)
 }
 
 /// Prints what a period would be charged by the tariff of a file.
@@ -178,7 +191,12 @@ fn main() -> ExitCode {
         }
         #[cfg(books)]
         ["import", book, file, cpu, excp, record] => {
-            import_into(book, file, &Rates { cpu: rate(cpu), excp: rate(excp), record: rate(record) })
+            import_into(book, file, &Rates { cpu: rate(cpu), excp: rate(excp), record: rate(record) }, PIECE)
+        }
+        #[cfg(books)]
+        ["import", book, file, cpu, excp, record, bytes] => {
+            let bytes = bytes.parse().expect("a number of bytes");
+            import_into(book, file, &Rates { cpu: rate(cpu), excp: rate(excp), record: rate(record) }, bytes)
         }
         #[cfg(books)]
         ["tariff", book, file] => return put_in_force(book, file).unwrap_or(ExitCode::FAILURE),
@@ -192,6 +210,11 @@ fn main() -> ExitCode {
         ["details", book, period] => {
             let period = period.parse().expect("a period is a number");
             return details(book, period).unwrap_or(ExitCode::FAILURE);
+        }
+        #[cfg(books)]
+        ["statement", book, period] => {
+            let period = period.parse().expect("a period is a number");
+            return statement(book, period).unwrap_or(ExitCode::FAILURE);
         }
         #[cfg(books)]
         ["statement", book, period, "--tariff", file] => {

@@ -3,7 +3,7 @@
 use crate::books::{Rates, Sums};
 use crate::dumps::{Dump, Layout};
 use crate::filed::{self, Filed};
-use crate::sqlite::Database;
+use crate::sqlite::{Database, Value};
 use crate::texts::{date_text, write_heading, write_receipt, write_row};
 use std::io;
 use std::io::{Read, Write};
@@ -39,15 +39,16 @@ fn read_body(stream: &mut TcpStream, head: &str, mut body: Vec<u8>) -> io::Resul
     Ok(body)
 }
 
-fn statement(db: &Database) -> io::Result<Vec<u8>> {
-    let rows = db.prepare("SELECT day, centre, shift, count, cpu, blocks, amount FROM day_sum WHERE period = 1 ORDER BY 1, 2, 3");
-    let rows = rows.query(&[], |row| {
+/// The statement of a period, which is open or closed.
+fn statement(db: &Database, period: i64, state: &str) -> io::Result<Vec<u8>> {
+    let rows = db.prepare("SELECT day, centre, shift, count, cpu, blocks, amount FROM day_sum WHERE period = ?1 ORDER BY 1, 2, 3");
+    let rows = rows.query(&[Value::Int(period)], |row| {
         let text = |at| String::from_utf8_lossy(&row.bytes(at)).into_owned();
         let number = |at| row.int(at) as u64;
         (number(0), text(1), text(2), Sums { count: number(3), cpu: number(4), blocks: number(5), amount: number(6) })
     });
     let (mut out, mut total) = (Vec::new(), Sums::default());
-    writeln!(out, "STATEMENT PERIOD 1 OPEN")?;
+    writeln!(out, "STATEMENT PERIOD {period} {state}")?;
     write_heading(&mut out)?;
     for (day, centre, shift, sums) in &rows {
         write_row(&mut out, &date_text(*day), centre, shift, sums)?;
@@ -57,10 +58,17 @@ fn statement(db: &Database) -> io::Result<Vec<u8>> {
     Ok(out)
 }
 
+/// The statement of a closed period, in books that chargectl made.
+pub fn closed_statement(db: &Database, period: i64) -> io::Result<Vec<u8>> {
+    let closed = db.prepare("SELECT through FROM closed WHERE period = ?1");
+    let through = closed.query(&[Value::Int(period)], |row| row.int(0))[0];
+    statement(db, period, &format!("CLOSED THROUGH {}", date_text(through as u64)))
+}
+
 fn answer(stream: &mut TcpStream, db: &Database, rates: &Rates) -> io::Result<()> {
     let (head, behind) = read_head(stream)?;
     let body = if head.starts_with("GET /statement/1 ") {
-        statement(db)?
+        statement(db, 1, "OPEN")?
     } else {
         let dump = read_body(stream, &head, behind)?;
         let (receipt, stop) = Filed::over(db).import(&mut Dump::new(Layout::Rdw, &dump[..]), rates)?;

@@ -7,11 +7,12 @@ ghost use Rattle.book_sessions.specs.Sessions.{AreHonest, AreOpened, TriesToMove
 ghost use Rattle.book_restarts.specs.FileBooks.{file_names};
 
 use crate::copied::{Copied, CopyFault, copy_fault};
+use crate::kept_pages::pages_for;
 use book_sessions::{Ended, refused};
 use book_trees::{copy_to, lock_at};
 use named_books::Visit;
 use sqlite_disk::{Disk, Start};
-use sqlite_std_file::FileFrom;
+use synced_disk::BookFile;
 
 /// Copies the books in the file at a path over the file at another, looks through the copy, opens
 /// and visits the books in it, and closes it. `S` and `T` stand for what the two files hold. Where no
@@ -25,13 +26,13 @@ pub fn visit_copy_at<S: Start, T: Start, V: Visit>(
     held: T,
     seed: u64,
     visit: &mut V,
-) -> Copied<V::Answer, FileFrom<S>, FileFrom<T>>
+) -> Copied<V::Answer, BookFile<S>, BookFile<T>>
     ensures visited { IfOk result.answer (λ answer.
-        AreHonest ⟦<FileFrom<S> as Disk>⟧ result.original → IsCopyOf ⟦<FileFrom<T> as Disk>⟧
+        AreHonest ⟦<BookFile<S> as Disk>⟧ result.original → IsCopyOf ⟦<BookFile<T> as Disk>⟧
         (V.Visit.work file_names visit.old visit.new answer) (image_at S.Start) result.copy) }
     ensures moves { TriesToMoveLog result.copy }
     ensures original { IfSome result.original
-        (WereOnlyRead ⟦<FileFrom<S> as Disk>⟧ (image_at S.Start)) }
+        (WereOnlyRead ⟦<BookFile<S> as Disk>⟧ (image_at S.Start)) }
     ensures in_hand { IsOk result.answer → IsSome result.original }
     ensures copied { IsOk result.answer → AreOpened result.copy }
     ensures came { MatchResult result.answer (V.Visit.comes visit.old visit.new)
@@ -39,8 +40,8 @@ pub fn visit_copy_at<S: Start, T: Start, V: Visit>(
 
     // That there are no books, or that pages are wrong, is told only of files that hold none of this
     // form, or not their row.
-    ensures refused { IfErr result.answer (WhyNotCopied ⟦<FileFrom<S> as Disk>⟧
-        ⟦<FileFrom<T> as Disk>⟧ (image_at S.Start) result.original result.copy) }
+    ensures refused { IfErr result.answer (WhyNotCopied ⟦<BookFile<S> as Disk>⟧
+        ⟦<BookFile<T> as Disk>⟧ (image_at S.Start) result.original result.copy) }
 {
     let mut files = match lock_at(rt, path, start) {
         Ok(files) => files,
@@ -52,7 +53,8 @@ pub fn visit_copy_at<S: Start, T: Start, V: Visit>(
             };
         }
     };
-    match copy_to(rt, &mut files, copy, seed, held) {
+    let pages = pages_for(visit.is_brief());
+    match copy_to(rt, &mut files, copy, seed, pages, held) {
         Ok(store) => {
             let (answer, ended) = book_sessions::visit(rt.alloc(), Ok(store), visit);
             Copied {

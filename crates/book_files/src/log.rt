@@ -6,7 +6,7 @@ ghost use Rattle.book_trees.specs.LedgerFiles.{shortest_log};
 ghost use Rattle.book_files.specs.Logs.{IsOfNoUse};
 
 use crate::faults::of_file;
-use crate::paths::{beside, is_there, may_be_books, sync_folder};
+use crate::paths::{beside, is_there, may_be_books, open_folder, sync_folder};
 use crate::seen_logs::is_of_no_use;
 use book_sessions::refused;
 use book_trees::{lock_at, needs_no_log};
@@ -29,10 +29,9 @@ pub(crate) struct Log<'a> {
 
 impl<'a> Log<'a> {
     /// The log of a file that is there. It lies beside the file to which a link leads. Opening
-    /// makes it, and then syncs the names in the folder to the disk: a folder that refuses this
-    /// refuses it here, before there is a log that would stay. Where one is there already another
-    /// program may be at work, which such a sync would hold up each time it is asked. Where the
-    /// log's name is that of a file of books nothing is opened, since they would be taken for it.
+    /// makes it, and then opens the folder to sync the names in it to the disk: a folder that can't
+    /// be opened refuses it here, before there is a log that would stay. Where the log's name is
+    /// that of a file of books nothing is opened, since they would be taken for it.
     pub(crate) fn of(
         rt: &'a HostRuntime,
         book: &str,
@@ -44,7 +43,7 @@ impl<'a> Log<'a> {
         let path = of_file(beside(rt, real.as_str(), "wal"))?;
         let was_there = is_there(rt, path.as_str())?;
         if !was_there {
-            sync_folder(rt, book)?;
+            open_folder(rt, book)?;
         } else if may_be_books(rt, path.as_str())? {
             return Err(RepositoryFault::Exists);
         }

@@ -64,9 +64,14 @@ pub(crate) fn create(rt: &HostRuntime, path: &str) -> Result<(), RepositoryFault
     }
 }
 
-/// Syncs the names in the folder of a file to the disk.
-pub(crate) fn sync_folder(rt: &HostRuntime, path: &str) -> Result<(), RepositoryFault> {
+/// Opens the folder of a file.
+pub(crate) fn open_folder(rt: &HostRuntime, path: &str) -> Result<File, RepositoryFault> {
     let mut folder = of_file(fs::canonicalize(rt, path))?;
     folder.pop();
-    of_file(of_file(File::open(rt, folder.as_str()))?.sync_all())
+    of_file(File::open(rt, folder.as_str()))
+}
+
+/// Syncs the names in the folder of a file to the disk.
+pub(crate) fn sync_folder(rt: &HostRuntime, path: &str) -> Result<(), RepositoryFault> {
+    of_file(open_folder(rt, path)?.sync_all())
 }

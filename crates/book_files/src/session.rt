@@ -18,7 +18,7 @@ use book_sessions::Ended;
 use book_trees::{CACHE_PAGES, LeftByLedger, create_at, look_through_at, open_at, open_first_at};
 use named_books::{RepositoryFault, Upgraded, Visit};
 use sqlite_disk::{Disk, Start};
-use sqlite_std_file::FileFrom;
+use synced_disk::BookFile;
 
 /// Opens the file at the path, visits its books, and closes it. `S` stands for what the files hold:
 /// each call has one of its own. Whatever may be found of them next, and wherever a stop comes
@@ -29,11 +29,11 @@ pub fn visit_at<S: LeftByLedger, V: Visit>(
     seed: u64,
     start: S,
     visit: &mut V,
-) -> (Result<V::Answer, RepositoryFault>, Ended<FileFrom<S>>)
-    ensures visited { AreVisited ⟦<FileFrom<S> as Disk>⟧
+) -> (Result<V::Answer, RepositoryFault>, Ended<BookFile<S>>)
+    ensures visited { AreVisited ⟦<BookFile<S> as Disk>⟧
         (V.Visit.work file_names visit.old visit.new) (image_at S.Start) result.0 result.1 }
     ensures moves { TriesToMoveLog result.1 }
-    ensures only { OpenOnly ⟦<FileFrom<S> as Disk>⟧ (ListsBooks (image_at S.Start)) result.1 }
+    ensures only { OpenOnly ⟦<BookFile<S> as Disk>⟧ (ListsBooks (image_at S.Start)) result.1 }
     ensures came { MatchResult result.0 (V.Visit.comes visit.old visit.new)
         (λ _. visit.new ≡ visit.old) }
 {
@@ -48,11 +48,11 @@ pub fn make_at<S: Start>(
     path: &str,
     seed: u64,
     start: S,
-) -> (Result<(), RepositoryFault>, Ended<FileFrom<S>>)
-    ensures made { AreMade ⟦<FileFrom<S> as Disk>⟧ (image_at S.Start) result.0 result.1 }
+) -> (Result<(), RepositoryFault>, Ended<BookFile<S>>)
+    ensures made { AreMade ⟦<BookFile<S> as Disk>⟧ (image_at S.Start) result.0 result.1 }
     ensures in_hand { IsOk result.0 → AreOpened result.1 }
     ensures moves { TriesToMoveLog result.1 }
-    ensures only { OpenOnly ⟦<FileFrom<S> as Disk>⟧ (HoldsNothing (image_at S.Start)) result.1 }
+    ensures only { OpenOnly ⟦<BookFile<S> as Disk>⟧ (HoldsNothing (image_at S.Start)) result.1 }
 {
     let opened = create_at(rt, path, seed, start);
     book_sessions::make(rt.alloc(), opened)
@@ -65,11 +65,11 @@ pub fn resume_at<S: LeftByLedger>(
     path: &str,
     seed: u64,
     start: S,
-) -> (Result<(), RepositoryFault>, Ended<FileFrom<S>>)
-    ensures continued { AreContinued ⟦<FileFrom<S> as Disk>⟧ (image_at S.Start) result.0 result.1 }
+) -> (Result<(), RepositoryFault>, Ended<BookFile<S>>)
+    ensures continued { AreContinued ⟦<BookFile<S> as Disk>⟧ (image_at S.Start) result.0 result.1 }
     ensures in_hand { IsOk result.0 → AreOpened result.1 }
     ensures moves { TriesToMoveLog result.1 }
-    ensures only { OpenOnly ⟦<FileFrom<S> as Disk>⟧ (ListsBooks (image_at S.Start)) result.1 }
+    ensures only { OpenOnly ⟦<BookFile<S> as Disk>⟧ (ListsBooks (image_at S.Start)) result.1 }
 {
     let opened = open_at(rt, path, seed, CACHE_PAGES, start);
     book_sessions::resume(rt.alloc(), opened)
@@ -82,10 +82,10 @@ pub fn audit_at<S: Start, W: Watch>(
     seed: u64,
     start: S,
     watch: &mut W,
-) -> (Result<Audited, RepositoryFault>, Ended<FileFrom<S>>)
-    ensures audited { AreAudited ⟦<FileFrom<S> as Disk>⟧ (image_at S.Start) result.0 result.1 }
+) -> (Result<Audited, RepositoryFault>, Ended<BookFile<S>>)
+    ensures audited { AreAudited ⟦<BookFile<S> as Disk>⟧ (image_at S.Start) result.0 result.1 }
     ensures log { KeepsLog result.1 }
-    ensures only { OpenOnly ⟦<FileFrom<S> as Disk>⟧ (HoldsBooks (image_at S.Start)) result.1 }
+    ensures only { OpenOnly ⟦<BookFile<S> as Disk>⟧ (HoldsBooks (image_at S.Start)) result.1 }
 {
     let opened = look_through_at(rt, path, seed, start);
     book_sessions::audit(rt.alloc(), opened, watch)
@@ -97,10 +97,10 @@ pub fn upgrade_at<S: Start>(
     path: &str,
     seed: u64,
     start: S,
-) -> (Result<Upgraded, RepositoryFault>, Ended<FileFrom<S>>)
-    ensures upgraded { AreUpgraded ⟦<FileFrom<S> as Disk>⟧ (image_at S.Start) result.0 result.1 }
+) -> (Result<Upgraded, RepositoryFault>, Ended<BookFile<S>>)
+    ensures upgraded { AreUpgraded ⟦<BookFile<S> as Disk>⟧ (image_at S.Start) result.0 result.1 }
     ensures moves { TriesToMoveLog result.1 }
-    ensures only { OpenOnly ⟦<FileFrom<S> as Disk>⟧ (HoldsFirstBooks (image_at S.Start))
+    ensures only { OpenOnly ⟦<BookFile<S> as Disk>⟧ (HoldsFirstBooks (image_at S.Start))
         result.1 }
     ensures told { IfOk result.0 TellsThisForm }
 {

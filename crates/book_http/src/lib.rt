@@ -28,7 +28,7 @@ pub use asked::Asked;
 pub use laws::{
     answers_are_one, request_twice_is_once, requests_are_mended, requests_make_history,
 };
-pub use office_answers::ask_office;
+pub use office_answers::{answer_report, ask_office};
 pub use requested::read_request;
 pub use routes::Routes;
 pub use sending::{send, send_details};

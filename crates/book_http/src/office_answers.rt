@@ -50,7 +50,12 @@ fn answer_of(kind: BodyKind, told: Result<office::Answer, LedgerFault>) -> Answe
 }
 
 /// Answers a report, as a body of this kind.
-fn answer_report<L: Ledger>(alloc: Global, ledger: &mut L, report: Report, kind: BodyKind) -> Answer
+pub fn answer_report<L: Ledger>(
+    alloc: Global,
+    ledger: &mut L,
+    report: Report,
+    kind: BodyKind,
+) -> Answer
     ensures { IsTransition (L.seen ledger.old) (L.seen ledger.new)
         (AnswersReport (L.seen ledger.old).naming report kind (reply_of result)) }
 {

@@ -1,5 +1,5 @@
 -- Records that are submitted to the books one after another.
-use Rattle.std.proofs.Common.{◌≡◌, ◌∙◌, ℕ, ◌+◌, Bool, false, ◌||◌, List, [], ◌∷◌, ◌++◌}
+use Rattle.std.proofs.Common.{◌≡◌, ◌∙◌, ℕ, Bool, false, ◌||◌, List, [], ◌∷◌, ◌++◌}
 use Rattle.std.proofs.Common.{length, take, refl, sym, ap, subst, Ok}
 use Rattle.std.proofs.Common.{Option, None, Some, append_assoc, append-nil}
 use Rattle.std.proofs.lemmas.List.{take_at}

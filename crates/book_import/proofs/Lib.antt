@@ -6,6 +6,7 @@ pub mod ImportLemmas
 pub mod StopLemmas
 pub mod PieceLemmas
 pub mod FeedLemmas
+pub mod PartLemmas
 pub mod GatheringLemmas
 pub mod GroupLemmas
 pub mod GroupWork

@@ -1,5 +1,5 @@
 -- Records that are submitted to the books as the pieces of a dump complete them.
-use Rattle.std.proofs.Common.{◌≡◌, ◌∙◌, ℕ, ◌+◌, List, ◌++◌, refl, sym, ap, subst, append_assoc}
+use Rattle.std.proofs.Common.{◌≡◌, ◌∙◌, ℕ, List, ◌++◌, refl, sym, ap, subst, append_assoc}
 use Rattle.book_model.specs.Words.{Naming, after_all}
 use Rattle.book_core.specs.Transition.{Transition, NoEvent, Then}
 use Rattle.book_core.proofs.TransitionLemmas.{Implies, after_all-append}

@@ -1,25 +1,28 @@
 -- What an import has done with the records of a dump that it reads in pieces.
 use Rattle.std.proofs.Common.{◌≡◌, ◌∙◌, ℕ, List, [], ◌++◌, sym, ap, subst, Option, Some, None}
-use Rattle.std.proofs.Common.{append-nil, append_assoc, take, drop, arith, length, ◌≤◌}
+use Rattle.std.proofs.Common.{append-nil, append_assoc, take, drop, arith, length, ◌≤◌, false}
 use Rattle.std.proofs.lemmas.List.{take-append-drop}
 use Rattle.std.specs.Prelude.{unwrap_or}
 use Rattle.smf_frames.specs.declared.dump.Layout.{Layout}
+use Rattle.streams.specs.InputOutput.{Input}
 use Rattle.book_model.specs.Words.{Front, front, Joining, HasTaken, nothing_joined}
 use Rattle.book_model.specs.Words.{nothing_found, Naming}
+use Rattle.book_model.specs.declared.fault.LedgerFault.TheVariants.{Memory}
 use Rattle.book_core.specs.Ledgers.{Seen}
 use Rattle.book_core.specs.Transition.{Transition, IsTransition}
 use Rattle.book_core.proofs.TransitionLemmas.{no_work, work_then, work_as}
 use Rattle.book_import.specs.declared.receipt.Receipt.{Receipt}
 use Rattle.book_import.specs.declared.receipt.Stop.{Stop}
-use Rattle.book_import.specs.declared.receipt.Stop.TheVariants.{End}
+use Rattle.book_import.specs.declared.receipt.Stop.TheVariants.{End, Ledger}
 use Rattle.book_import.specs.Dumps.{stop_after, frame_stop}
-use Rattle.book_import.specs.ReadLimits.{piece_length}
-use Rattle.book_import.specs.Receipts.{counted, receipt_stopped}
-use Rattle.book_import.specs.Imports.{BooksInPieces, Imports}
+use Rattle.book_import.specs.ReadLimits.{read_length}
+use Rattle.book_import.specs.Receipts.{counted, receipt_stopped, is_stop_of_books}
+use Rattle.book_import.specs.Imports.{BooksInPieces, BooksInput, Imports}
 use Rattle.book_import.specs.Pieces.{LeadsTo, FollowsRecords, StopsAt, BooksPiece, TakesAll}
-use Rattle.book_import.proofs.ImportLemmas.{all_handled, none_yet}
+use Rattle.book_import.proofs.ImportLemmas.{all_handled, none_handled, none_yet}
 use Rattle.book_import.proofs.FeedLemmas.{HasPassed, holds_here, passed_more, stop_is}
 use Rattle.book_import.proofs.PieceLemmas.{behind_done}
+use Rattle.book_import.proofs.ReachLemmas.{read_nothing}
 
 -- the records were handled, leading to this receipt
 abbrev pub LeadsFrom : Seen → Seen → Receipt → List (List ℕ) → Type 0
@@ -140,7 +143,7 @@ module _ (begins now : Seen) (receipt : Receipt) {layout : Layout} {bytes : List
   pub stopped_in_pieces : (next : Seen) (piece more all : List ℕ) (further told : Receipt)
       (stop : Stop) → BooksPiece now next joiner piece receipt further (Some stop)
       → told ≡ record further { stop = stop } → (bytes ++ piece) ++ more ≡ all
-      → length piece ≤ piece_length → length (front layout bytes).records ≤ counted receipt
+      → length piece ≤ read_length → length (front layout bytes).records ≤ counted receipt
       → counted receipt ≤ counted further → BooksInPieces layout all begins next told
   stopped_in_pieces next piece more all further told stop handled so parts few counts here =
       record {
@@ -153,3 +156,18 @@ module _ (begins now : Seen) (receipt : Receipt) {layout : Layout} {bytes : List
             counts here;
         booked = joins_stopped next piece further told stop handled so None;
       }
+
+-- memory ran out before anything was read
+pub no_room : (seen : Seen) (most : ℕ) (layout : Layout) (allowed : ℕ) (cut : Option Stop)
+    (input : Input) (told : Receipt) → told ≡ receipt_stopped (Ledger Memory) → input.new.left ≡ input.old.left
+    → input.new.reads ≡ input.old.reads → input.new.has_failed ≡ false
+    → input.new.has_ended ≡ false → BooksInput most layout allowed seen seen cut input told
+no_room seen most layout allowed cut input told so same asked failed ended =
+    let found = front layout [] in (
+      [],
+      read_nothing most layout allowed told input
+          (ap (λ (one : Receipt). is_stop_of_books one.stop) so) same asked failed ended,
+      work_as seen seen _ (Imports seen.naming layout cut [] told)
+          (none_handled seen.naming (stop_after cut found) found.records told so)
+          (no_work seen),
+    )

@@ -10,7 +10,6 @@ use Rattle.streams.specs.InputOutput.{Input}
 use Rattle.book_model.specs.Words.{Front, front}
 use Rattle.book_import.specs.declared.receipt.Receipt.{Receipt}
 use Rattle.book_import.specs.declared.receipt.Stop.{Stop}
-use Rattle.book_import.specs.ReadLimits.{piece_length}
 use Rattle.book_import.specs.Receipts.{counted, is_stop_of_books}
 use Rattle.book_import.specs.Reach.{is_early_stop, EndsBy, IsNoFurther, IsReadFor}
 
@@ -40,10 +39,10 @@ not_early layout bytes receipt told stop so other whole =
     ap (λ (one : Receipt). is_stop_of_books one.stop || (front layout bytes).is_broken) so
     ∙ ap (λ b. b || (front layout bytes).is_broken) other ∙ whole
 
-module _ (layout : Layout) (AreDone : List (List ℕ) → Type 0) (input : Input) where
+module _ (most : ℕ) (layout : Layout) (AreDone : List (List ℕ) → Type 0) (input : Input) where
   -- nothing was read
   pub nothing_further : AreDone [] → input.new.reads ≡ input.old.reads
-      → IsNoFurther layout [] AreDone input
+      → IsNoFurther most layout [] AreDone input
   nothing_further done asked = record {
     before = [];
     last = [];
@@ -59,7 +58,7 @@ module _ (layout : Layout) (AreDone : List (List ℕ) → Type 0) (input : Input
   pub all_needed : (bytes : List ℕ) → (front layout bytes).is_broken ≡ false
       → AreDone (front layout bytes).records
       → input.new.reads ≤ input.old.reads + length bytes + 1
-      → IsNoFurther layout bytes AreDone input
+      → IsNoFurther most layout bytes AreDone input
   all_needed bytes unbroken done reads = record {
     before = bytes;
     last = [];
@@ -71,12 +70,12 @@ module _ (layout : Layout) (AreDone : List (List ℕ) → Type 0) (input : Input
     done = done;
   }
 
-  -- a piece came last
+  -- some bytes came last
   pub piece_needed : (bytes part : List ℕ) → (front layout bytes).is_broken ≡ false
       → AreDone (front layout bytes).records
-      → input.new.reads ≤ input.old.reads + length bytes + 1 → length part ≤ piece_length
+      → input.new.reads ≤ input.old.reads + length bytes + 1 → length part ≤ most
       → input.new.has_failed ≡ false → input.new.has_ended ≡ false
-      → IsNoFurther layout (bytes ++ part) AreDone input
+      → IsNoFurther most layout (bytes ++ part) AreDone input
   piece_needed bytes part unbroken done reads piece failed ended = record {
     before = bytes;
     last = part;
@@ -90,56 +89,56 @@ module _ (layout : Layout) (AreDone : List (List ℕ) → Type 0) (input : Input
   }
 
 -- nothing was read, because memory had run out
-pub read_nothing : (layout : Layout) (allowed : ℕ) (told : Receipt) (input : Input)
+pub read_nothing : (most : ℕ) (layout : Layout) (allowed : ℕ) (told : Receipt) (input : Input)
     → is_stop_of_books told.stop ≡ true → input.new.left ≡ input.old.left
     → input.new.reads ≡ input.old.reads
     → input.new.has_failed ≡ false → input.new.has_ended ≡ false
-    → IsReadFor layout allowed [] told input
-read_nothing layout allowed told input stopped same asked failed ended = record {
+    → IsReadFor most layout allowed [] told input
+read_nothing most layout allowed told input stopped same asked failed ended = record {
   taken = subst (λ left. Consumes input.old.left left []) (sym same)
       (Consumes-nil input.old.left);
   ends = ends_early (ap (λ b. b || (front layout []).is_broken) stopped) failed ended;
-  no_further = nothing_further layout (λ records. length records ≤ counted told) input
+  no_further = nothing_further most layout (λ records. length records ≤ counted told) input
       (omega arith) asked;
 }
 
 -- No more came: the stop is that of the end, or of what cut the reading short. At least one byte
 -- came with each read but the last.
-pub read_to_end : (layout : Layout) (allowed : ℕ) (bytes : List ℕ) (receipt told : Receipt)
-    (stop : Stop) (input : Input) → told ≡ record receipt { stop = stop }
+pub read_to_end : (most : ℕ) (layout : Layout) (allowed : ℕ) (bytes : List ℕ)
+    (receipt told : Receipt) (stop : Stop) (input : Input) → told ≡ record receipt { stop = stop }
     → is_stop_of_books stop ≡ false → (front layout bytes).is_broken ≡ false
     → length (front layout bytes).records ≤ counted receipt
     → input.new.reads ≤ input.old.reads + length bytes + 1
     → (input.new.has_failed ≡ false → input.new.has_ended ≡ false
     → input.new.reads ≡ input.old.reads + allowed)
-    → Consumes input.old.left input.new.left bytes → IsReadFor layout allowed bytes told input
-read_to_end layout allowed bytes receipt told stop input so other whole all reads out taken =
+    → Consumes input.old.left input.new.left bytes → IsReadFor most layout allowed bytes told input
+read_to_end most layout allowed bytes receipt told stop input so other whole all reads out taken =
     record {
       taken = taken;
       ends = ends_late (not_early layout bytes receipt told stop so other whole) out;
-      no_further = all_needed layout (λ records. length records ≤ counted told) input bytes whole
+      no_further = all_needed most layout (λ records. length records ≤ counted told) input bytes whole
           (subst (λ (one : Receipt). length (front layout bytes).records ≤ counted one) (sym so)
           all) reads;
     }
 
 -- The import was stopped in the piece that came last. At least one byte came with each read before.
-pub read_to_stop : (layout : Layout) (allowed : ℕ) (bytes part : List ℕ)
+pub read_to_stop : (most : ℕ) (layout : Layout) (allowed : ℕ) (bytes part : List ℕ)
     (receipt later told : Receipt) (stop : Stop) (input : Input)
     → told ≡ record later { stop = stop } → (front layout bytes).is_broken ≡ false
     → length (front layout bytes).records ≤ counted receipt
     → (is_early_stop (front layout (bytes ++ part)) stop ≡ true) × (counted receipt ≤ counted later)
-    → length part ≤ piece_length → input.new.reads ≤ input.old.reads + length bytes + 1
+    → length part ≤ most → input.new.reads ≤ input.old.reads + length bytes + 1
     → input.new.has_failed ≡ false → input.new.has_ended ≡ false
     → Consumes input.old.left input.new.left (bytes ++ part)
-    → IsReadFor layout allowed (bytes ++ part) told input
-read_to_stop layout allowed bytes part receipt later told stop input so whole all here piece reads
+    → IsReadFor most layout allowed (bytes ++ part) told input
+read_to_stop most layout allowed bytes part receipt later told stop input so whole all here piece reads
     failed ended taken =
     record {
       taken = taken;
       ends = ends_early
           (ap (λ (one : Receipt). is_early_stop (front layout (bytes ++ part)) one.stop) so ∙ here.0)
           failed ended;
-      no_further = piece_needed layout (λ records. length records ≤ counted told) input bytes part
+      no_further = piece_needed most layout (λ records. length records ≤ counted told) input bytes part
           whole
           (subst (λ (one : Receipt). length (front layout bytes).records ≤ counted one) (sym so)
           (omega (arith, all, here.1))) reads piece failed ended;

@@ -6,7 +6,6 @@ use Rattle.streams.specs.InputOutput.{Input}
 use Rattle.book_model.specs.Words.{Front, front}
 use Rattle.book_import.specs.declared.receipt.Receipt.{Receipt}
 use Rattle.book_import.specs.declared.receipt.Stop.{Stop}
-use Rattle.book_import.specs.ReadLimits.{piece_length}
 use Rattle.book_import.specs.Receipts.{counted, is_stop_of_books}
 
 -- the stop did not wait for the input's end: the books refused, or a descriptor has a fault that no
@@ -24,23 +23,24 @@ pub record EndsBy (allowed : ℕ) (early : Bool) (input : Input) : Type 0 where
 
 -- No read was made once the stop was known. Of the bytes that came, these came before the last
 -- read, one or more for each: they have no fault at a descriptor, and this was done with their
--- records. With the last read came at most a piece; and nothing, if it failed or was the end.
-pub record IsNoFurther (layout : Layout) (bytes : List ℕ) (AreDone : List (List ℕ) → Type 0)
-    (input : Input) : Type 0 where
+-- records. With the last read came at most as many as a read asks for; and nothing, if it failed or
+-- was the end.
+pub record IsNoFurther (most : ℕ) (layout : Layout) (bytes : List ℕ)
+    (AreDone : List (List ℕ) → Type 0) (input : Input) : Type 0 where
   pub before : List ℕ
   pub last : List ℕ
   pub parts : bytes ≡ before ++ last
-  pub piece : length last ≤ piece_length
+  pub piece : length last ≤ most
   pub nothing : (input.new.has_failed || input.new.has_ended) ≡ true → last ≡ []
   pub reads : input.new.reads ≤ input.old.reads + length before + 1
   pub unbroken : (front layout before).is_broken ≡ false
   pub done : AreDone (front layout before).records
 
--- These bytes were taken from the reader for this receipt, and no more than it needed: it counts
--- each record that was whole before the last read.
-pub record IsReadFor (layout : Layout) (allowed : ℕ) (bytes : List ℕ) (told : Receipt)
+-- These bytes were taken from the reader for this receipt, by reads that ask for so many, and no more
+-- than it needed: it counts each record that was whole before the last read.
+pub record IsReadFor (most : ℕ) (layout : Layout) (allowed : ℕ) (bytes : List ℕ) (told : Receipt)
     (input : Input) : Type 0 where
   pub taken : Consumes input.old.left input.new.left bytes
   pub ends : EndsBy allowed (is_early_stop (front layout bytes) told.stop) input
   pub no_further :
-      IsNoFurther layout bytes (λ records. length records ≤ counted told) input
+      IsNoFurther most layout bytes (λ records. length records ≤ counted told) input

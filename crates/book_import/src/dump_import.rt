@@ -1,37 +1,39 @@
-ghost use Rattle.std.specs.Prelude.{◌≡◌, ◌+◌, ◌≤◌, ◌^◌, None, drop, false, take};
+ghost use Rattle.std.specs.Prelude.{◌≡◌, ◌+◌, ◌<◌, ◌≤◌, ◌^◌, ℕ, None, false, length};
 ghost use Rattle.streams.specs.Sources.{reader_of, reads_of, has_failed, has_ended};
 ghost use Rattle.streams.specs.AnswerFlags.{NothingUnread};
 ghost use Rattle.streams.specs.InputOutput.{input};
 ghost use Rattle.book_core.specs.Transition.{IsTransition};
 ghost use Rattle.book_import.specs.Imports.{BooksInPieces, BooksInput, Imports};
-ghost use Rattle.book_import.specs.ReadLimits.{cut_of, most_reads, piece_length};
+ghost use Rattle.book_import.specs.ReadLimits.{cut_of, most_reads, piece_length, read_length};
 
+use crate::parts::next_part;
 use crate::pieces::import_piece;
 use crate::receipt::{Receipt, Stop};
-use crate::source_reads::{PIECE, read_piece};
+use crate::source_reads::{PIECE, READ, read_into};
 use crate::stop::{dump_end, reading_end};
 use book_core::{Ledger, LedgerFault, Source};
 use smf_frames::{Joiner, Layout};
 use std::alloc::Global;
 use streams::Reader;
 
-/// Reads a dump to its end, in at most so many reads, and submits its records to the books in
-/// order: those that one read completed together, before the next read. If it stops before the end,
-/// nothing more is read. At most two pieces and two records of the dump are held at a time.
-pub fn import<R: Reader + Drop, L: Ledger>(
+/// Imports a dump by reads that ask for as many bytes as this room has.
+fn import_with<R: Reader + Drop, L: Ledger>(
     alloc: Global,
     source: &mut Source<R>,
     layout: Layout,
     reads: u64,
     ledger: &mut L,
+    piece: &mut [u8],
 ) -> Receipt
+    ghost most: { ℕ }
     requires asked { reads_of source.old ≤ 2 ^ 62 }
     requires failed { has_failed source.old ≡ false }
     requires ended { has_ended source.old ≡ false }
     requires reads { reads ≤ most_reads }
-
-    // The bytes that came were booked, up to the stop and no further.
-    ensures booked { BooksInput layout reads (L.seen ledger.old) (L.seen ledger.new)
+    requires room { length piece.old ≡ most }
+    requires some { 0 < most }
+    requires few { most ≤ read_length }
+    ensures booked { BooksInput most layout reads (L.seen ledger.old) (L.seen ledger.new)
         (cut_of source.new) (input R.remaining source.old source.new) result }
     ensures left { NothingUnread
         (has_ended source.new) (R.remaining (reader_of source.new)) }
@@ -41,9 +43,8 @@ pub fn import<R: Reader + Drop, L: Ledger>(
         return Receipt::stopped(Stop::Ledger(LedgerFault::Memory));
     };
     let mut receipt = Receipt::stopped(Stop::End);
-    let mut piece = [0u8; PIECE];
     for _ in 0..reads {
-        let Some(count) = read_piece(source, &mut piece) else {
+        let Some(count) = read_into(source, piece) else {
             return receipt.stopped_by(reading_end(source, &joiner));
         };
         if let Some(stop) = import_piece(
@@ -59,16 +60,57 @@ pub fn import<R: Reader + Drop, L: Ledger>(
     receipt.stopped_by(reading_end(source, &joiner))
 }
 
-/// The next piece of a dump, and what comes after it.
-#[tactic(auto, using(std::proofs::lemmas::List::take_min, std::proofs::lemmas::List::drop_min))]
-fn next_piece(rest: &[u8]) -> (&[u8], &[u8])
-    ensures piece { result.0.now ≡ take piece_length rest.now }
-    ensures later { result.1.now ≡ drop piece_length rest.now }
+/// Reads a dump to its end, in at most so many reads, and submits its records to the books in
+/// order: those that one read completed together, before the next read. If it stops before the end,
+/// nothing more is read. At most the bytes of two reads and two records are held at a time.
+pub fn import<R: Reader + Drop, L: Ledger>(
+    alloc: Global,
+    source: &mut Source<R>,
+    layout: Layout,
+    reads: u64,
+    ledger: &mut L,
+) -> Receipt
+    requires asked { reads_of source.old ≤ 2 ^ 62 }
+    requires failed { has_failed source.old ≡ false }
+    requires ended { has_ended source.old ≡ false }
+    requires reads { reads ≤ most_reads }
+
+    // The bytes that came were booked, up to the stop and no further.
+    ensures booked { BooksInput read_length layout reads (L.seen ledger.old) (L.seen ledger.new)
+        (cut_of source.new) (input R.remaining source.old source.new) result }
+    ensures left { NothingUnread
+        (has_ended source.new) (R.remaining (reader_of source.new)) }
+    ensures asked { reads_of source.new ≤ reads_of source.old + reads }
 {
-    rest.split_at(PIECE.min(rest.len()))
+    let Ok(mut piece) = vec![in alloc; 0u8; READ] else {
+        return Receipt::stopped(Stop::Ledger(LedgerFault::Memory));
+    };
+    import_with(alloc, source, layout, reads, ledger, piece.as_mut_slice())
 }
 
-/// Submits the records of a dump to the books, in order, piece by piece. These bytes are the whole
+/// The same by shorter reads, as of a trial: its books commit nothing.
+pub fn import_by_pieces<R: Reader + Drop, L: Ledger>(
+    alloc: Global,
+    source: &mut Source<R>,
+    layout: Layout,
+    reads: u64,
+    ledger: &mut L,
+) -> Receipt
+    requires asked { reads_of source.old ≤ 2 ^ 62 }
+    requires failed { has_failed source.old ≡ false }
+    requires ended { has_ended source.old ≡ false }
+    requires reads { reads ≤ most_reads }
+    ensures booked { BooksInput piece_length layout reads (L.seen ledger.old) (L.seen ledger.new)
+        (cut_of source.new) (input R.remaining source.old source.new) result }
+    ensures left { NothingUnread
+        (has_ended source.new) (R.remaining (reader_of source.new)) }
+    ensures asked { reads_of source.new ≤ reads_of source.old + reads }
+{
+    let mut piece = [0u8; PIECE];
+    import_with(alloc, source, layout, reads, ledger, &mut piece)
+}
+
+/// Submits the records of a dump to the books, in order, as if it was read. These bytes are the whole
 /// dump.
 pub fn import_bytes<L: Ledger>(
     alloc: Global,
@@ -79,7 +121,7 @@ pub fn import_bytes<L: Ledger>(
     ensures booked { IsTransition (L.seen ledger.old) (L.seen ledger.new)
         (Imports (L.seen ledger.old).naming layout None bytes.now result) }
 
-    // As many records are counted, at least, as were whole before the last piece. Where a store
+    // As many records are counted, at least, as were whole before the last part. Where a store
     // failed, `booked` leaves open how many of those that were kept were counted.
     ensures pieces { BooksInPieces layout bytes.now (L.seen ledger.old) (L.seen ledger.new) result }
 {
@@ -89,7 +131,7 @@ pub fn import_bytes<L: Ledger>(
     let mut receipt = Receipt::stopped(Stop::End);
     let mut rest = bytes;
     while !rest.is_empty() {
-        let (piece, later) = next_piece(rest);
+        let (piece, later) = next_part(rest, READ);
         match import_piece(alloc, ledger, &mut joiner, &mut receipt, piece) {
             Some(stop) => return receipt.stopped_by(stop),
             None => rest = later,

@@ -6,10 +6,13 @@ ghost use Rattle.book_import.specs.Groups.{Breaks, Gathers};
 ghost use Rattle.book_import.specs.Pieces.{TakesAll};
 
 use crate::group::Group;
+use crate::parts::next_part;
+use crate::source_reads::PIECE;
 use smf_frames::Joiner;
 use std::alloc::{AllocError, Global};
 
-/// Gathers the records that a piece completes, if memory suffices.
+/// Gathers the records that a piece completes, if memory suffices. The joiner is fed a part of it at a
+/// time.
 pub(crate) fn gather(alloc: Global, joiner: &mut Joiner, piece: &[u8]) -> Result<Group, AllocError>
     requires stands { (text : List ℕ) × HasTaken text joiner.old }
     requires none { joiner.old.ready ≡ None }
@@ -24,7 +27,8 @@ pub(crate) fn gather(alloc: Global, joiner: &mut Joiner, piece: &[u8]) -> Result
     let mut group = Group::new(alloc);
     let mut rest = piece;
     loop {
-        let taken = match joiner.feed(rest) {
+        let (part, _) = next_part(rest, PIECE);
+        let taken = match joiner.feed(part) {
             Err(fault) => {
                 group.broken = Some(fault);
                 return Ok(group);
@@ -33,10 +37,13 @@ pub(crate) fn gather(alloc: Global, joiner: &mut Joiner, piece: &[u8]) -> Result
         };
         let (_, later) = rest.split_at(taken);
         rest = later;
-        let Some(bytes) = joiner.record() else {
+        if let Some(bytes) = joiner.record() {
+            group.add(alloc, bytes)?;
+            joiner.next();
+            continue;
+        }
+        if rest.is_empty() {
             return Ok(group);
-        };
-        group.add(alloc, bytes)?;
-        joiner.next();
+        }
     }
 }

@@ -19,11 +19,11 @@ use crate::faults::{OpenFault, fault_at};
 use crate::integrity::{LookFault, look_through};
 use sqlite_disk::{Disk, Files, Start};
 use sqlite_pager::Options;
-use sqlite_std_file::{FileFrom, open};
 use sqlite_store::FileStore;
 use std::alloc::Global;
 use std::io;
 use std::io::ErrorKind;
+use synced_disk::{BookFile, open};
 
 /// How many bytes are copied at once.
 const PIECE: usize = 65_536;
@@ -104,15 +104,16 @@ fn copy_fault(error: &io::Error) -> OpenFault
 }
 
 /// Copies two files over those at a path, whatever these held, and looks through all pages of the
-/// copy. `T` stands for what the files at the path held. The two that are copied are only read.
-/// What the copy shows is what they hold, where no disk lied.
+/// copy, of which it keeps so many in memory. `T` stands for what the files at the path held. The two
+/// that are copied are only read. What the copy shows is what they hold, where no disk lied.
 pub fn copy_to<D: Disk, T: Start>(
     rt: &HostRuntime,
     from: &mut Files<D>,
     path: &str,
     seed: u64,
+    pages: usize,
     held: T,
-) -> Result<FileStore<FileFrom<T>>, (LookFault, Option<Files<FileFrom<T>>>)>
+) -> Result<FileStore<BookFile<T>>, (LookFault, Option<Files<BookFile<T>>>)>
     requires log { IsTrue (D.Disk.is_usable from.old.log) }
     requires db { IsTrue (D.Disk.is_usable from.old.db) }
     ensures read { AreOnlyRead D.Disk from.old from.new }
@@ -134,7 +135,7 @@ pub fn copy_to<D: Disk, T: Start>(
 
     // Where there is no copy, nothing is told of it that is not so of the files.
     ensures there { IfErr result (λ refusal. MatchOption refusal.1 (IsUnopenedLook refusal.0)
-        (IsCopyRefusedWithout D.Disk ⟦<FileFrom<T> as Disk>⟧ from.old from.new refusal.0)) }
+        (IsCopyRefusedWithout D.Disk ⟦<BookFile<T> as Disk>⟧ from.old from.new refusal.0)) }
 {
     let mut files = match open(rt, path, held) {
         Ok(files) => files,
@@ -144,7 +145,11 @@ pub fn copy_to<D: Disk, T: Start>(
         Ok(()) => {}
         Err(error) => return Err((LookFault::Open(copy_fault(&error)), Some(files))),
     }
-    match look_through(rt.alloc(), files, Options::new(seed)) {
+    let options = Options {
+        cache_pages: pages,
+        ..Options::new(seed)
+    };
+    match look_through(rt.alloc(), files, options) {
         Ok(store) => Ok(store),
         Err((fault, files)) => Err((fault, Some(files))),
     }
@@ -156,14 +161,14 @@ pub fn lock_at<S: Start>(
     rt: &HostRuntime,
     path: &str,
     start: S,
-) -> Result<Files<FileFrom<S>>, OpenFault>
-    ensures log { IfOk result (λ files. IsTrue (⟦<FileFrom<S> as Disk>⟧.is_usable files.log)) }
-    ensures db { IfOk result (λ files. IsTrue (⟦<FileFrom<S> as Disk>⟧.is_usable files.db)) }
-    ensures held { IfOk result (λ files. image_of ⟦<FileFrom<S> as Disk>⟧ files ≡ image_at S.Start) }
+) -> Result<Files<BookFile<S>>, OpenFault>
+    ensures log { IfOk result (λ files. IsTrue (⟦<BookFile<S> as Disk>⟧.is_usable files.log)) }
+    ensures db { IfOk result (λ files. IsTrue (⟦<BookFile<S> as Disk>⟧.is_usable files.db)) }
+    ensures held { IfOk result (λ files. image_of ⟦<BookFile<S> as Disk>⟧ files ≡ image_at S.Start) }
 
     // A stop leaves what they hold.
     ensures kept { IfOk result (λ files. (left : Image)
-        → MayLeave ⟦<FileFrom<S> as Disk>⟧ files left → left ≡ image_at S.Start) }
+        → MayLeave ⟦<BookFile<S> as Disk>⟧ files left → left ≡ image_at S.Start) }
     ensures unopened { IfErr result IsUnopened }
 {
     match open(rt, path, start) {

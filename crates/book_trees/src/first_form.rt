@@ -27,11 +27,11 @@ use crate::schema::detail_object;
 use crate::unopened::unopened_first;
 use sqlite_disk::{Disk, Files, Start};
 use sqlite_pager::Options;
-use sqlite_std_file::{FileFrom, open};
 use sqlite_store::{FileStore, OpenError, Unopened};
 use sqlite_trees::error::StoreError;
 use sqlite_trees::store::{Alter, Store};
 use std::alloc::Global;
+use synced_disk::{BookFile, open};
 
 /// Why books of the first form were not opened.
 #[derive(Clone, Copy, Drop)]
@@ -185,7 +185,7 @@ pub fn open_first_at<S: Start>(
     path: &str,
     seed: u64,
     start: S,
-) -> Result<FileStore<FileFrom<S>>, (FirstFault, Option<Files<FileFrom<S>>>)>
+) -> Result<FileStore<BookFile<S>>, (FirstFault, Option<Files<BookFile<S>>>)>
     ensures ready { IfOk result IsReady }
     ensures schema { IfOk result (λ store. schema_of store ≡ first_schema) }
     ensures trees { IfOk result (λ store. IsClean (view store) → HasFirstTrees (view store)) }
@@ -204,16 +204,16 @@ pub fn open_first_at<S: Start>(
 
     // What a stop leaves of files that were not opened is what they held, or stands for the same.
     ensures there { IfErr result (λ refusal. MatchOption refusal.1 (IsUnopenedFirst refusal.0)
-        (IsRefusedWithout ⟦<FileFrom<S> as Disk>⟧ (HoldsFirstForm (image_at S.Start))
+        (IsRefusedWithout ⟦<BookFile<S> as Disk>⟧ (HoldsFirstForm (image_at S.Start))
         (first_opening refusal.0))) }
     ensures this { IfErr result (λ refusal. (¬ IsToldThis refusal.0) → IfSome refusal.1
-        (IsRefusedWithout ⟦<FileFrom<S> as Disk>⟧ (HoldsBooks (image_at S.Start))
+        (IsRefusedWithout ⟦<BookFile<S> as Disk>⟧ (HoldsBooks (image_at S.Start))
         (first_opening refusal.0))) }
     ensures listed { IfErr result (λ refusal. refusal.0 ≡ FirstFault.Already
-        → IfSome refusal.1 (λ files. AreClean ⟦<FileFrom<S> as Disk>⟧ files.log files.db
+        → IfSome refusal.1 (λ files. AreClean ⟦<BookFile<S> as Disk>⟧ files.log files.db
         → ListsBooks (image_at S.Start))) }
     ensures kept { IfErr result (λ refusal. IfSome refusal.1 (λ files. (left : Image)
-        → MayLeave ⟦<FileFrom<S> as Disk>⟧ files left → IsAsFound (image_at S.Start) left)) }
+        → MayLeave ⟦<BookFile<S> as Disk>⟧ files left → IsAsFound (image_at S.Start) left)) }
 {
     let files = match open(rt, path, start) {
         Ok(files) => files,

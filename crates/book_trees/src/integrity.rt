@@ -21,9 +21,9 @@ use crate::forms::{says_newer, told};
 use crate::unopened::unopened;
 use sqlite_disk::{Disk, Files, Start};
 use sqlite_pager::Options;
-use sqlite_std_file::{FileFrom, open};
 use sqlite_store::{FileStore, OpenError, Unopened};
 use std::alloc::Global;
+use synced_disk::{BookFile, open};
 
 /// Why files were not looked through, or what was found.
 #[derive(Clone, Copy, Drop)]
@@ -147,7 +147,7 @@ pub fn look_through_at<S: Start>(
     path: &str,
     seed: u64,
     start: S,
-) -> Result<FileStore<FileFrom<S>>, (LookFault, Option<Files<FileFrom<S>>>)>
+) -> Result<FileStore<BookFile<S>>, (LookFault, Option<Files<BookFile<S>>>)>
     ensures ready { IfOk result IsReady }
     ensures schema { IfOk result (λ store. schema_of store ≡ books_schema) }
     ensures trees { IfOk result (λ store. HasShapes (view store)) }
@@ -161,16 +161,16 @@ pub fn look_through_at<S: Start>(
     // What a stop leaves of files that were not looked through is what they held, or stands for the
     // same.
     ensures there { IfErr result (λ refusal. MatchOption refusal.1 (IsUnopenedLook refusal.0)
-        (IsRefusedWithout ⟦<FileFrom<S> as Disk>⟧ (HoldsThisForm (image_at S.Start))
+        (IsRefusedWithout ⟦<BookFile<S> as Disk>⟧ (HoldsThisForm (image_at S.Start))
         (look_opening refusal.0))) }
     ensures listed { IfErr result (λ refusal. refusal.0 ≡ LookFault.Pages
-        → IfSome refusal.1 (λ files. AreClean ⟦<FileFrom<S> as Disk>⟧ files.log files.db
+        → IfSome refusal.1 (λ files. AreClean ⟦<BookFile<S> as Disk>⟧ files.log files.db
         → ListsBooks (image_at S.Start))) }
     ensures wrong { IfErr result (λ refusal. refusal.0 ≡ LookFault.Pages
-        → IfSome refusal.1 (λ files. AreClean ⟦<FileFrom<S> as Disk>⟧ files.log files.db
+        → IfSome refusal.1 (λ files. AreClean ⟦<BookFile<S> as Disk>⟧ files.log files.db
         → ¬ HoldsBooks (image_at S.Start))) }
     ensures kept { IfErr result (λ refusal. IfSome refusal.1 (λ files. (left : Image)
-        → MayLeave ⟦<FileFrom<S> as Disk>⟧ files left → IsAsFound (image_at S.Start) left)) }
+        → MayLeave ⟦<BookFile<S> as Disk>⟧ files left → IsAsFound (image_at S.Start) left)) }
 {
     let files = match open(rt, path, start) {
         Ok(files) => files,

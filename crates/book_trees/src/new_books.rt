@@ -17,9 +17,9 @@ use crate::faults::{OpenFault, fault_at, fault_of};
 use crate::unopened::unopened;
 use sqlite_disk::{Disk, Files, Start};
 use sqlite_pager::Options;
-use sqlite_std_file::{FileFrom, open};
 use sqlite_store::FileStore;
 use std::alloc::Global;
+use synced_disk::{BookFile, open};
 
 /// Makes new books in two files that hold nothing, or gives them back. There are then contents
 /// that a stop may leave which hold books with empty tables.
@@ -72,7 +72,7 @@ pub fn create_at<S: Start>(
     path: &str,
     seed: u64,
     start: S,
-) -> Result<FileStore<FileFrom<S>>, (OpenFault, Option<Files<FileFrom<S>>>)>
+) -> Result<FileStore<BookFile<S>>, (OpenFault, Option<Files<BookFile<S>>>)>
     ensures ready { IfOk result IsReady }
     ensures schema { IfOk result (λ store. schema_of store ≡ books_schema) }
     ensures trees { IfOk result (λ store. HasShapes (view store)) }
@@ -91,14 +91,14 @@ pub fn create_at<S: Start>(
         → (state store).may_leave left → IsBegun left) }
     ensures begun_refused { IfErr result (λ refusal. HoldsNothing (image_at S.Start)
         → IfSome refusal.1 (λ files. (left : Image)
-        → MayLeave ⟦<FileFrom<S> as Disk>⟧ files left → IsBegun left)) }
+        → MayLeave ⟦<BookFile<S> as Disk>⟧ files left → IsBegun left)) }
     ensures there { IfErr result (λ refusal. MatchOption refusal.1 (IsUnopened refusal.0)
-        (IsRefusedWithout ⟦<FileFrom<S> as Disk>⟧ (HoldsNothing (image_at S.Start)) refusal.0)) }
+        (IsRefusedWithout ⟦<BookFile<S> as Disk>⟧ (HoldsNothing (image_at S.Start)) refusal.0)) }
 
     // What a stop leaves of files that held something is what they held, or stands for the same.
     ensures kept { IfErr result (λ refusal. (¬ HoldsNothing (image_at S.Start))
         → IfSome refusal.1 (λ files. (left : Image)
-        → MayLeave ⟦<FileFrom<S> as Disk>⟧ files left → IsAsFound (image_at S.Start) left)) }
+        → MayLeave ⟦<BookFile<S> as Disk>⟧ files left → IsAsFound (image_at S.Start) left)) }
 {
     let files = match open(rt, path, start) {
         Ok(files) => files,

@@ -1,6 +1,10 @@
 -- How connections are served.
-use Rattle.std.proofs.Common.{◌≡◌, ◌∙◌, Bool, true, false, List, [], ◌∷◌, ℕ, ◌+◌, refl, sym, Option}
-use Rattle.std.proofs.Common.{Some, None, Result, Ok, Err, arith, inl, inr, subst, unwrap_or, IfErr}
+use Rattle.std.proofs.Common.{◌≡◌, ◌∙◌, ◌<◌, Bool, true, false, List, [], ◌∷◌, ◌++◌, ℕ, ◌+◌, refl, sym}
+use Rattle.std.proofs.Common.{ap, append-nil, append_assoc, get_or, length, length-append, reverse}
+use Rattle.std.proofs.Common.{take, Option, Some, None, Result, Ok, Err, arith, inl, inr, subst}
+use Rattle.std.proofs.Common.{unwrap_or, IfErr}
+use Rattle.std.specs.Prelude.{⊤}
+use Rattle.std.proofs.lemmas.List.{reverse-append, take_more}
 use Rattle.streams.specs.InputOutput.{WriterSeen}
 use Rattle.book_model.specs.Words.{AreMadeOf, Book, Event, Naming}
 use Rattle.book_core.specs.Words.{MakesAnswered, Transition, NoEvent}
@@ -11,13 +15,15 @@ use Rattle.named_books.specs.Shelves.{IsUntouched, OpenedAnew}
 use Rattle.named_books.proofs.ShelfLemmas.{done_after, done_then, opened_refused, opened_untouched}
 use Rattle.without_books.specs.declared.ended.Ended.{Ended}
 use Rattle.without_books.specs.Faults.{IsFileFault}
-use Rattle.without_books.specs.ServedLines.{Gains, unfailed}
+use Rattle.without_books.specs.ServedLines.{Gains, GainsBy, unfailed}
 use Rattle.without_books.proofs.ServedLineLemmas.{gains_then}
-use Rattle.chargectl.specs.ClientRequests.{LeavesLog}
+use Rattle.chargectl.specs.declared.client_requests.Attended.{Attended}
+use Rattle.chargectl.specs.ClientRequests.{LeavesLog, all_behind, later_of, told_behind, told_of}
 use Rattle.chargectl.specs.CommandLaws.{AnswersOrNot, OpenedSo, ServesAny, ServesEach}
 use Rattle.chargectl.specs.Requests.{IsServiceFault, Serves, WritesEarly, WritesLines}
-use Rattle.chargectl.specs.Serving.{AnswersSome, CameInTurn, Coming, IsServing, IsToldOf, Replies}
-use Rattle.chargectl.specs.Serving.{ServesInTurn, ServesOne, line_of, lines_of, ready, service_end}
+use Rattle.chargectl.specs.Serving.{AnswersSome, Attends, CameInTurn, CameTogether, Coming, IsServing}
+use Rattle.chargectl.specs.Serving.{IsToldOf, Replies, ServesBehind, ServesInTurn, ServesOne, line_of}
+use Rattle.chargectl.specs.Serving.{lines_of, ready, service_end}
 use Rattle.chargectl.proofs.CommandLemmas.{either_as}
 use Rattle.chargectl.proofs.Words.{RepositoryFault, Unseen, Shelf, IsDoneTo, IsOpened, done_as}
 use Rattle.chargectl.proofs.Words.{CommandFault}
@@ -179,22 +185,135 @@ turn_of {sent} {may_come} {first} {last} shelf book old new held holds it =
 
 -- ---- one after the other
 
--- one more connection was served
+-- some came, and then those of one opening
+came_then : {S C : Type 0} (shelf : S → Shelf) (sent : C → Option (List ℕ)) (may_come : Coming C)
+    (book : List ℕ) (first middle last : C) (old between new : S) (before told : List Served)
+    → CameInTurn shelf sent may_come book first middle old between before
+    → CameTogether shelf sent may_come book middle last between new told
+    → CameInTurn shelf sent may_come book first last old new (told ++ before)
+came_then {S} {C} shelf sent may_come book first middle last old between new before [] earlier
+    (same, still) =
+    subst (λ (end : C). CameInTurn shelf sent may_come book first end old new before) (sym same)
+    (subst (λ (place : S). CameInTurn shelf sent may_come book first middle old place before) (sym still)
+    earlier)
+came_then shelf sent may_come book first middle last old between new before (what ∷ told) earlier
+    (from, place, together, came, served) = (
+      from,
+      place,
+      came_then shelf sent may_come book first middle from old between place before told earlier together,
+      came,
+      served,
+    )
+
+-- lines of some, and then of others
+lines_then : (told before : List Served)
+    → lines_of (told ++ before) ≡ lines_of before ++ lines_of told
+lines_then [] before = sym (append-nil (lines_of before))
+lines_then (what ∷ told) before =
+    ap (λ lines. lines ++ line_of what) (lines_then told before)
+    ∙ append_assoc (lines_of before) (lines_of told) (line_of what)
+
+-- those of one more opening were served
 pub serving_more : {S C : Type 0} (shelf : S → Shelf) (sent : C → Option (List ℕ))
     (may_come : Coming C) (left : C → ℕ) (first middle last : C) (book : List ℕ)
-    (old between new : S) (held has holds : WriterSeen) (what : Served)
+    (old between new : S) (held has holds : WriterSeen) (told : List Served)
     → IsServing shelf sent may_come left first middle book old between held has
-    → may_come middle what last → ServesOne book (sent middle) what (shelf between) (shelf new)
-    → Gains has holds (line_of what) → left last + 1 ≡ left middle
+    → CameTogether shelf sent may_come book middle last between new told
+    → Gains has holds (lines_of told) → left last + length told ≡ left middle
     → IsServing shelf sent may_come left first last book old new held holds
-serving_more shelf sent may_come left first middle last book old between new held has holds what before
-    came served line one =
+serving_more shelf sent may_come left first middle last book old between new held has holds told before
+    came lines count =
     record {
-      told = what ∷ before.told;
-      came = (middle, between, before.came, came, served);
-      count = let counted = before.count in omega (arith, counted, one);
-      lines = gains_then held has holds (lines_of before.told) (line_of what) before.lines line;
+      told = told ++ before.told;
+      came = came_then shelf sent may_come book first middle last old between new before.told told
+          before.came came;
+      count = let counted = before.count in
+          let both = length-append told before.told in omega (arith, counted, count, both);
+      lines = subst (λ (lines : List ℕ). Gains held holds lines) (sym (lines_then told before.told))
+          (gains_then held has holds (lines_of before.told) (lines_of told) before.lines lines);
     }
+
+-- how many are told of
+pub told_count : (attended : Attended) → length (told_of attended) ≡ length (later_of attended) + 1
+told_count attended = length-append (later_of attended) (attended.served ∷ [])
+
+-- where none is to come, none came
+pub no_later : (later : List Served) → 0 + length later ≡ 0 → later ≡ []
+no_later [] count = refl
+no_later (what ∷ later) count = absurd (omega (arith, count))
+
+-- of connections of which nothing is known any may come, whatever they send
+pub any_together : {S C : Type 0} (shelf : S → Shelf) (book : List ℕ) (first last : C)
+    (old between new : S) (what : Served) (later : List Served)
+    → ServesOne book None what (shelf old) (shelf between) → ServesBehind shelf book between new later
+    → CameTogether shelf (λ (one : C). None) (λ (one : C) (so : Served) (other : C). ⊤) book first last old
+    new (later ++ what ∷ [])
+any_together shelf book first last old between new what [] done same = (
+  first,
+  old,
+  (refl, refl),
+  tt,
+  subst (λ place. ServesOne book None what (shelf old) (shelf place)) (sym same) done,
+)
+any_together shelf book first last old between new what (so ∷ before) done (place, earlier, served) = (
+  last,
+  place,
+  any_together shelf book first last old between place what before done earlier,
+  tt,
+  served,
+)
+
+-- one came alone
+pub alone_together : {S C : Type 0} (shelf : S → Shelf) (sent : C → Option (List ℕ))
+    (may_come : Coming C) (book : List ℕ) (first last : C) (old new : S) (attended : Attended)
+    → Attends shelf book (sent first) old new attended → later_of attended ≡ []
+    → may_come first attended.served last
+    → CameTogether shelf sent may_come book first last old new (told_of attended)
+alone_together shelf sent may_come book first last old new attended it none came =
+    let same = subst (λ (later : List Served). ServesBehind shelf book it.between new later) none
+    it.behind in
+    subst (λ (later : List Served). CameTogether shelf sent may_come book first last old new
+    (later ++ attended.served ∷ [])) (sym none) (
+      first,
+      old,
+      (refl, refl),
+      came,
+      subst (λ place. ServesOne book (sent first) attended.served (shelf old) (shelf place)) (sym same)
+          it.done,
+    )
+
+-- no line was written
+gains_none : (failed : Bool) (holds : Option (List ℕ)) → GainsBy failed failed holds holds []
+gains_none true None = tt
+gains_none true (Some bytes) = refl
+gains_none false None = tt
+gains_none false (Some bytes) = sym (append-nil bytes)
+
+pub no_lines : (seen : WriterSeen) → Gains seen seen []
+no_lines seen = gains_none seen.has_failed seen.holds
+
+-- one more line was written of those behind a client
+pub line_more : (held has holds : WriterSeen) (first said : Served) (items : List Served) (count : ℕ)
+    (other : Served) → count < length items
+    → Gains held has (lines_of (all_behind first (reverse (take count items))))
+    → said ≡ told_behind first (get_or items count other) → Gains has holds (line_of said)
+    → Gains held holds (lines_of (all_behind first (reverse (take (count + 1) items))))
+line_more held has holds first said items count other short before is line =
+    let what = get_or items count other in
+    subst (λ (told : List Served). Gains held holds (lines_of (all_behind first told)))
+    (sym (ap reverse (take_more items count other short)
+    ∙ reverse-append (take count items) (what ∷ [])))
+    (gains_then held has holds (lines_of (all_behind first (reverse (take count items))))
+    (line_of (told_behind first what)) before
+    (subst (λ (said : Served). Gains has holds (line_of said)) is line))
+
+-- the line of a client was written, and then those of the clients behind it
+pub lines_behind : (held has holds : WriterSeen) (first : Served) (later : List Served)
+    → Gains held has (line_of first) → Gains has holds (lines_of later)
+    → Gains held holds (lines_of (later ++ first ∷ []))
+lines_behind held has holds first later line lines =
+    subst (λ (lines : List ℕ). Gains held holds lines) (sym (lines_then later (first ∷ [])))
+    (gains_then held has holds (line_of first) (lines_of later) line lines)
 
 -- a log is as the last client left it, or as it was before
 pub log_left : {S : Type 0} (shelf : S → Shelf) (book : List ℕ) (old new : S) (was : Bool)

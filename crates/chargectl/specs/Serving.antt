@@ -1,77 +1,29 @@
 -- How connections are served: each in turn, with one line for each. A line that can't be written is
 -- lost, and so are those after it; the connections are served all the same.
 use Rattle.std.specs.Prelude.{◌≡◌, ◌+◌, Bool, true, false, ℕ, List, [], ◌∷◌, ◌++◌, codes, length}
-use Rattle.std.specs.Prelude.{IfSome, None, Option, Result, Ok, Err, decimal}
+use Rattle.std.specs.Prelude.{Option, Result, Ok, Err, decimal}
 use Rattle.std.specs.declared.io.Error.{Error}
 use Rattle.streams.specs.InputOutput.{WriterSeen}
-use Rattle.book_model.specs.Words.{Book, Event, Naming}
 use Rattle.book_http.specs.declared.served.Served.{Served}
-use Rattle.book_http.specs.Answer.{Answers}
-use Rattle.book_http.specs.Replies.{Reply}
-use Rattle.book_http.specs.Statuses.{status_code}
 use Rattle.book_lists.specs.declared.fault.ReportFault.TheVariants.{Write}
-use Rattle.named_books.specs.declared.repository.RepositoryFault.{RepositoryFault}
-use Rattle.named_books.specs.Shelves.{Shelf, IsOpened, IsUntouched}
+use Rattle.named_books.specs.Shelves.{Shelf, IsUntouched}
 use Rattle.without_books.specs.declared.command_fault.CommandFault.{CommandFault}
 use Rattle.without_books.specs.ServedLines.{Gains}
 use Rattle.chargectl.specs.declared.client_requests.Attended.{Attended}
-use Rattle.chargectl.specs.ClientRequests.{LeavesLog, away_reply}
+use Rattle.chargectl.specs.ClientRequests.{LeavesLog, later_of}
+pub use Rattle.chargectl.specs.ServedClients.{AnswersSome, IsToldOf, Replies, ServesBehind}
+pub use Rattle.chargectl.specs.ServedClients.{ServesInTurn, ServesOne}
 use Rattle.book_http.specs.declared.served.Served.TheVariants as served
 use Rattle.without_books.specs.declared.command_fault.CommandFault.TheVariants as fault
 
--- the status that is told of a connection is that of its reply
-abbrev pub Fits : Served → Reply → Type 0
-Fits (served.Answered status) reply = status ≡ status_code reply.status
-Fits what reply = Unit {0}
-
--- These bytes are the first of what a client sends, where that is known.
-abbrev pub IsFrontOf : Option (List ℕ) → List ℕ → Type 0
-IsFrontOf sent bytes = IfSome sent (λ all. (rest : List ℕ) × (all ≡ bytes ++ rest))
-
--- Some bytes came of what a client sends, the books did what they ask, and what is due to that fits what
--- is told.
-pub record AnswersSome (naming : Naming) (sent : Option (List ℕ)) (what : Served) (was : Bool)
-    (before : Book) (events : List Event) (is : Bool) : Type 0 where
-  pub bytes : List ℕ
-  pub front : IsFrontOf sent bytes
-  pub due : Reply
-  pub left : Bool
-  pub made : Answers naming bytes due was before events left
-  pub fits : Fits what due
-
--- what is told of a client that was answered so, or where the place refused the books, as the reply says
-abbrev pub IsToldOf : Result Served RepositoryFault → Served → Type 0
-IsToldOf (Ok so) what = what ≡ so
-IsToldOf (Err why) what = Fits what (away_reply why)
-
--- One client was replied to: what its bytes ask was done to the books of a name; or their place, as it
--- was before, refused them.
-pub record Replies (book : List ℕ) (sent : Option (List ℕ)) (what : Served) (old new : Shelf)
-    : Type 0 where
-  pub came : Result Served RepositoryFault
-  pub done : IsOpened (AnswersSome old.naming sent) book old new came
-  pub told : IsToldOf came what
-
--- What one connection does to the books of a name, by what it sends, where that is known, and by what
--- became of it.
-abbrev pub ServesOne : List ℕ → Option (List ℕ) → Served → Shelf → Shelf → Type 0
-ServesOne book sent served.Closed old new = IsUntouched book old new
-ServesOne book sent served.ReadFault old new = IsUntouched book old new
-ServesOne book sent what old new = Replies book sent what old new
-
--- so it is with one client; and whether it left a log beside the books
+-- So it is with one client, and with those that were answered behind it; and whether it left a log beside
+-- the books.
 pub record Attends {S : Type 0} (shelf : S → Shelf) (book : List ℕ) (sent : Option (List ℕ))
     (old new : S) (attended : Attended) : Type 0 where
-  pub done : ServesOne book sent attended.served (shelf old) (shelf new)
+  pub between : S
+  pub done : ServesOne book sent attended.served (shelf old) (shelf between)
+  pub behind : ServesBehind shelf book between new (later_of attended)
   pub log : LeavesLog shelf book old new attended.log
-
--- Connections in turn, the newest first: each found the books where the one before it left them. Of the
--- sockets of a machine it is not known what they send.
-abbrev pub ServesInTurn : {S : Type 0} → (S → Shelf) → List ℕ → S → S → List Served → Type 0
-ServesInTurn shelf book old new [] = IsUntouched book (shelf old) (shelf new)
-ServesInTurn {S} shelf book old new (what ∷ before) =
-    (between : S) × ServesInTurn shelf book old between before
-    × ServesOne book None what (shelf between) (shelf new)
 
 -- an answer was sent whole
 abbrev pub is_answered : Served → Bool
@@ -108,6 +60,15 @@ CameInTurn shelf sent may_come book first last old new [] =
 CameInTurn {S} {C} shelf sent may_come book first last old new (what ∷ before) =
     (middle : C) × (between : S)
     × CameInTurn shelf sent may_come book first middle old between before
+    × may_come middle what last × ServesOne book (sent middle) what (shelf between) (shelf new)
+
+-- so it is with those of one opening: the place was left alone before the first of them
+abbrev pub CameTogether : {S C : Type 0} → (S → Shelf) → (C → Option (List ℕ)) → Coming C → List ℕ
+    → C → C → S → S → List Served → Type 0
+CameTogether shelf sent may_come book first last old new [] = (last ≡ first) × (new ≡ old)
+CameTogether {S} {C} shelf sent may_come book first last old new (what ∷ before) =
+    (middle : C) × (between : S)
+    × CameTogether shelf sent may_come book first middle old between before
     × may_come middle what last × ServesOne book (sent middle) what (shelf between) (shelf new)
 
 -- Of the connections that were due these are left last. The others came and were served one after the other,

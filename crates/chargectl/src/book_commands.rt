@@ -52,6 +52,11 @@ impl<R: Read + Drop> Visit for OfficeRequest<R> {
         once_answered naming request.asked (left_of R.remaining request.input)
         (response_by told) };
 
+    /// A report is. Imports, rulings and other prices go over many pages.
+    fn is_brief(&self) -> bool {
+        matches!(self.asked, Asked::Report(_))
+    }
+
     fn visit<L: Ledger>(&mut self, books: &mut L) -> Result<Answer, LedgerFault> {
         match self.input.take() {
             Some(input) => ask_with(self.alloc, books, &self.asked, input),

@@ -41,6 +41,11 @@ impl Visit for DryRun {
 
     ghost answered = { λ naming run _ dated. tried_answered naming run.asked dated };
 
+    /// The copy was just read whole, and is not kept.
+    fn is_brief(&self) -> bool {
+        true
+    }
+
     fn visit<L: Ledger>(&mut self, books: &mut L) -> DatedAnswer {
         dated(try_ruling(self.alloc, books, &self.asked))
     }

@@ -2,6 +2,7 @@
 #![tactic(auto)]
 
 mod answered;
+mod arriving;
 mod asked_rulings;
 mod audits;
 mod book_commands;
@@ -18,6 +19,7 @@ mod report_commands;
 mod serve;
 mod streamed_lists;
 mod upgrades;
+mod waiting;
 mod watched_rows;
 
 pub use client_requests::{Attended, serve_request};

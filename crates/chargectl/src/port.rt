@@ -1,26 +1,30 @@
 //! Where connections come from.
 
-ghost use Rattle.std.specs.Prelude.{◌≡◌, true};
+ghost use Rattle.std.specs.Prelude.{◌≡◌, ◌+◌, length, true};
 ghost use Rattle.streams.specs.Failures.{HasFailed};
 ghost use Rattle.book_http.specs.Served.{is_unanswered, is_write_fault};
-ghost use Rattle.chargectl.specs.ClientRequests.{IsServedByReads};
+ghost use Rattle.chargectl.specs.ClientRequests.{IsServedByReads, later_of};
 ghost use Rattle.chargectl.specs.Serving.{Attends, is_answered};
 
-use crate::client_requests::{Attended, serve_request};
+use crate::arriving::Arriving;
+use crate::client_requests::{Attended, serve_request, unopened};
 use crate::connection::Client;
+use crate::waiting::Waiting;
 use book_core::Source;
 use book_http::{Routes, Served};
 use named_books::Repository;
+use request_bursts::Arrivals;
 use std::io;
 use std::net::{TcpListener, TcpStream};
 use streams::{Reader, Writer};
 
 /// A given number of connections, one after the other: those to a port, or any others.
 pub trait Connections {
-    ghost use Rattle.std.specs.Prelude.{ℕ, ◌≡◌, ◌<◌, ◌+◌, ◌==◌, IfErr, IfOk, List, None, OnErr};
-    ghost use Rattle.std.specs.Prelude.{Option};
+    ghost use Rattle.std.specs.Prelude.{ℕ, ◌≡◌, ◌<◌, ◌+◌, ◌==◌, IfErr, IfOk, List, MatchResult, None};
+    ghost use Rattle.std.specs.Prelude.{OnErr, Option, length};
     ghost use Rattle.std.specs.declared.io.Error.{Error};
-    ghost use Rattle.chargectl.specs.Serving.{Attends, Coming};
+    ghost use Rattle.chargectl.specs.ClientRequests.{LeavesLog, told_of};
+    ghost use Rattle.chargectl.specs.Serving.{CameTogether, Coming};
 
     /// How many are left to be answered.
     ghost left: { Self → ℕ };
@@ -41,13 +45,17 @@ pub trait Connections {
         ensures { result ≡ (left self.now == 0) };
 
     /// Waits for the next one, and answers it from the books of a name, which are open only while
-    /// they are asked. An error means that none came; it counts as one of those that were left.
+    /// they are asked, and others that come soon behind it. An error means that none came; it counts
+    /// as one of those that were left.
     fn next<S: Repository>(&mut self, repository: &mut S, book: &str) -> io::Result<Attended>
         requires { 0 < left self.old }
-        ensures left { left self.new + 1 ≡ left self.old }
-        ensures served { IfOk result (Attends S.shelf book.now (sent self.old) repository.old
-            repository.new) }
-        ensures came { IfOk result (λ attended. may_come self.old attended.served self.new) }
+        ensures left { MatchResult result
+            (λ attended. left self.new + length (told_of attended) ≡ left self.old)
+            (λ _. left self.new + 1 ≡ left self.old) }
+        ensures came { IfOk result (λ attended. CameTogether S.shelf sent may_come book.now
+            self.old self.new repository.old repository.new (told_of attended)) }
+        ensures log { IfOk result (λ attended.
+            LeavesLog S.shelf book.now repository.old repository.new attended.log) }
         ensures none { OnErr result (repository.new ≡ repository.old) }
         ensures failed { IfErr result (λ error. may_fail self.old error self.new) };
 }
@@ -65,6 +73,9 @@ pub trait Peer: Reader + Writer + Copy {
     /// short time in all.
     fn hurry(&self);
 
+    /// Shows it that the answer is whole. It waits for nothing.
+    fn finish(&self);
+
     /// Shows it that the answer is whole, and reads what it still sends. Nothing is written to it.
     fn drain(self) -> Self
         ensures drained { is_drained result ≡ true }
@@ -75,10 +86,10 @@ pub trait Peer: Reader + Writer + Copy {
 #[derive(Drop)]
 pub(crate) struct Port<'a> {
     rt: &'a HostRuntime,
-    listener: &'a TcpListener,
     pub(crate) left: u32,
     /// One router for all that they ask.
     routes: Routes,
+    waiting: Waiting<'a>,
 }
 
 impl<'a> Port<'a> {
@@ -88,9 +99,9 @@ impl<'a> Port<'a> {
     {
         Port {
             rt,
-            listener,
             left: requests,
             routes: Routes::new(rt.alloc()),
+            waiting: Waiting::at(rt, listener),
         }
     }
 }
@@ -111,45 +122,69 @@ impl Connections for Port<'_> {
 
     fn next<S: Repository>(&mut self, repository: &mut S, book: &str) -> io::Result<Attended> {
         self.left -= 1;
-        let (stream, _) = self.listener.accept()?;
-        Ok(answer_stream(self.rt, &mut self.routes, &stream, repository, book))
+        let stream = self.waiting.next_client()?;
+        self.waiting.begin();
+        let soon = Arriving {
+            left: self.left,
+            waiting: self.waiting.taken(),
+        };
+        let (attended, soon) = answer_stream(
+            self.rt,
+            &mut self.routes,
+            &stream,
+            soon,
+            repository,
+            book,
+        );
+        let Arriving { left, waiting } = soon;
+        self.left = left;
+        self.waiting = waiting;
+        self.waiting.drain_answered();
+        self.waiting.leave_alone();
+        Ok(attended)
     }
 }
 
-/// Answers one connection. Where the clock fails the time is not bounded, so nothing is read.
-fn answer_stream<S: Repository>(
+/// Answers one connection, and those that come soon behind it. Where the clock fails the time is
+/// not bounded, so nothing is read.
+fn answer_stream<C: Arrivals + Drop, S: Repository>(
     rt: &HostRuntime,
     routes: &mut Routes,
     stream: &TcpStream,
+    arrivals: C,
     repository: &mut S,
     book: &str,
-) -> Attended
-    ensures { Attends S.shelf book.now None repository.old repository.new result }
+) -> (Attended, C)
+    ensures attended { Attends S.shelf book.now None repository.old repository.new result.0 }
+    ensures count { C.left result.1 + length (later_of result.0) ≡ C.left arrivals }
 {
     let patience = Client::patience();
     let Ok(client) = Client::accepted(rt, stream, &patience) else {
-        let served = Served::ReadFault;
-        return Attended { served, log: None };
+        let attended = unopened(rt.alloc(), Served::ReadFault);
+        return (attended, arrivals);
     };
-    let (attended, _) = answer_peer(routes, client, repository, book);
-    attended
+    let (attended, _, arrivals) = answer_peer(routes, client, arrivals, repository, book);
+    (attended, arrivals)
 }
 
-/// Reads one request of a client, asks it of the books of a name, and answers. A client that was
-/// answered is drained before it is let go, so that it can read its answer.
-pub fn answer_peer<P: Peer + Drop, S: Repository>(
+/// Reads one request of a client, asks it of the books of a name, and answers; and those that come soon
+/// behind it, while the books are open. A client that was answered is drained before it is let go, so
+/// that it can read its answer.
+pub fn answer_peer<P: Peer + Drop, C: Arrivals + Drop, S: Repository>(
     routes: &mut Routes,
     peer: P,
+    arrivals: C,
     repository: &mut S,
     book: &str,
-) -> (Attended, P)
+) -> (Attended, P, C)
     ensures served { Attends S.shelf book.now (P.remaining peer) repository.old repository.new
         result.0 }
+    ensures count { C.left result.2 + length (later_of result.0) ≡ C.left arrivals }
 
     // It is answered by what reads of it gave, each of which was due; and the books are not opened
     // for a request that asks nothing of them.
     ensures reads { IsServedByReads P.Reader.may_answer S.shelf repository.old repository.new
-        book.now peer (P.contents peer) (P.contents result.1) result.0.served }
+        book.now peer (P.contents peer) (P.contents result.1) result.0.served (later_of result.0) }
 
     // Nor are they for a client that is not answered, and nothing is written to it.
     ensures closed { is_unanswered result.0.served ≡ true → repository.new ≡ repository.old }
@@ -162,9 +197,16 @@ pub fn answer_peer<P: Peer + Drop, S: Repository>(
     ensures drained { is_answered result.0.served ≡ true → P.is_drained result.1 ≡ true }
 {
     let mut source = Source::new(peer);
-    let (attended, peer) = serve_request(routes, &mut source, peer, repository, book);
+    let (attended, peer, arrivals) = serve_request(
+        routes,
+        &mut source,
+        peer,
+        arrivals,
+        repository,
+        book,
+    );
     match attended.served {
-        Served::Answered(_) => (attended, peer.drain()),
-        _ => (attended, peer),
+        Served::Answered(_) => (attended, peer.drain(), arrivals),
+        _ => (attended, peer, arrivals),
     }
 }

@@ -3,9 +3,12 @@
 ghost use Rattle.std.specs.Prelude.{◌≡◌, ◌++◌, codes, decimal, IfErr, Err, None, Ok, OnOk, true};
 ghost use Rattle.streams.specs.Failures.{HasFailed};
 ghost use Rattle.without_books.specs.ServedLines.{Gains, seen_of};
+ghost use Rattle.chargectl.specs.ClientRequests as spec;
+ghost use Rattle.chargectl.specs.ClientRequests.{told_of};
 ghost use Rattle.chargectl.specs.Requests.{IsServiceFault, Serves, ServesBy};
-ghost use Rattle.chargectl.specs.Serving.{ServesUntil, line_of, ready, service_end};
+ghost use Rattle.chargectl.specs.Serving.{ServesUntil, line_of, lines_of, ready, service_end};
 
+use crate::client_requests::Attended;
 use crate::port::{Connections, Port};
 use arrayvec::ArrayString;
 use book_http::Served;
@@ -121,10 +124,11 @@ fn serve_here<S: Repository, O: Writer + Drop>(
     }
 }
 
-/// Answers the connections that are left, one after the other, and writes a line for each, at once. A
-/// line that can't be written is lost, and so are those after it; the connections are answered all
-/// the same. An error means that a connection did not come; what was asked of the books till then is
-/// done. Whether a log is left beside them is handed on.
+/// Answers the connections that are left, one after the other, and writes a line for each: at once, or
+/// once the books are closed from which others were answered too. A line that can't be written is
+/// lost, and so are those after it; the connections are answered all the same. An error means that a
+/// connection did not come; what was asked of the books till then is done. Whether a log is left
+/// beside them is handed on.
 pub fn serve_each<C: Connections, S: Repository, O: Writer + Drop>(
     connections: &mut C,
     repository: &mut S,
@@ -146,7 +150,7 @@ pub fn serve_each<C: Connections, S: Repository, O: Writer + Drop>(
         match connections.next(repository, book) {
             Ok(attended) => {
                 has_log = attended.log.unwrap_or(has_log);
-                say_served(lines, attended.served);
+                say_attended(lines, &attended);
             }
             Err(error) => return (Err(error), has_log),
         }
@@ -161,7 +165,30 @@ fn say_ready<O: Writer + Drop>(lines: &mut ServedLines<O>)
     lines.write("READY\n");
 }
 
-/// Says what became of a connection, at once.
+/// Says what became of a connection, and of those behind it, once the books are closed.
+fn say_attended<O: Writer + Drop>(lines: &mut ServedLines<O>, attended: &Attended)
+    ensures { Gains (seen_of O.contents lines.old) (seen_of O.contents lines.new)
+        (lines_of (told_of attended.now)) }
+{
+    say_served(lines, attended.served);
+    let later = attended.later.as_slice();
+    for what in later {
+        say_served(lines, told_behind(attended.served, *what));
+    }
+}
+
+/// What is told of a client behind one of which this is told: where it was not seen that the closed
+/// files hold the books from which both were answered, no answer is told.
+fn told_behind(first: Served, what: Served) -> Served
+    ensures { result ≡ spec.told_behind first what }
+{
+    match first {
+        Served::Cut => Served::Cut,
+        _ => what,
+    }
+}
+
+/// Says what became of a connection.
 fn say_served<O: Writer + Drop>(lines: &mut ServedLines<O>, served: Served)
     ensures { Gains (seen_of O.contents lines.old) (seen_of O.contents lines.new)
         (line_of served) }

@@ -3,6 +3,7 @@
 use book_http::Routes;
 use chargectl::{Attended, Connections, Peer, answer_peer};
 use named_books::Repository;
+use request_bursts::Nobody;
 use std::io;
 use std::io::{Read, Write};
 
@@ -38,6 +39,8 @@ impl Peer for MemoryClient<'_> {
 
     fn hurry(&self) {}
 
+    fn finish(&self) {}
+
     fn drain(mut self) -> Self {
         self.is_drained = true;
         self
@@ -48,7 +51,8 @@ impl Peer for MemoryClient<'_> {
 #[derive(Drop)]
 pub struct MemoryClients<'a> {
     pub bytes: &'a [u8],
-    /// How many of them are to be answered.
+    /// How many of them are to be answered. Each is read once the books are closed that were open for
+    /// the one before it.
     pub left: u32,
     /// One router for all that they ask.
     pub routes: Routes,
@@ -77,7 +81,7 @@ impl Connections for MemoryClients<'_> {
             rest: self.bytes,
             is_drained: false,
         };
-        let (attended, _) = answer_peer(&mut self.routes, client, repository, book);
+        let (attended, _, _) = answer_peer(&mut self.routes, client, Nobody, repository, book);
         Ok(attended)
     }
 }

@@ -16,7 +16,7 @@ use Rattle.book_import.specs.declared.receipt.Receipt as receipt
 use Rattle.book_import.specs.declared.receipt.Stop.{Stop}
 use Rattle.book_import.specs.Imports.{Imports}
 use Rattle.book_import.specs.Reach.{IsReadFor}
-use Rattle.book_import.specs.ReadLimits.{cut_by, most_reads}
+use Rattle.book_import.specs.ReadLimits.{cut_by, most_reads, read_length}
 use Rattle.book_reports.specs.BookTexts.{shown_by, report_outcome}
 use Rattle.book_reports.specs.WhatIfTexts.{what_if_report}
 use Rattle.office.specs.declared.request.Asked.{Asked}
@@ -84,7 +84,7 @@ IsAskableRuling asked = ⊥
 -- the bytes of a dump were taken for this receipt, and no more than it needed
 abbrev pub IsReadBy : Dump → Result Response LedgerFault → Input → Type 0
 IsReadBy dump (Ok (Count receipt)) input =
-    IsReadFor dump.layout most_reads dump.bytes receipt input
+    IsReadFor read_length dump.layout most_reads dump.bytes receipt input
 IsReadBy dump told input = ⊥
 
 -- A dump was read from a reader, up to the stop of its receipt and no further.

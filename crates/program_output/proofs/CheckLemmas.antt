@@ -73,10 +73,10 @@ written_before : (layout : Layout) (input : Input) (bytes piece : List ℕ) (joi
     → (more : List ℕ) × Appends had gets more
     → input.new.reads ≤ input.old.reads + length bytes + 1 → length piece ≤ piece_length
     → input.new.has_failed ≡ false → input.new.has_ended ≡ false
-    → IsNoFurther layout (bytes ++ piece) (AreWritten held gets) input
+    → IsNoFurther piece_length layout (bytes ++ piece) (AreWritten held gets) input
 written_before layout input bytes piece joiner began held had gets lists waits grown reads few
     failed ended =
-    piece_needed layout (AreWritten held gets) input bytes piece lists.whole
+    piece_needed piece_length layout (AreWritten held gets) input bytes piece lists.whole
     (lines_written (front layout bytes).records began held had gets lists.done waits grown) reads
     few failed ended
 
@@ -95,7 +95,8 @@ module _ {layout : Layout} {cut : Option Stop} {allowed : ℕ} {input : Input} w
     );
     stop = tt;
     ends = tt;
-    no_further = nothing_further layout (AreWritten held held) input ([], Appends-nil held)
+    no_further = nothing_further piece_length layout (AreWritten held held) input
+        ([], Appends-nil held)
         (ap (λ (one : ReaderSeen). one.reads) same);
   }
 
@@ -108,7 +109,7 @@ module _ {layout : Layout} {cut : Option Stop} {allowed : ℕ} {input : Input} w
       → IfOk answer (λ told. told ≡ stop)
       → Consumes input.old.left input.new.left bytes
       → EndsBy allowed (is_early_stop (front layout bytes) stop) input
-      → IsNoFurther layout bytes (AreWritten held has) input
+      → IsNoFurther piece_length layout bytes (AreWritten held has) input
       → IsCheck (reading layout cut allowed input) held has answer
   is_check bytes began held had has stop answer listed same written told taken ends no_further =
       record {
@@ -142,7 +143,7 @@ module _ {layout : Layout} {cut : Option Stop} {allowed : ℕ} {input : Input} w
       is_check bytes began held had has stop answer lists.done (stop_is lists cut stopped)
       written told taken
       (ends_late (ap (λ b. b || (front layout bytes).is_broken) other ∙ lists.whole) out)
-      (all_needed layout (AreWritten held has) input bytes lists.whole
+      (all_needed piece_length layout (AreWritten held has) input bytes lists.whole
       (lines_written (front layout bytes).records began held had has lists.done waits
       (until_grows (waiting began ++ last_line (listed_count began) stop) had has answer written))
       reads)

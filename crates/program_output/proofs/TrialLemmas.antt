@@ -13,6 +13,7 @@ use Rattle.book_import.specs.declared.receipt.Stop.{Stop}
 use Rattle.book_import.specs.declared.receipt.Stop.TheVariants.{Ledger}
 use Rattle.book_import.specs.Dumps.{stop_after}
 use Rattle.book_import.specs.Reach.{IsReadFor}
+use Rattle.book_import.specs.ReadLimits.{piece_length}
 use Rattle.book_import.specs.Imports.{Imports}
 use Rattle.book_import.specs.Imports.Handles.{out_of_memory}
 use Rattle.book_import.proofs.ReachLemmas.{read_nothing}
@@ -75,7 +76,8 @@ texts_written told book after held one two holds answer stays line statement dis
 module _ {terms : Terms} {layout : Layout} {cut : Option Stop} {allowed : ℕ} {input : Input} where
   -- new books, the import, and what was written
   pub is_trial : {held holds : Option (List ℕ)} {answer : Result Receipt ReportFault}
-      {book : Book} (told : Receipt) (bytes : List ℕ) → IsReadFor layout allowed bytes told input
+      {book : Book} (told : Receipt) (bytes : List ℕ)
+      → IsReadFor piece_length layout allowed bytes told input
       → IsBooked terms layout cut bytes told book
       → WritesTexts (trial_texts told book) held holds answer
       → IfOk answer (λ receipt. receipt ≡ told)
@@ -102,7 +104,7 @@ module _ {terms : Terms} {layout : Layout} {cut : Option Stop} {allowed : ℕ} {
         bytes = [];
         told = told;
         events = [];
-        read = read_nothing layout allowed told input refl
+        read = read_nothing piece_length layout allowed told input refl
             (ap (λ (one : ReaderSeen). one.left) same) (ap (λ (one : ReaderSeen). one.reads) same)
             failed ended;
         booked = out_of_memory 0 refl (record { receipt = refl; events = refl });

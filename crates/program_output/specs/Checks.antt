@@ -5,6 +5,7 @@ use Rattle.book_model.specs.Words.{Front, front}
 use Rattle.book_import.specs.declared.receipt.Stop.{Stop}
 use Rattle.book_import.specs.Dumps.{stop_after}
 use Rattle.book_import.specs.Reach.{is_early_stop, EndsBy, IsNoFurther}
+use Rattle.book_import.specs.ReadLimits.{piece_length}
 use Rattle.book_lists.specs.declared.fault.ReportFault.{ReportFault}
 use Rattle.book_lists.specs.Writing.{WritesUntil}
 use Rattle.book_reports.specs.CheckLists.{record_lines, check_list_text}
@@ -35,4 +36,5 @@ pub record IsCheck (reading : Reading) (held holds : Option (List ℕ))
   pub stop : IfOk answer (λ stop. stop ≡ stop_of reading bytes)
   pub ends : IfOk answer (λ stop.
       EndsBy reading.allowed (is_early_stop (found_in reading bytes) stop) reading.input)
-  pub no_further : IsNoFurther reading.layout bytes (AreWritten held holds) reading.input
+  pub no_further :
+      IsNoFurther piece_length reading.layout bytes (AreWritten held holds) reading.input

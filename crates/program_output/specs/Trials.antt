@@ -5,6 +5,7 @@ use Rattle.sha2.specs.Sha256.{sha256}
 use Rattle.book_model.specs.Words.{Terms, Book, flat_book, Event, after_all}
 use Rattle.book_import.specs.declared.receipt.Receipt.{Receipt}
 use Rattle.book_import.specs.Reach.{IsReadFor}
+use Rattle.book_import.specs.ReadLimits.{piece_length}
 use Rattle.book_import.specs.Imports.{Imports}
 use Rattle.book_lists.specs.declared.fault.ReportFault.{ReportFault}
 use Rattle.book_lists.specs.Writing.{WritesTexts}
@@ -26,7 +27,7 @@ pub record IsTrial (terms : Terms) (reading : Reading) (held holds : Option (Lis
   pub bytes : List ℕ
   pub told : Receipt
   pub events : List Event
-  pub read : IsReadFor reading.layout reading.allowed bytes told reading.input
+  pub read : IsReadFor piece_length reading.layout reading.allowed bytes told reading.input
   pub booked :
       Imports sha256 reading.layout reading.cut bytes told false (flat_book terms) events false
   pub written : WritesTexts (trial_texts told (after_all events (flat_book terms))) held holds answer

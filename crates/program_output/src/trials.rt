@@ -9,7 +9,7 @@ ghost use Rattle.program_output.specs.Readings.{reading};
 ghost use Rattle.program_output.specs.Trials.{IsTrial};
 
 use book_core::{ShaNames, Sink, Source};
-use book_import::{Receipt, import};
+use book_import::{Receipt, import_by_pieces};
 use book_reports::{ReportFault, dispute_list, receipt_line, statement};
 use plain_ledger::PlainLedger;
 use smf_frames::Layout;
@@ -51,7 +51,7 @@ pub fn trial<R: Reader + Drop, W: Writer + Drop>(
     ensures fault { IfErr result (λ fault. is_write_or_memory fault ≡ true) }
 {
     let mut ledger = PlainLedger::flat(alloc, ShaNames, tariff)?;
-    let receipt = import(alloc, source, layout, reads, &mut ledger);
+    let receipt = import_by_pieces(alloc, source, layout, reads, &mut ledger);
     receipt_line(&receipt, sink)?;
     statement(alloc, &mut ledger, 1, sink)?;
     dispute_list(alloc, &mut ledger, sink)?;

@@ -152,7 +152,7 @@ pub record ServesBy {V : Type 0} (Made : Result V LedgerFault → Book → List 
 
 -- the most records that one commit takes
 abbrev pub most_in_commit : ℕ
-most_in_commit = 1000
+most_in_commit = 8000
 
 -- what they make of a book, by what is answered
 abbrev pub TakesOf : Naming → List (List ℕ) → Result (Vec Accepted Global) LedgerFault → Book

@@ -29,7 +29,7 @@ use tariff_rules::Tariff;
 use tree_tables::TreeTables;
 
 /// The most records that one commit takes.
-const MOST_IN_COMMIT: usize = 1_000;
+const MOST_IN_COMMIT: usize = 8_000;
 
 /// Books that are stored in the trees of a store.
 #[derive(Drop)]

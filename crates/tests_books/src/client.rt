@@ -1,10 +1,12 @@
 //! Clients of a script, and what goes over their connections.
 
-ghost use Rattle.std.specs.Prelude.{length};
+ghost use Rattle.std.specs.Prelude.{◌≡◌, ◌<◌, ◌+◌, length};
 
-use book_http::Routes;
+use book_core::Ledger;
+use book_http::{Routes, Served};
 use chargectl::{Attended, Connections, Peer, answer_peer};
 use named_books::Repository;
+use request_bursts::{Arrivals, answer_seen};
 use std::alloc::Global;
 use std::cell::{Cell, RefCell};
 use std::io;
@@ -18,6 +20,8 @@ const DRAINING_READS: u32 = 1_000;
 /// A client: what it still sends, what it took of its answer, and whether it was drained.
 #[derive(Drop)]
 pub(crate) struct Client<'a> {
+    /// What is there while the books are open for the one before it.
+    soon: &'a [u8],
     reader: RefCell<LimitedReader<'a>>,
     writer: RefCell<LimitedWriter>,
     is_drained: Cell<bool>,
@@ -27,8 +31,11 @@ impl<'a> Client<'a> {
     /// It has sent nothing yet.
     pub(crate) fn new(alloc: Global, scripted: &'a ScriptedClient) -> Client<'a> {
         let connection = scripted.connection;
+        let request = scripted.request.as_slice();
+        let soon = request.len().min(connection.soon);
         Client {
-            reader: RefCell::new(connection.reader(&scripted.request)),
+            soon: &request[..soon],
+            reader: RefCell::new(connection.reader(request)),
             writer: RefCell::new(LimitedWriter::new(alloc, connection.writes)),
             is_drained: Cell::new(false),
         }
@@ -103,6 +110,8 @@ impl Peer for ScriptedPeer<'_, '_> {
 
     fn hurry(&self) {}
 
+    fn finish(&self) {}
+
     fn drain(mut self) -> Self {
         self.read_rest();
         self.client.is_drained.set(true);
@@ -111,11 +120,60 @@ impl Peer for ScriptedPeer<'_, '_> {
     }
 }
 
+/// Clients that may come while the books are open for another, the next one first.
+#[derive(Drop)]
+struct Soon<'c, 'a> {
+    left: &'c [Client<'a>],
+}
+
+impl Arrivals for Soon<'_, '_> {
+    ghost left = { λ soon. length soon.left.now };
+
+    fn is_over(&self) -> bool {
+        self.left.is_empty()
+    }
+
+    fn next_open<L: Ledger>(&mut self, routes: &mut Routes, books: &mut L) -> Option<Served> {
+        let left = self.left;
+        let [client, later @ ..] = left else {
+            unreachable!()
+        };
+        let peer = ScriptedPeer {
+            client,
+            is_drained: false,
+        };
+        let (told, peer) = answer_seen(routes, client.soon, peer, books);
+        match told {
+            Some(what) => {
+                self.left = later;
+                peer.drain();
+                Some(what)
+            }
+            None => None,
+        }
+    }
+}
+
 /// Clients that are left, the next one first.
 #[derive(Drop)]
 pub(crate) struct Queue<'c, 'a> {
     pub(crate) left: &'c [Client<'a>],
     pub(crate) routes: Routes,
+}
+
+impl<'c, 'a> Queue<'c, 'a> {
+    /// Takes the next one.
+    fn take(&mut self) -> &'c Client<'a>
+        requires { 0 < length self.old.left.now }
+        ensures { length self.new.left.now + 1 ≡ length self.old.left.now }
+    {
+        let left = self.left;
+        let [client, later @ ..] = left else {
+            unreachable!()
+        };
+        self.left = later;
+        client
+    }
 }
 
 impl Connections for Queue<'_, '_> {
@@ -134,16 +192,14 @@ impl Connections for Queue<'_, '_> {
     }
 
     fn next<S: Repository>(&mut self, repository: &mut S, book: &str) -> io::Result<Attended> {
-        let left = self.left;
-        let [client, later @ ..] = left else {
-            unreachable!()
-        };
-        self.left = later;
+        let client = self.take();
         let peer = ScriptedPeer {
             client,
             is_drained: false,
         };
-        let (attended, _) = answer_peer(&mut self.routes, peer, repository, book);
+        let soon = Soon { left: self.left };
+        let (attended, _, soon) = answer_peer(&mut self.routes, peer, soon, repository, book);
+        self.left = soon.left;
         Ok(attended)
     }
 }

@@ -7,6 +7,8 @@ use tests_scripts::{LimitedReader, Limits, LineFault, LineResult};
 pub struct Connection {
     /// How many bytes of a request come at most, before no more is sent.
     pub(crate) sends: usize,
+    /// How many of them are there while the books are open for the client before it.
+    pub soon: usize,
     pub(crate) reads: Limits,
     pub writes: Limits,
 }
@@ -16,13 +18,14 @@ impl Connection {
     pub(crate) fn whole() -> Connection {
         Connection {
             sends: usize::MAX,
+            soon: 0,
             reads: Limits::none(),
             writes: Limits::none(),
         }
     }
 
-    /// The connection that words describe: `sends:SIZE`, `pieces:SIZE`, `reads:COUNT`, `takes:SIZE`,
-    /// `writes:COUNT`.
+    /// The connection that words describe: `sends:SIZE`, `soon:SIZE`, `pieces:SIZE`, `reads:COUNT`,
+    /// `takes:SIZE`, `writes:COUNT`.
     pub(crate) fn of(words: &[&str]) -> LineResult<Connection> {
         let mut connection = Connection::whole();
         for word in words {
@@ -30,6 +33,7 @@ impl Connection {
             let number = value.parse::<u32>()?;
             match key {
                 "sends" => connection.sends = number as usize,
+                "soon" => connection.soon = number as usize,
                 "pieces" => connection.reads.size = number as usize,
                 "reads" => connection.reads.calls = number,
                 "takes" => connection.writes.size = number as usize,

@@ -69,6 +69,8 @@
 //!   is left out is not limited.
 //!
 //! Clients that are served one after the other (`read_clients`) are such lines too, each of a request.
+//! For them `connection` may also have `soon:SIZE`: so many bytes of a request are there while the books
+//! are open for the client before it.
 //! Turns, calls, lengths and counts, and commands of a list that is repeated, are counted from 0 on,
 //! and shown as one where they follow each other and had the same answers.
 #![tactic(auto)]

@@ -13,8 +13,8 @@ use crate::session::{make_at, resume_at};
 use book_core::LedgerFault;
 use named_books::RepositoryFault;
 use sqlite_disk::{Files as Pair, Unknown};
-use sqlite_std_file::FileFrom;
 use std::fs;
+use synced_disk::BookFile;
 
 impl Machine<'_> {
     /// Makes new books under a name that nothing has. Where they can't be made, what this call
@@ -78,7 +78,7 @@ impl Machine<'_> {
 
     /// Makes new books in a file that is empty, or that a stop left while they were made. Where they
     /// are made their files are in hand.
-    fn make_in(&self, begun: &str) -> (Result<(), RepositoryFault>, Option<Pair<FileFrom<Unknown>>>)
+    fn make_in(&self, begun: &str) -> (Result<(), RepositoryFault>, Option<Pair<BookFile<Unknown>>>)
         ensures { IsOk result.0 → IsSome result.1 }
     {
         let seed = match seed_from(self.rt) {

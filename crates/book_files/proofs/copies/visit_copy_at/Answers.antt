@@ -1,6 +1,8 @@
 use Rattle.std.proofs.Common.{Ok, Some, inl, refl, subst, sym}
 use Rattle.sqlite_disk.specs.contracts.modelled.ModelledDisk.TheImpl as modelled
+use Rattle.sqlite_disk.specs.contracts.modelled.Modelled as file
 use Rattle.sqlite_std_file.specs.contracts.host.Host.{the_row}
+use Rattle.synced_disk.specs.contracts.synced.SyncedDiskDisk.TheImpl as synced
 use Rattle.sqlite_std_file.specs.contracts.host.HostCalls.TheImpl as host
 use Rattle.sqlite_wal.specs.Files.{image_at}
 use Rattle.sqlite_wal.specs.Recovery.{Image}
@@ -23,10 +25,16 @@ visit-answer-requires g c = c.in-Ok-copy_to.ensures.trees
 
 pub returns-in-Ok-copy_to-clause-visited : goal.returns-in-Ok-copy_to-clause-visited
 returns-in-Ok-copy_to-clause-visited g c =
-    let one = modelled.ghosts the_row g.row.S host.ghosts host.dict g.S.Start g.S.Start-dict
-    g.S.Destruct-dict in
-    let two = modelled.ghosts the_row g.row.T host.ghosts host.dict g.T.Start g.T.Start-dict
-    g.T.Destruct-dict in
+    let one = synced.ghosts (file.the_row the_row g.row.S host.ghosts g.S.Start)
+    (modelled.ghosts the_row g.row.S host.ghosts host.dict g.S.Start g.S.Start-dict
+    g.S.Destruct-dict)
+    (modelled.dict the_row g.row.S host.ghosts host.dict g.S.Start g.S.Start-dict
+    g.S.Destruct-dict) in
+    let two = synced.ghosts (file.the_row the_row g.row.T host.ghosts g.T.Start)
+    (modelled.ghosts the_row g.row.T host.ghosts host.dict g.T.Start g.T.Start-dict
+    g.T.Destruct-dict)
+    (modelled.dict the_row g.row.T host.ghosts host.dict g.T.Start g.T.Start-dict
+    g.T.Destruct-dict) in
     let visited = c.visit-answer in
     let work = g.V.Visit.work file_names c.args.visit.now visited.new.visit in
     let original = Some c.copy_to.new.from in
@@ -48,8 +56,11 @@ returns-in-Ok-copy_to-clause-visited g c =
 
 pub returns-in-Ok-copy_to-clause-original : goal.returns-in-Ok-copy_to-clause-original
 returns-in-Ok-copy_to-clause-original g c =
-    were_only_read (modelled.ghosts the_row g.row.S host.ghosts host.dict g.S.Start g.S.Start-dict
-    g.S.Destruct-dict) (λ file. inl refl) (image_at g.S.Start) c.in-Ok.files c.copy_to.new.from
+    were_only_read (synced.ghosts (file.the_row the_row g.row.S host.ghosts g.S.Start)
+    (modelled.ghosts the_row g.row.S host.ghosts host.dict g.S.Start g.S.Start-dict
+    g.S.Destruct-dict)
+    (modelled.dict the_row g.row.S host.ghosts host.dict g.S.Start g.S.Start-dict
+    g.S.Destruct-dict)) (λ file. inl refl) (image_at g.S.Start) c.in-Ok.files c.copy_to.new.from
     c.in-Ok.ensures.kept c.copy_to.ensures.read
 
 pub returns-in-Ok-copy_to-clause-copied : goal.returns-in-Ok-copy_to-clause-copied
@@ -57,16 +68,25 @@ returns-in-Ok-copy_to-clause-copied g c = λ answered. c.visit-answer.ensures.ca
 
 pub returns-in-Err-copy_to-clause-original : goal.returns-in-Err-copy_to-clause-original
 returns-in-Err-copy_to-clause-original g c =
-    were_only_read (modelled.ghosts the_row g.row.S host.ghosts host.dict g.S.Start g.S.Start-dict
-    g.S.Destruct-dict) (λ file. inl refl) (image_at g.S.Start) c.in-Ok.files c.copy_to.new.from
+    were_only_read (synced.ghosts (file.the_row the_row g.row.S host.ghosts g.S.Start)
+    (modelled.ghosts the_row g.row.S host.ghosts host.dict g.S.Start g.S.Start-dict
+    g.S.Destruct-dict)
+    (modelled.dict the_row g.row.S host.ghosts host.dict g.S.Start g.S.Start-dict
+    g.S.Destruct-dict)) (λ file. inl refl) (image_at g.S.Start) c.in-Ok.files c.copy_to.new.from
     c.in-Ok.ensures.kept c.copy_to.ensures.read
 
 pub returns-in-Err-copy_to-clause-refused : goal.returns-in-Err-copy_to-clause-refused
 returns-in-Err-copy_to-clause-refused g c =
-    let one = modelled.ghosts the_row g.row.S host.ghosts host.dict g.S.Start g.S.Start-dict
-    g.S.Destruct-dict in
-    let two = modelled.ghosts the_row g.row.T host.ghosts host.dict g.T.Start g.T.Start-dict
-    g.T.Destruct-dict in
+    let one = synced.ghosts (file.the_row the_row g.row.S host.ghosts g.S.Start)
+    (modelled.ghosts the_row g.row.S host.ghosts host.dict g.S.Start g.S.Start-dict
+    g.S.Destruct-dict)
+    (modelled.dict the_row g.row.S host.ghosts host.dict g.S.Start g.S.Start-dict
+    g.S.Destruct-dict) in
+    let two = synced.ghosts (file.the_row the_row g.row.T host.ghosts g.T.Start)
+    (modelled.ghosts the_row g.row.T host.ghosts host.dict g.T.Start g.T.Start-dict
+    g.T.Destruct-dict)
+    (modelled.dict the_row g.row.T host.ghosts host.dict g.T.Start g.T.Start-dict
+    g.T.Destruct-dict) in
     let original = c.copy_to.new.from in
     let copy = c.in-Err-copy_to.copies in
     subst (WhyNotCopied one two (image_at g.S.Start) (Some original) (Refused copy))
@@ -76,10 +96,16 @@ returns-in-Err-copy_to-clause-refused g c =
 
 pub returns-in-Ok-copy_to-clause-refused : goal.returns-in-Ok-copy_to-clause-refused
 returns-in-Ok-copy_to-clause-refused g c =
-    let one = modelled.ghosts the_row g.row.S host.ghosts host.dict g.S.Start g.S.Start-dict
-    g.S.Destruct-dict in
-    let two = modelled.ghosts the_row g.row.T host.ghosts host.dict g.T.Start g.T.Start-dict
-    g.T.Destruct-dict in
+    let one = synced.ghosts (file.the_row the_row g.row.S host.ghosts g.S.Start)
+    (modelled.ghosts the_row g.row.S host.ghosts host.dict g.S.Start g.S.Start-dict
+    g.S.Destruct-dict)
+    (modelled.dict the_row g.row.S host.ghosts host.dict g.S.Start g.S.Start-dict
+    g.S.Destruct-dict) in
+    let two = synced.ghosts (file.the_row the_row g.row.T host.ghosts g.T.Start)
+    (modelled.ghosts the_row g.row.T host.ghosts host.dict g.T.Start g.T.Start-dict
+    g.T.Destruct-dict)
+    (modelled.dict the_row g.row.T host.ghosts host.dict g.T.Start g.T.Start-dict
+    g.T.Destruct-dict) in
     let visited = c.visit-answer in
     let original = c.copy_to.new.from in
     let copy = visited.result.1 in

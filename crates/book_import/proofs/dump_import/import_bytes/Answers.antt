@@ -11,7 +11,7 @@ use Rattle.book_model.specs.Words.{Front, front}
 use Rattle.book_import.specs.declared.receipt.Receipt.{Receipt}
 use Rattle.book_import.specs.Dumps.{stop_after}
 use Rattle.book_import.specs.Imports.{Imports}
-use Rattle.book_import.specs.ReadLimits.{piece_length}
+use Rattle.book_import.specs.ReadLimits.{read_length}
 use Rattle.book_import.specs.Receipts.{counted}
 use Rattle.book_import.specs.Pieces.{CountsPiece}
 use Rattle.book_import.proofs.FeedLemmas.{holds_here}
@@ -71,8 +71,8 @@ pub import_piece-requires-clause-few : goal.import_piece-requires-clause-few
 import_piece-requires-clause-few g c =
     let joins = c.loop-rest.invariant in
     let rest = c.loop-rest.rest.now in
-    let piece : length c.next_piece.result.0.now ≡ min piece_length (length rest) =
-    ap length c.next_piece.ensures.piece ∙ length-take piece_length rest in
+    let piece : length c.next_part.result.0.now ≡ min read_length (length rest) =
+    ap length c.next_part.ensures.first ∙ length-take read_length rest in
     let all : length joins.0 + length rest ≡ length c.args.bytes.now =
     sym (length-append joins.0 rest) ∙ ap length joins.1 in
     omega (arith, joins.2, piece, all)
@@ -82,12 +82,12 @@ returns-in-Some-clause-booked g c =
     let seen = g.L.Ledger.seen c.args.ledger.now in
     let now = g.L.Ledger.seen c.import_piece.new.ledger in
     let joins = c.loop-rest.invariant in
-    let piece = c.next_piece.result.0.now in
-    let later = c.next_piece.result.1.now in
+    let piece = c.next_part.result.0.now in
+    let later = c.next_part.result.1.now in
     let told = c.stopped_by.result in
     subst (λ all. IsTransition seen now (Imports seen.naming c.args.layout None all told))
-    (pieces_go_on joins.0 c.loop-rest.rest.now piece later c.args.bytes.now piece_length joins.1
-    c.next_piece.ensures.piece c.next_piece.ensures.later)
+    (pieces_go_on joins.0 c.loop-rest.rest.now piece later c.args.bytes.now read_length joins.1
+    c.next_part.ensures.first c.next_part.ensures.later)
     (joins_stopped_before seen (g.L.Ledger.seen c.loop-rest.ledger) c.loop-rest.receipt joins.3 now
     piece c.import_piece.new.receipt told c.in-Some.stop c.in-Some.ensures.handled c.stopped_by.ensures
     later None)
@@ -96,18 +96,18 @@ pub returns-in-Some-clause-pieces : goal.returns-in-Some-clause-pieces
 returns-in-Some-clause-pieces g c =
     let joins = c.loop-rest.invariant in
     let rest = c.loop-rest.rest.now in
-    let piece = c.next_piece.result.0.now in
-    let later = c.next_piece.result.1.now in
-    let long : length piece ≡ min piece_length (length rest) =
-    ap length c.next_piece.ensures.piece ∙ length-take piece_length rest in
+    let piece = c.next_part.result.0.now in
+    let later = c.next_part.result.1.now in
+    let long : length piece ≡ min read_length (length rest) =
+    ap length c.next_part.ensures.first ∙ length-take read_length rest in
     let more = holds_here joins.3 (λ l text. CountsPiece l text piece c.loop-rest.receipt
     c.import_piece.new.receipt (Some c.in-Some.stop)) c.in-Some.ensures.counts in
     stopped_in_pieces (g.L.Ledger.seen c.args.ledger.now) (g.L.Ledger.seen c.loop-rest.ledger)
     c.loop-rest.receipt joins.3 (g.L.Ledger.seen c.import_piece.new.ledger) piece later
     c.args.bytes.now c.import_piece.new.receipt c.stopped_by.result c.in-Some.stop
     c.in-Some.ensures.handled c.stopped_by.ensures
-    (pieces_go_on joins.0 rest piece later c.args.bytes.now piece_length joins.1
-    c.next_piece.ensures.piece c.next_piece.ensures.later)
+    (pieces_go_on joins.0 rest piece later c.args.bytes.now read_length joins.1
+    c.next_part.ensures.first c.next_part.ensures.later)
     (omega (arith, long)) joins.4 more.1
 
 pub loop-rest-smaller : goal.loop-rest-smaller
@@ -115,18 +115,18 @@ loop-rest-smaller g c =
     let rest = c.loop-rest.rest.now in
     let some : 0 < length rest = some_left (length rest)
     (sym c.is_empty.ensures ∙ c.loop-rest-test.true) in
-    let later : length c.next_piece.result.1.now ≡ length rest - piece_length =
-    ap length c.next_piece.ensures.later ∙ length-drop piece_length rest in
+    let later : length c.next_part.result.1.now ≡ length rest - read_length =
+    ap length c.next_part.ensures.later ∙ length-drop read_length rest in
     omega (arith, some, later)
 
 pub loop-rest-preserved : goal.loop-rest-preserved
 loop-rest-preserved g c =
     let joins = c.loop-rest.invariant in
-    let piece = c.next_piece.result.0.now in
-    let later = c.next_piece.result.1.now in (
+    let piece = c.next_part.result.0.now in
+    let later = c.next_part.result.1.now in (
       joins.0 ++ piece,
-      pieces_go_on joins.0 c.loop-rest.rest.now piece later c.args.bytes.now piece_length joins.1
-          c.next_piece.ensures.piece c.next_piece.ensures.later,
+      pieces_go_on joins.0 c.loop-rest.rest.now piece later c.args.bytes.now read_length joins.1
+          c.next_part.ensures.first c.next_part.ensures.later,
       omega (arith, joins.2, c.in-None.ensures.counted, length-append joins.0 piece),
       joins_more (g.L.Ledger.seen c.args.ledger.now) (g.L.Ledger.seen c.loop-rest.ledger)
           c.loop-rest.receipt joins.3 (g.L.Ledger.seen c.import_piece.new.ledger)

@@ -1,5 +1,6 @@
 use Rattle.streams.specs.Sources.{has_ended}
 use Rattle.book_http.proofs.ReadLemmas.{gave_as}
+use Rattle.chargectl.specs.ClientRequests.{later_of}
 use Rattle.chargectl.proofs.ClientLemmas.{served_from}
 use Rattle.chargectl.proofs.client_requests.serve_request.Goals as goal
 
@@ -11,7 +12,7 @@ returns-in-Ok-clause-served g c =
     gave_as c.in-Ok.ensures.asks
     (λ taken asking. served_from g.S.Repository.shelf c.args.repository.now from.new.repository
     c.args.book.now taken ended (contents c.args.writer) (contents from.result.1)
-    from.result.0.served from.ensures.answered
+    from.result.0.served (later_of from.result.0) from.ensures.answered
     (record {
       request = c.in-Ok.request;
       asks = asking;

@@ -1,7 +1,8 @@
-use Rattle.std.proofs.Common.{refl, subst, sym}
+use Rattle.std.proofs.Common.{◌+◌, arith, length, refl, subst, sym}
 use Rattle.without_books.specs.ServedLines.{seen_of}
+use Rattle.chargectl.specs.ClientRequests.{told_of}
 use Rattle.chargectl.specs.Serving.{CameInTurn}
-use Rattle.chargectl.proofs.ServingLemmas.{log_left, serving_more}
+use Rattle.chargectl.proofs.ServingLemmas.{log_left, serving_more, told_count}
 use Rattle.chargectl.proofs.serve.serve_each.Goals as goal
 
 pub loop-connections-preserved : goal.loop-connections-preserved
@@ -14,15 +15,22 @@ loop-connections-preserved g c =
           g.C.Connections.left c.args.connections.now c.loop-connections.connections
           c.next.new.self c.args.book.now c.args.repository.now c.loop-connections.repository
           c.next.new.repository
-          (seen c.args.lines.now) (seen c.loop-connections.lines) (seen c.say_served.new.lines)
-          c.in-Ok.attended.served c.loop-connections.invariant.serving c.in-Ok.ensures.came
-          c.in-Ok.ensures.served.done c.say_served.ensures c.next.ensures.left;
+          (seen c.args.lines.now) (seen c.loop-connections.lines) (seen c.say_attended.new.lines)
+          (told_of c.in-Ok.attended) c.loop-connections.invariant.serving c.in-Ok.ensures.came
+          c.say_attended.ensures c.in-Ok.ensures.left;
       log = subst (λ is. (shelf c.next.new.repository).has_log c.args.book.now is)
           (sym c.unwrap_or-has_log.ensures)
           (log_left shelf c.args.book.now c.loop-connections.repository c.next.new.repository
           c.loop-connections.has_log c.in-Ok.attended.log c.loop-connections.invariant.log
-          c.in-Ok.ensures.served.log);
+          c.in-Ok.ensures.log);
     }
+
+-- at least one was told of
+pub loop-connections-smaller : goal.loop-connections-smaller
+loop-connections-smaller g c =
+    let left = c.in-Ok.ensures.left in
+    let count = told_count c.in-Ok.attended in
+    omega (arith, left, count)
 
 -- one did not come: the books are as they were
 pub returns-in-Err-clause-served : goal.returns-in-Err-clause-served
@@ -39,7 +47,7 @@ returns-in-Err-clause-served g c =
         lines = it.lines;
       };
       ends = c.in-Err.ensures.failed;
-      count = c.next.ensures.left;
+      count = c.in-Err.ensures.left;
     }
 
 pub returns-clause-served : goal.returns-clause-served

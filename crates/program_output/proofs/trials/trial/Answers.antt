@@ -17,17 +17,18 @@ use Rattle.program_output.proofs.TrialLemmas.{IsBooked, is_booked, never_closed,
 use Rattle.program_output.proofs.TrialLemmas.{no_trial, texts_written}
 use Rattle.program_output.proofs.trials.trial.Given.{Over}
 use Rattle.program_output.proofs.trials.trial.Goals as goal
-use Rattle.program_output.proofs.trials.trial.Goals.{After-import-receipt}
+use Rattle.program_output.proofs.trials.trial.Goals.{After-import_by_pieces-receipt}
 
 -- what the import made of the new books
-booked : (g : Over) (c : After-import-receipt g)
-    → IsBooked c.args.tariff c.args.layout (cut_of c.import-receipt.new.source)
-    c.import-receipt.ensures.booked.0 c.import-receipt.result (book_in c.import-receipt.new.ledger)
+booked : (g : Over) (c : After-import_by_pieces-receipt g)
+    → IsBooked c.args.tariff c.args.layout (cut_of c.import_by_pieces-receipt.new.source)
+    c.import_by_pieces-receipt.ensures.booked.0 c.import_by_pieces-receipt.result
+    (book_in c.import_by_pieces-receipt.new.ledger)
 booked g c =
-    is_booked c.args.tariff c.args.layout (cut_of c.import-receipt.new.source)
-    c.import-receipt.ensures.booked.0 c.import-receipt.result _
-    (book_in c.in_ok-ledger.ledger) (book_in c.import-receipt.new.ledger)
-    c.in_ok-ledger.ensures.book c.import-receipt.ensures.booked.2
+    is_booked c.args.tariff c.args.layout (cut_of c.import_by_pieces-receipt.new.source)
+    c.import_by_pieces-receipt.ensures.booked.0 c.import_by_pieces-receipt.result _
+    (book_in c.in_ok-ledger.ledger) (book_in c.import_by_pieces-receipt.new.ledger)
+    c.in_ok-ledger.ensures.book c.import_by_pieces-receipt.ensures.booked.2
 
 pub returns-in_err-ledger-clause-trial : goal.returns-in_err-ledger-clause-trial
 returns-in_err-ledger-clause-trial g c =
@@ -36,95 +37,96 @@ returns-in_err-ledger-clause-trial g c =
     c.requires.unread c.requires.unended)
 
 -- no period of these books was closed: their statement is that of the open one
-first : (g : Over) (c : After-import-receipt g)
-    → shown_by (statement_text 1 (closed_through (book_in c.import-receipt.new.ledger) 1))
-    (charges_outcome 1 (book_in c.import-receipt.new.ledger)).answer
-    ≡ Ok (open_statement (book_in c.import-receipt.new.ledger))
+first : (g : Over) (c : After-import_by_pieces-receipt g)
+    → shown_by (statement_text 1 (closed_through (book_in c.import_by_pieces-receipt.new.ledger) 1))
+    (charges_outcome 1 (book_in c.import_by_pieces-receipt.new.ledger)).answer
+    ≡ Ok (open_statement (book_in c.import_by_pieces-receipt.new.ledger))
 first g c =
-    let book = book_in c.import-receipt.new.ledger in
+    let book = book_in c.import_by_pieces-receipt.new.ledger in
     first_statement book
-    (never_closed c.args.tariff c.args.layout (cut_of c.import-receipt.new.source)
-    c.import-receipt.ensures.booked.0 c.import-receipt.result book (booked g c))
+    (never_closed c.args.tariff c.args.layout (cut_of c.import_by_pieces-receipt.new.source)
+    c.import_by_pieces-receipt.ensures.booked.0 c.import_by_pieces-receipt.result book (booked g c))
 
 pub returns-in_err-receipt_line-clause-trial : goal.returns-in_err-receipt_line-clause-trial
 returns-in_err-receipt_line-clause-trial g c =
     let answer = c.from_residual-in_err-receipt_line in
     let failed = err_from_is_err_and answer.result answer.ensures.1 in
-    let book = book_in c.import-receipt.new.ledger in
-    let import = c.import-receipt.ensures in
+    let book = book_in c.import_by_pieces-receipt.new.ledger in
+    let import = c.import_by_pieces-receipt.ensures in
     let receipt = c.in_err-receipt_line.ensures.text in
     let written = others_unwritten failed.0 (open_statement book ∷ dispute_text book ∷ [])
     (rw failed.2 receipt) in
     rw failed.1
-    (is_trial c.import-receipt.result import.booked.0 import.booked.1
-    (booked g (goal.at.returns-in_err-receipt_line-clause-trial g c).After-import-receipt)
+    (is_trial c.import_by_pieces-receipt.result import.booked.0 import.booked.1
+    (booked g (goal.at.returns-in_err-receipt_line-clause-trial g c).After-import_by_pieces-receipt)
     written tt)
 
 pub returns-in_err-statement-clause-trial : goal.returns-in_err-statement-clause-trial
 returns-in_err-statement-clause-trial g c =
     let answer = c.from_residual-in_err-statement in
     let failed = err_from_is_err_and answer.result answer.ensures.1 in
-    let book = book_in c.import-receipt.new.ledger in
-    let import = c.import-receipt.ensures in
+    let book = book_in c.import_by_pieces-receipt.new.ledger in
+    let import = c.import_by_pieces-receipt.ensures in
     let end = g.W.Write.contents (writer_of c.statement.new.sink) in
     let refused : Result Receipt ReportFault = Err failed.0 in
     let statement =
     others_unwritten failed.0 (dispute_text book ∷ [])
     (rw failed.2 (report_writes c.in_err-statement.ensures.report (open_statement book)
-    (first g (goal.at.returns-in_err-statement-clause-trial g c).After-import-receipt))) in
+    (first g (goal.at.returns-in_err-statement-clause-trial g c).After-import_by_pieces-receipt))) in
     let written =
-    others_written (receipt_line_text c.import-receipt.result)
+    others_written (receipt_line_text c.import_by_pieces-receipt.result)
     (open_statement book ∷ dispute_text book ∷ []) _ _ end refused
     c.in_ok-receipt_line.ensures.text statement in
     rw failed.1
-    (is_trial c.import-receipt.result import.booked.0 import.booked.1
-    (booked g (goal.at.returns-in_err-statement-clause-trial g c).After-import-receipt)
+    (is_trial c.import_by_pieces-receipt.result import.booked.0 import.booked.1
+    (booked g (goal.at.returns-in_err-statement-clause-trial g c).After-import_by_pieces-receipt)
     written tt)
 
 pub returns-in_err-dispute_list-clause-trial : goal.returns-in_err-dispute_list-clause-trial
 returns-in_err-dispute_list-clause-trial g c =
     let answer = c.from_residual-in_err-dispute_list in
     let failed = err_from_is_err_and answer.result answer.ensures.1 in
-    let book = book_in c.import-receipt.new.ledger in
-    let import = c.import-receipt.ensures in
+    let book = book_in c.import_by_pieces-receipt.new.ledger in
+    let import = c.import_by_pieces-receipt.ensures in
     let end = g.W.Write.contents (writer_of c.dispute_list.new.sink) in
     let after = book_in c.statement.new.ledger in
     let written =
-    texts_written c.import-receipt.result book after _ _ _ end (Err failed.0)
+    texts_written c.import_by_pieces-receipt.result book after _ _ _ end (Err failed.0)
     (report_stays c.in_ok-statement.ensures.report refl) c.in_ok-receipt_line.ensures.text
     (report_writes c.in_ok-statement.ensures.report (open_statement book)
-    (first g (goal.at.returns-in_err-dispute_list-clause-trial g c).After-import-receipt))
+    (first g (goal.at.returns-in_err-dispute_list-clause-trial g c).After-import_by_pieces-receipt))
     (rw failed.2 (report_writes c.in_err-dispute_list.ensures.report (dispute_text after) refl)) in
     rw failed.1
-    (is_trial c.import-receipt.result import.booked.0 import.booked.1
-    (booked g (goal.at.returns-in_err-dispute_list-clause-trial g c).After-import-receipt)
+    (is_trial c.import_by_pieces-receipt.result import.booked.0 import.booked.1
+    (booked g (goal.at.returns-in_err-dispute_list-clause-trial g c).After-import_by_pieces-receipt)
     written tt)
 
 pub returns-clause-trial : goal.returns-clause-trial
 returns-clause-trial g c =
-    let book = book_in c.import-receipt.new.ledger in
-    let import = c.import-receipt.ensures in
+    let book = book_in c.import_by_pieces-receipt.new.ledger in
+    let import = c.import_by_pieces-receipt.ensures in
     let end = g.W.Write.contents (writer_of c.dispute_list.new.sink) in
     let after = book_in c.statement.new.ledger in
     let written =
-    texts_written c.import-receipt.result book after _ _ _ end (Ok c.import-receipt.result)
+    texts_written c.import_by_pieces-receipt.result book after _ _ _ end
+    (Ok c.import_by_pieces-receipt.result)
     (report_stays c.in_ok-statement.ensures.report refl) c.in_ok-receipt_line.ensures.text
     (report_writes c.in_ok-statement.ensures.report (open_statement book)
-    (first g (goal.at.returns-clause-trial g c).After-import-receipt))
+    (first g (goal.at.returns-clause-trial g c).After-import_by_pieces-receipt))
     (report_writes c.in_ok-dispute_list.ensures.report (dispute_text after) refl) in
-    is_trial c.import-receipt.result import.booked.0 import.booked.1
-    (booked g (goal.at.returns-clause-trial g c).After-import-receipt)
+    is_trial c.import_by_pieces-receipt.result import.booked.0 import.booked.1
+    (booked g (goal.at.returns-clause-trial g c).After-import_by_pieces-receipt)
     written refl
 
 pub returns-in_err-statement-clause-fault : goal.returns-in_err-statement-clause-fault
 returns-in_err-statement-clause-fault g c =
     let answer = c.from_residual-in_err-statement in
     let failed = err_from_is_err_and answer.result answer.ensures.1 in
-    let book = book_in c.import-receipt.new.ledger in
+    let book = book_in c.import_by_pieces-receipt.new.ledger in
     rw failed.1
     (ap is_write_or_memory failed.2
     ∙ report_fault c.in_err-statement.ensures.report (open_statement book)
-    (first g (goal.at.returns-in_err-statement-clause-fault g c).After-import-receipt))
+    (first g (goal.at.returns-in_err-statement-clause-fault g c).After-import_by_pieces-receipt))
 
 pub returns-in_err-dispute_list-clause-fault : goal.returns-in_err-dispute_list-clause-fault
 returns-in_err-dispute_list-clause-fault g c =

@@ -1,8 +1,9 @@
 use Rattle.std.proofs.Common.{arith, length-take-le, sym, take_all}
+use Rattle.table_ledger.specs.Stages.{most_in_commit}
 use Rattle.table_ledger.proofs.ledger.first_records.Goals as goal
 
 pub slice_bounds-result-end : goal.slice_bounds-result-end
-slice_bounds-result-end c = sym (length-take-le 1000 c.args.records.now (omega arith))
+slice_bounds-result-end c = sym (length-take-le most_in_commit c.args.records.now (omega arith))
 
 pub returns-else-records-gt-MOST_IN_COMMIT-clause-first : goal.returns-else-records-gt-MOST_IN_COMMIT-clause-first
 returns-else-records-gt-MOST_IN_COMMIT-clause-first c = sym (take_all _ _ c.if-records-gt-MOST_IN_COMMIT.false)

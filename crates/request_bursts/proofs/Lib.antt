@@ -1,0 +1,2 @@
+-- Clients that are answered one after the other from books that are open for all of them.
+pub mod BurstLemmas

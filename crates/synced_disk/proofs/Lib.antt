@@ -1,0 +1,2 @@
+-- Files that were just opened are synced.
+pub mod FreshLemmas

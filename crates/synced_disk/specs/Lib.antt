@@ -1,0 +1,2 @@
+-- What a disk shows that is not synced twice.
+pub mod Synced
