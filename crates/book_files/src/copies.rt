@@ -7,7 +7,7 @@ ghost use Rattle.book_sessions.specs.Sessions.{AreHonest, AreOpened, TriesToMove
 ghost use Rattle.book_restarts.specs.FileBooks.{file_names};
 
 use crate::copied::{Copied, CopyFault, copy_fault};
-use crate::kept_pages::pages_for;
+use crate::kept_pages::copy_pages_for;
 use book_sessions::{Ended, refused};
 use book_trees::{copy_to, lock_at};
 use named_books::Visit;
@@ -53,7 +53,7 @@ pub fn visit_copy_at<S: Start, T: Start, V: Visit>(
             };
         }
     };
-    let pages = pages_for(visit.is_brief());
+    let pages = copy_pages_for(visit.is_brief());
     match copy_to(rt, &mut files, copy, seed, pages, held) {
         Ok(store) => {
             let (answer, ended) = book_sessions::visit(rt.alloc(), Ok(store), visit);
