@@ -52,11 +52,13 @@ impl<R: Read + Drop> Visit for OfficeRequest<R> {
         once_answered naming request.asked (left_of R.remaining request.input)
         (response_by told) };
 
-    /// A report is, but for coverage, which looks each record up wherever it lies. Imports, rulings
-    /// and other prices go over many pages.
+    /// A report is, but for those that look records up wherever these lie: coverage, which a period's
+    /// page has too, and bills. Imports, rulings and other prices go over many pages.
     fn is_brief(&self) -> bool {
         match &self.asked {
             Asked::Report(Report::Coverage { .. }) => false,
+            Asked::Report(Report::PeriodPage(_)) => false,
+            Asked::Report(Report::Bill { .. }) => false,
             Asked::Report(_) => true,
             _ => false,
         }

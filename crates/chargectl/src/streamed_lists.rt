@@ -111,10 +111,10 @@ impl<O: Writer + Drop> Visit for Listing<O> {
     ghost answered = { λ naming it after told. listing_answered (list_answer it.list) naming
         (O.contents (writer_of it.sink)) (O.contents (writer_of after.sink)) told };
 
-    /// Details and rulings are read in the order in which they lie, and no page twice. A list of
-    /// disputes looks their records up wherever these lie.
+    /// Rulings are few. Details go over many pages, and a list of disputes looks their records up
+    /// wherever these lie.
     fn is_brief(&self) -> bool {
-        !matches!(self.list, StreamedList::Disputes(_))
+        matches!(self.list, StreamedList::Rulings)
     }
 
     fn visit<L: Ledger>(&mut self, books: &mut L) -> Result<(), ReportFault> {
