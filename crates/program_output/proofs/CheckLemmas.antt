@@ -1,6 +1,6 @@
 -- What makes a check: a dump, listed piece by piece.
 use Rattle.std.proofs.Common.{◌≡◌, ℕ, List, [], ◌++◌, length, sym, ap, subst, Option, Some, None}
-use Rattle.std.proofs.Common.{Result, Ok, Err, ◌∙◌, ◌+◌, ◌<◌, ◌≤◌, false, append-nil, ◌||◌, IfOk}
+use Rattle.std.proofs.Common.{Result, Ok, Err, ◌∙◌, ◌+◌, ◌<◌, ◌≤◌, Bool, false, append-nil, ◌||◌, IfOk}
 use Rattle.std.proofs.Common.{unwrap_or}
 use Rattle.std.specs.Io.KnownBytes.{Consumes, Appends}
 use Rattle.std.proofs.KnownBytes.{Appends-nil, Consumes-nil}
@@ -20,12 +20,14 @@ use Rattle.book_lists.specs.declared.fault.ReportFault.{ReportFault}
 use Rattle.book_lists.specs.Streamed.{WritesFirst}
 use Rattle.book_lists.specs.Writing.{WritesUntil}
 use Rattle.book_lists.proofs.StreamedLemmas.{is_short, some_behind, written_of_more}
+use Rattle.program_output.specs.declared.listing.Checked.{Checked}
 use Rattle.program_output.specs.declared.listing.Listing.{Listing}
 use Rattle.program_output.specs.Readings.{reading}
 use Rattle.program_output.specs.Checks.{IsCheck, AreWritten}
 use Rattle.book_reports.specs.CheckLists.{record_lines, last_line, check_list_text}
 use Rattle.program_output.specs.Listings.{HasListed, WritesSome, ListsPiece, Breaks, waiting}
-use Rattle.program_output.specs.Listings.{listed_count}
+use Rattle.program_output.specs.Listings.{checked_as, listed_count, listed_marks}
+use Rattle.program_output.specs.Marks.{is_torn, marks_in}
 use Rattle.program_output.proofs.LineLemmas.{last_line_some}
 use Rattle.program_output.proofs.ListingLemmas.{listed_whole, until_grows, grows_on, lines_written}
 
@@ -58,13 +60,33 @@ list_some records stop =
     some_behind (record_lines 1 records) (last_line count stop) (last_line_some count stop)
 
 -- the stop that is answered is the one at which the reading ended
-ends_told : (allowed : ℕ) (found : Front) (input : Input) (stop : Stop)
-    (answer : Result Stop ReportFault) → IfOk answer (λ told. told ≡ stop)
+ends_told : (allowed : ℕ) (found : Front) (input : Input) (stop : Stop) (torn : Bool)
+    (answer : Result Checked ReportFault)
+    → IfOk answer (λ told. told ≡ record { stop = stop; is_torn = torn })
     → EndsBy allowed (is_early_stop found stop) input
-    → IfOk answer (λ told. EndsBy allowed (is_early_stop found told) input)
-ends_told allowed found input stop (Ok told) same ends =
-    subst (λ stop. EndsBy allowed (is_early_stop found stop) input) (sym same) ends
-ends_told allowed found input stop (Err fault) same ends = tt
+    → IfOk answer (λ told. EndsBy allowed (is_early_stop found told.stop) input)
+ends_told allowed found input stop torn (Ok told) same ends =
+    subst (λ stop. EndsBy allowed (is_early_stop found stop) input)
+    (sym (ap (λ (told : Checked). told.stop) same)) ends
+ends_told allowed found input stop torn (Err fault) same ends = tt
+
+-- what the listing tells is told of its records
+told_so : (records : List (List ℕ)) (held had : Option (List ℕ)) (began : Listing) (stop : Stop)
+    (answer : Result Checked ReportFault) → HasListed records held had began
+    → IfOk answer (λ told. told ≡ checked_as stop (listed_count began) (listed_marks began))
+    → IfOk answer (λ told. told ≡ checked_as stop (length records) (marks_in records))
+told_so records held had began stop answer listed told =
+    subst (λ marks. IfOk answer (λ told. told ≡ checked_as stop (length records) marks)) listed.marks
+    (subst (λ count. IfOk answer (λ told. told ≡ checked_as stop count (listed_marks began))) listed.count
+    told)
+
+-- no books stop a check
+pub no_books : (stop : Stop) (records : ℕ) (listing : Listing) (answer : Result Checked ReportFault)
+    → IfOk answer (λ told. told ≡ checked_as stop records (listed_marks listing))
+    → is_stop_of_books stop ≡ false → IfOk answer (λ told. is_stop_of_books told.stop ≡ false)
+no_books stop records listing (Ok told) same other =
+    ap (λ (told : Checked). is_stop_of_books told.stop) same ∙ other
+no_books stop records listing (Err fault) same other = tt
 
 -- the lines of all bytes before the last piece were written before it was read
 written_before : (layout : Layout) (input : Input) (bytes piece : List ℕ) (joiner : Joining)
@@ -93,7 +115,7 @@ module _ {layout : Layout} {cut : Option Stop} {allowed : ℕ} {input : Input} w
       list_some (front layout []).records (stop_after cut (front layout [])),
       Appends-nil held,
     );
-    stop = tt;
+    told = tt;
     ends = tt;
     no_further = nothing_further layout (AreWritten held held) input ([], Appends-nil held)
         (ap (λ (one : ReaderSeen). one.reads) same);
@@ -101,11 +123,11 @@ module _ {layout : Layout} {cut : Option Stop} {allowed : ℕ} {input : Input} w
 
   -- the last line was written after the lines of these bytes, or not all of what was left of them
   is_check : (bytes : List ℕ) (began : Listing) (held had has : Option (List ℕ))
-      (stop : Stop) (answer : Result Stop ReportFault)
+      (stop : Stop) (answer : Result Checked ReportFault)
       → HasListed (front layout bytes).records held had began
       → stop ≡ stop_after cut (front layout bytes)
       → WritesUntil (waiting began ++ last_line (listed_count began) stop) had has answer
-      → IfOk answer (λ told. told ≡ stop)
+      → IfOk answer (λ told. told ≡ checked_as stop (listed_count began) (listed_marks began))
       → Consumes input.old.left input.new.left bytes
       → EndsBy allowed (is_early_stop (front layout bytes) stop) input
       → IsNoFurther layout bytes (AreWritten held has) input
@@ -118,20 +140,23 @@ module _ {layout : Layout} {cut : Option Stop} {allowed : ℕ} {input : Input} w
             held has answer) same
             (listed_whole (front layout bytes).records stop held had has began answer listed
             written);
-        stop = subst (λ stop. IfOk answer (λ told. told ≡ stop)) same told;
-        ends = ends_told allowed (front layout bytes) input stop answer told ends;
+        told = subst (λ stop. IfOk answer (λ told. told ≡ checked_as stop
+            (length (front layout bytes).records) (marks_in (front layout bytes).records))) same
+            (told_so (front layout bytes).records held had began stop answer listed told);
+        ends = ends_told allowed (front layout bytes) input stop
+            (is_torn (listed_count began) (listed_marks began)) answer told ends;
         no_further = no_further;
       }
 
   -- no more pieces came
   pub check_ended : (bytes : List ℕ) (joiner : Joining) (began : Listing)
-      (held had has : Option (List ℕ)) (stop : Stop) (answer : Result Stop ReportFault)
+      (held had has : Option (List ℕ)) (stop : Stop) (answer : Result Checked ReportFault)
       → HasPassed layout bytes joiner (AreListed held had began) → waiting began ≡ []
       → ((text : List ℕ) → HasTaken text joiner
       → stop ≡ unwrap_or cut (frame_stop (front joiner.layout text).fault))
       → is_stop_of_books stop ≡ false
       → WritesUntil (waiting began ++ last_line (listed_count began) stop) had has answer
-      → IfOk answer (λ told. told ≡ stop)
+      → IfOk answer (λ told. told ≡ checked_as stop (listed_count began) (listed_marks began))
       → Consumes input.old.left input.new.left bytes
       → input.new.reads ≤ input.old.reads + length bytes + 1
       → (input.new.has_failed ≡ false → input.new.has_ended ≡ false
@@ -157,10 +182,11 @@ module _ {layout : Layout} {cut : Option Stop} {allowed : ℕ} {input : Input} w
       (failed : input.new.has_failed ≡ false) (ended : input.new.has_ended ≡ false) where
     -- a fault was found in the piece
     pub check_broken : (gets : Option (List ℕ)) (fault : FrameFault)
-        (answer : Result Stop ReportFault) → Breaks joiner piece fault
+        (answer : Result Checked ReportFault) → Breaks joiner piece fault
         → ListsPiece joiner piece began now had has (Ok (Some fault))
         → WritesUntil (waiting now ++ last_line (listed_count now) (Frame fault)) has gets answer
-        → IfOk answer (λ told. told ≡ Frame fault)
+        → IfOk answer
+        (λ told. told ≡ checked_as (Frame fault) (listed_count now) (listed_marks now))
         → IsCheck (reading layout cut allowed input) held gets answer
     check_broken gets fault answer breaks over written told =
         let all = bytes ++ piece in
@@ -196,7 +222,7 @@ module _ {layout : Layout} {cut : Option Stop} {allowed : ℕ} {input : Input} w
               (written_of_more lines part.0 last held has
               (subst (λ b. WritesFirst (record_lines 1 (front layout b).records) part.0 held has)
               (append-nil all) part.1));
-          stop = tt;
+          told = tt;
           ends = tt;
           no_further = written_before layout input bytes piece joiner began held had has lists
               waits grown reads few failed ended;

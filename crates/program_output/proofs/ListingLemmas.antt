@@ -1,17 +1,21 @@
 -- What a list gains with a line, and with what is written of the lines that wait.
 use Rattle.std.proofs.Common.{◌≡◌, ◌∙◌, ℕ, ◌+◌, List, [], ◌∷◌, ◌++◌, length, take, sym, ap, subst}
-use Rattle.std.proofs.Common.{append_assoc, append-nil, length-append, Option, Result, Ok, Err}
+use Rattle.std.proofs.Common.{append_assoc, append-nil, length-append, Option, Result, Ok, Err, refl}
 use Rattle.std.specs.Io.KnownBytes.{Appends}
 use Rattle.std.proofs.KnownBytes.{Appends-trans}
+use Rattle.book_model.specs.Words.{class_of}
 use Rattle.book_import.specs.declared.receipt.Stop.{Stop}
 use Rattle.book_lists.specs.declared.fault.ReportFault.{ReportFault}
 use Rattle.book_lists.specs.Streamed.{WritesFirst}
 use Rattle.book_lists.specs.Writing.{WritesUntil}
 use Rattle.book_lists.proofs.StreamedLemmas.{first_written, rest_until, then_written, written_as}
 use Rattle.book_lists.proofs.StreamedLemmas.{written_of_more}
+use Rattle.program_output.specs.declared.listing.Checked.{Checked}
 use Rattle.program_output.specs.declared.listing.Listing.{Listing}
+use Rattle.program_output.specs.declared.marks.Marks.{Marks}
 use Rattle.book_reports.specs.CheckLists.{record_line, record_lines, last_line, check_list_text}
-use Rattle.program_output.specs.Listings.{HasListed, waiting, listed_count}
+use Rattle.program_output.specs.Listings.{HasListed, waiting, listed_count, listed_marks}
+use Rattle.program_output.specs.Marks.{marks_after, marks_with, no_marks}
 use Rattle.program_output.specs.Checks.{AreWritten}
 use Rattle.book_reports.proofs.NumberLemmas.{lines-append, one_more_line}
 
@@ -37,14 +41,23 @@ lines_on records bytes held had began listed =
     ∙ sym (one_more_line records bytes))
     (written_of_more (record_lines 1 records) (waiting began) line held had listed.lines)
 
+-- the marks of records, with those of one more
+marks_more : (marks : Marks) (records : List (List ℕ)) (bytes : List ℕ)
+    → marks_after marks (records ++ bytes ∷ []) ≡ marks_with (class_of bytes) (marks_after marks records)
+marks_more marks [] bytes = refl
+marks_more marks (one ∷ records) bytes = marks_more (marks_with (class_of one) marks) records bytes
+
 -- one more record was listed
 pub listed_more : (records : List (List ℕ)) (bytes : List ℕ) (held had has : Option (List ℕ))
     (began now : Listing) → HasListed records held had began
     → WritesFirst (waiting began ++ record_line (listed_count began + 1) bytes) (waiting now) had has
     → listed_count now ≡ listed_count began + 1
+    → listed_marks now ≡ marks_with (class_of bytes) (listed_marks began)
     → HasListed (records ++ bytes ∷ []) held has now
-listed_more records bytes held had has began now listed line count = record {
+listed_more records bytes held had has began now listed line count marks = record {
   count = count ∙ ap (λ n. n + 1) listed.count ∙ sym (length-append records (bytes ∷ []));
+  marks = marks ∙ ap (marks_with (class_of bytes)) listed.marks
+      ∙ sym (marks_more no_marks records bytes);
   lines = then_written (record_lines 1 (records ++ bytes ∷ []))
       (waiting began ++ record_line (listed_count began + 1) bytes) (waiting now) held had has
       (lines_on records bytes held had began listed) line;
@@ -72,9 +85,10 @@ line_cut records later bytes left held had has began listed line =
 pub listed_flushed : (records : List (List ℕ)) (held had has : Option (List ℕ))
     (began now : Listing) → HasListed records held had began
     → Appends had has (waiting began) → waiting now ≡ [] → listed_count now ≡ listed_count began
-    → HasListed records held has now
-listed_flushed records held had has began now listed grown none count = record {
+    → listed_marks now ≡ listed_marks began → HasListed records held has now
+listed_flushed records held had has began now listed grown none count marks = record {
   count = count ∙ listed.count;
+  marks = marks ∙ listed.marks;
   lines = then_written (record_lines 1 records) (waiting began) (waiting now) held had has
       listed.lines (all_written (waiting began) (waiting now) had has none grown);
 }
@@ -97,7 +111,7 @@ flush_cut records later count held had has began listed grown =
 
 -- the last line was written after the others, or before a fault not all of what was left
 pub listed_whole : (records : List (List ℕ)) (stop : Stop) (held had has : Option (List ℕ))
-    (began : Listing) (answer : Result Stop ReportFault) → HasListed records held had began
+    (began : Listing) (answer : Result Checked ReportFault) → HasListed records held had began
     → WritesUntil (waiting began ++ last_line (listed_count began) stop) had has answer
     → WritesUntil (check_list_text records stop) held has answer
 listed_whole records stop held had has began answer listed ended =

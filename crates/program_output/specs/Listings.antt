@@ -3,9 +3,13 @@ use Rattle.std.specs.Prelude.{◌≡◌, ℕ, ◌+◌, ◌≤◌, List, ◌++◌
 use Rattle.std.specs.Prelude.{Err, string_bytes}
 use Rattle.book_model.specs.Words.{Layout, FrameFault, front, Joining, HasTaken, broken_by}
 use Rattle.book_import.specs.Pieces.{TakesAll}
+use Rattle.book_import.specs.declared.receipt.Stop.{Stop}
 use Rattle.book_lists.specs.declared.fault.ReportFault.{ReportFault}
 use Rattle.book_lists.specs.Streamed.{WritesFirst}
+use Rattle.program_output.specs.declared.listing.Checked.{Checked}
 use Rattle.program_output.specs.declared.listing.Listing.{Listing}
+use Rattle.program_output.specs.declared.marks.Marks.{Marks}
+use Rattle.program_output.specs.Marks.{is_torn, marks_in}
 use Rattle.book_reports.specs.CheckLists.{record_lines}
 
 -- how many bytes are written at once, at most (the office's rule)
@@ -24,6 +28,14 @@ waiting listing = string_bytes listing.text
 abbrev pub listed_count : Listing → ℕ
 listed_count listing = listing.count
 
+-- which of them are headers and trailers
+abbrev pub listed_marks : Listing → Marks
+listed_marks listing = listing.marks
+
+-- what is told of a dump with so many records and these marks, after this stop
+abbrev pub checked_as : Stop → ℕ → Marks → Checked
+checked_as stop records marks = record { stop = stop; is_torn = is_torn records marks }
+
 -- one more line can be written together with what is waiting
 abbrev pub HasRoom : Listing → Type 0
 HasRoom listing = length (waiting listing) + longest_line ≤ most_written
@@ -32,6 +44,7 @@ HasRoom listing = length (waiting listing) + longest_line ≤ most_written
 pub record HasListed (records : List (List ℕ)) (held holds : Option (List ℕ)) (listing : Listing)
     : Type 0 where
   pub count : listed_count listing ≡ length records
+  pub marks : listed_marks listing ≡ marks_in records
   pub lines : WritesFirst (record_lines 1 records) (waiting listing) held holds
 
 -- the first lines of a text's records were written, whatever bytes follow the text

@@ -16,7 +16,7 @@ ghost use Rattle.program_output.specs.Listings.{TakesOrBreaks};
 ghost use Rattle.program_output.specs.Readings.{reading};
 ghost use Rattle.book_lists.specs.Writing.{is_write_fault, is_write_or_memory};
 
-use crate::listing::Listing;
+use crate::listing::{Checked, Listing};
 use book_core::{Sink, Source};
 use book_import::{PIECE, Stop, read_piece, reading_end};
 use book_reports::ReportFault;
@@ -101,7 +101,7 @@ pub fn check_list<R: Reader + Drop, W: Writer + Drop>(
     layout: Layout,
     reads: u64,
     sink: &mut Sink<W>,
-) -> Result<Stop, ReportFault>
+) -> Result<Checked, ReportFault>
     requires asked { sources.reads_of source.old ≤ 2 ^ 62 }
     requires unread { sources.has_failed source.old ≡ false }
     requires unended { sources.has_ended source.old ≡ false }
@@ -124,7 +124,7 @@ pub fn check_list<R: Reader + Drop, W: Writer + Drop>(
     // asked, so none stop the list or refuse it.
     ensures failed { has_failed sink.new ≡ is_write_fault result }
     ensures fault { IfErr result (λ fault. is_write_or_memory fault ≡ true) }
-    ensures stop { IfOk result (λ stop. is_stop_of_books stop ≡ false) }
+    ensures stop { IfOk result (λ told. is_stop_of_books told.stop ≡ false) }
 {
     let mut joiner = Joiner::new(alloc, layout)?;
     let mut listing = Listing::new(alloc)?;
