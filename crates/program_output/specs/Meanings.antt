@@ -2,7 +2,7 @@
 use Rattle.std.specs.Prelude.{ℕ, List, [], ◌∷◌, ◌++◌, codes}
 use Rattle.program_output.specs.declared.words.WordKind.{WordKind}
 use Rattle.program_output.specs.declared.words.WordKind.TheVariants.{Io, Busy, Exists, Word}
-use Rattle.program_output.specs.declared.words.WordKind.TheVariants.{Unsound, Log, Layout, Far}
+use Rattle.program_output.specs.declared.words.WordKind.TheVariants.{Unsound, Log, Layout, Far, Torn}
 
 -- what a number or a word means, and what to do
 abbrev pub Texts : Type 0
@@ -316,4 +316,10 @@ word_texts Far = (
       ++ codes "where the open period charges none, after the last close.",
   codes "Check the year: neither can be taken back. If it is wrong, restore the backup from "
       ++ codes "before it; --dry-run shows first what a ruling changes.",
+)
+word_texts Torn = (
+  codes "The dump has no record, or fewer trailers than headers: it was cut off, or not all of it "
+      ++ codes "came.",
+  codes "Send it again, whole, and import that; nothing is counted twice. With --whole such a dump "
+      ++ codes "is not imported from a file, and a command that read one ends with status 4.",
 )

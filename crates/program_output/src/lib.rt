@@ -34,7 +34,7 @@ pub use marks::is_receipt_torn;
 pub use message::{
     arguments_failed, books_busy, books_unsound, far_noticed, input_refused, input_refused_at,
     io_failed, layout_noticed, ledger_refused, ledger_refused_at, log_left, no_such_number,
-    out_of_memory, report_failed, stopped, words_refused,
+    out_of_memory, report_failed, stopped, torn_noticed, words_refused,
 };
 pub use names::{MAX_NAMES, NameList, NamesFault};
 pub use status::Status;

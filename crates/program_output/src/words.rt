@@ -25,6 +25,8 @@ pub enum WordKind {
     Layout,
     /// A ruling is dated long after the newest record, or after the last close.
     Far,
+    /// A dump has no record, or fewer trailers than headers.
+    Torn,
 }
 
 const IO: Explanation = Explanation {
@@ -85,6 +87,13 @@ const FAR: Explanation = Explanation {
          before it; --dry-run shows first what a ruling changes.",
 };
 
+const TORN: Explanation = Explanation {
+    meaning: "The dump has no record, or fewer trailers than headers: it was cut off, or not all of \
+         it came.",
+    advice: "Send it again, whole, and import that; nothing is counted twice. With --whole such a \
+         dump is not imported from a file, and a command that read one ends with status 4.",
+};
+
 /// What a word means, and what to do about it.
 #[tactic(auto, unfolding(crate::specs::Meanings::word_texts))]
 fn explanation_of(kind: WordKind) -> Explanation
@@ -99,6 +108,7 @@ fn explanation_of(kind: WordKind) -> Explanation
         WordKind::Log => LOG,
         WordKind::Layout => LAYOUT,
         WordKind::Far => FAR,
+        WordKind::Torn => TORN,
     }
 }
 
