@@ -84,6 +84,7 @@ kind_text number.Unsound = codes "unsound"
 kind_text number.Log = codes "log"
 kind_text number.Layout = codes "layout"
 kind_text number.Far = codes "far"
+kind_text number.Torn = codes "torn"
 
 abbrev pub IsLayout : List Row → Layout → Type 0
 IsLayout rows value = first_of (codes "layout") rows ≡ Some (layout_text value)
@@ -91,11 +92,16 @@ IsLayout rows value = first_of (codes "layout") rows ≡ Some (layout_text value
 abbrev pub IsKind : List Row → NumberKind → Type 0
 IsKind rows value = first_of (codes "kind") rows ≡ Some (kind_text value)
 
+-- whether a dump has to be whole
+abbrev pub IsWhole : List Row → Bool → Type 0
+IsWhole rows value = IsFlag rows (codes "whole") value
+
 -- a dump in a file
 pub record IsDump (rows : List Row) (dump : DumpFile) : Type 0 where
   pub file : IsText rows (codes "file") dump.file
   pub layout : IsLayout rows dump.layout
   pub quiet : IsFlag rows (codes "quiet") dump.quiet
+  pub whole : IsWhole rows dump.whole
 
 -- the centre that is named, or the whole office where none is
 abbrev pub IsCentre : List Row → Option (Bor Text) → Type 0
@@ -226,12 +232,12 @@ IsUnclear name rows unclear.DryRun =
 
 -- what is asked of the program, by the words of a command
 abbrev pub IsOfCommand : Text → List Row → Request → Type 0
-IsOfCommand name rows (request.Trial layout cpu excp price) =
+IsOfCommand name rows (request.Trial layout cpu excp price whole) =
     (name ≡ codes "trial") × IsLayout rows layout × AreRates rows cpu excp price
-    × IsLeftOut rows (codes "tariff")
-IsOfCommand name rows (request.TrialUnder layout file) =
+    × IsLeftOut rows (codes "tariff") × IsWhole rows whole
+IsOfCommand name rows (request.TrialUnder layout file whole) =
     (name ≡ codes "trial") × IsLayout rows layout × AreRates rows 0 0 0
-    × IsText rows (codes "tariff") file
+    × IsText rows (codes "tariff") file × IsWhole rows whole
 IsOfCommand name rows (request.Check dump) = (name ≡ codes "check") × IsDump rows dump
 IsOfCommand name rows (request.Explain kind value) =
     (name ≡ codes "explain") × IsKind rows kind × IsNumber rows (codes "number") value

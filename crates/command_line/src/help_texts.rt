@@ -17,6 +17,7 @@ pub(crate) enum Help {
     Names,
     Layout,
     Quiet,
+    Whole,
     DryRun,
     Csv,
     DisputeCsv,
@@ -52,6 +53,9 @@ impl Help {
                 "How the dump is laid out: segments one after another (rdw), or in blocks (bdw)"
             }
             Help::Quiet => "Shows no progress on a terminal",
+            Help::Whole => {
+                "A dump without a record, or with fewer trailers than headers, is not as it has to be"
+            }
             Help::DryRun => "Prints what would change, and changes nothing",
             Help::Csv => "As comma-separated values, without the total",
             Help::DisputeCsv => "As comma-separated values, a line for each record",
@@ -88,7 +92,7 @@ impl Help {
             Help::Port => "PORT",
             Help::Requests | Help::Number => "NUMBER",
             Help::NumberKind => "KIND",
-            Help::Quiet | Help::DryRun | Help::Csv | Help::DisputeCsv => "",
+            Help::Quiet | Help::Whole | Help::DryRun | Help::Csv | Help::DisputeCsv => "",
         }
     }
 }

@@ -146,23 +146,30 @@ fn are_none(cpu: u64, excp: u64, price: u64) -> bool
 fn trial_in<'a>(found: &ArgMatches<'a>) -> Option<Request<'a>>
     ensures request { IfSome result (IsOfCommand (codes "trial") (rows_in found.now)) }
     ensures some { HasWords (rows_in found.now) (known.layouts ∷ known.rate_of (codes "cpu")
-        ∷ known.rate_of (codes "excp") ∷ known.rate_of (codes "record") ∷ known.prices ∷ [])
+        ∷ known.rate_of (codes "excp") ∷ known.rate_of (codes "record") ∷ known.prices
+        ∷ known.whole ∷ [])
         → IsSome result }
 {
     let layout = layout_in(found)?;
     let cpu = rate_in(found, "cpu")?;
     let excp = rate_in(found, "excp")?;
     let price = rate_in(found, "record")?;
+    let whole = flag_in(found, "whole")?;
     match text_in(found, "tariff") {
         None => Some(Request::Trial {
             layout,
             cpu,
             excp,
             record: price,
+            whole,
         }),
         Some(file) => {
             if are_none(cpu, excp, price) {
-                Some(Request::TrialUnder { layout, file })
+                Some(Request::TrialUnder {
+                    layout,
+                    file,
+                    whole,
+                })
             } else {
                 Some(Request::Unclear(Unclear::Prices))
             }
@@ -174,7 +181,7 @@ fn check_in<'a>(found: &ArgMatches<'a>) -> Option<Request<'a>>
     ensures request { IfSome result (IsOfCommand (codes "check") (rows_in found.now)) }
     ensures some { HasWord (rows_in found.now) known.file
         → HasWord (rows_in found.now) known.layouts → HasWord (rows_in found.now) known.quiet
-        → IsSome result }
+        → HasWord (rows_in found.now) known.whole → IsSome result }
 {
     Some(Request::Check(dump_in(found)?))
 }
@@ -183,7 +190,7 @@ fn import_in<'a>(found: &ArgMatches<'a>) -> Option<BookRequest<'a>>
     ensures asked { IfSome result (IsOfBooks (codes "import") (rows_in found.now)) }
     ensures some { HasWord (rows_in found.now) known.file
         → HasWord (rows_in found.now) known.layouts → HasWord (rows_in found.now) known.quiet
-        → IsSome result }
+        → HasWord (rows_in found.now) known.whole → IsSome result }
 {
     Some(BookRequest::Import(dump_in(found)?))
 }

@@ -30,6 +30,8 @@ pub enum NumberKind {
     Layout,
     /// The word `far`.
     Far,
+    /// The word `torn`.
+    Torn,
 }
 
 /// A dump in a file.
@@ -41,6 +43,8 @@ pub struct DumpFile<'a> {
     pub layout: Layout,
     /// No progress is shown.
     pub quiet: bool,
+    /// It has to be whole.
+    pub whole: bool,
 }
 
 /// Words that do not say what is asked, alone or together.
@@ -175,6 +179,8 @@ pub enum Request<'a> {
         excp: u64,
         /// Ten-thousandths of the money unit for a record.
         record: u64,
+        /// The input has to be whole.
+        whole: bool,
     },
     /// The same under the tariff of a file.
     TrialUnder {
@@ -182,6 +188,8 @@ pub enum Request<'a> {
         layout: Layout,
         /// The path of the tariff.
         file: &'a str,
+        /// The input has to be whole.
+        whole: bool,
     },
     /// What every record of a file is.
     Check(DumpFile<'a>),

@@ -36,8 +36,8 @@ unfolding known_table
 returns-in-import-clause-some c =
     λ has others.
     let words = subst (λ n. HasWordsOf n (rows_in c.args.found.now)) c.in-import.is has in
-    c.of_books_in-in-import.ensures.some words.0 words.1.1.1.1.0
-    (c.import_in.ensures.some words.1.0 words.1.1.0 words.1.1.1.0)
+    c.of_books_in-in-import.ensures.some words.0 words.1.1.1.1.1.0
+    (c.import_in.ensures.some words.1.0 words.1.1.0 words.1.1.1.0 words.1.1.1.1.0)
 
 pub returns-in-close-clause-request : goal.returns-in-close-clause-request
 returns-in-close-clause-request c =
