@@ -44,6 +44,8 @@ pub enum CommandFault {
     Stopped(Stop),
     /// An audit found the books unsound.
     Unsound,
+    /// A dump that had to be whole is torn, and was not imported.
+    Torn,
 }
 
 impl CommandFault {
@@ -66,6 +68,7 @@ impl CommandFault {
             CommandFault::Report(fault) => report_failed(errors, fault),
             CommandFault::Stopped(stop) => stopped(errors, stop),
             CommandFault::Unsound => books_unsound(errors),
+            CommandFault::Torn => input_refused(errors, "torn"),
         }
     }
 }

@@ -96,6 +96,7 @@ fn fault_topic(fault: CommandFault) -> Option<Topic>
         CommandFault::Report(refused) => Some(report_topic(refused)),
         CommandFault::Stopped(stop) => stop_topic(stop),
         CommandFault::Unsound => Some(word_topic(WordKind::Unsound)),
+        CommandFault::Torn => Some(word_topic(WordKind::Torn)),
         CommandFault::Usage | CommandFault::Number | CommandFault::Unclear(_) => None,
     }
 }
@@ -155,6 +156,7 @@ fn notice_topic(notice: Notice) -> Topic
     match notice {
         Notice::Layout => word_topic(WordKind::Layout),
         Notice::Far => word_topic(WordKind::Far),
+        Notice::Torn | Notice::NotWhole => word_topic(WordKind::Torn),
     }
 }
 

@@ -1,5 +1,6 @@
 //! Files that are read, by their names.
 
+use crate::causes::is_file;
 use std::fs::File;
 use std::io::Read;
 use std::{fs, io};
@@ -18,6 +19,11 @@ pub trait Inputs {
     /// Opens the file of a name, which is read from its begin.
     fn open(&self, name: &str) -> io::Result<Self::Input>
         ensures { IfOk result (λ input. Self.Input.remaining input ≡ held self.now name.now) };
+
+    /// The file of a name is kept, so that it can be read again.
+    fn is_kept(&self, _name: &str) -> bool {
+        false
+    }
 
     /// How many bytes a file has, where it has a fixed size. It is only shown.
     fn size_of(&self, _input: &Self::Input) -> Option<u64> {
@@ -47,6 +53,10 @@ impl Inputs for HostInputs<'_> {
 
     fn open(&self, name: &str) -> io::Result<File> {
         fs::open(self.rt, name)
+    }
+
+    fn is_kept(&self, name: &str) -> bool {
+        is_file(self.rt, name)
     }
 
     fn size_of(&self, input: &File) -> Option<u64> {

@@ -130,7 +130,9 @@ impl<'a> Places<'a> {
             CommandFault::Exists => self.in_the_way(rt),
             // Of an unsound copy nothing is left.
             CommandFault::Unsound => Spot::in_file(self.books),
-            CommandFault::ArgumentAt(_) | CommandFault::LedgerAt(_, _) => Spot::in_file(self.read),
+            CommandFault::ArgumentAt(_) | CommandFault::LedgerAt(_, _) | CommandFault::Torn => {
+                Spot::in_file(self.read)
+            }
             CommandFault::Ledger(refused) => self.refused(rt, refused),
             CommandFault::Report(ReportFault::Ledger(refused)) => self.refused(rt, refused),
             CommandFault::Report(ReportFault::Write) => Some(output_failed()),
