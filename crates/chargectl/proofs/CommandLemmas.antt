@@ -13,8 +13,9 @@ use Rattle.named_books.proofs.ShelfLemmas.{untouched}
 use Rattle.command_line.specs.declared.request.BookRequest.{BookRequest}
 use Rattle.program_output.specs.Names.{name_in}
 use Rattle.without_books.specs.Inputs.{Files}
+use Rattle.without_books.specs.Reading.{IsUnfit}
 use Rattle.chargectl.specs.declared.answered.Answered.{Answered}
-use Rattle.chargectl.specs.Commands.{AsksNothing, AsksOnceBy, ComesOf, IsFileFault, IsShelfFault}
+use Rattle.chargectl.specs.Commands.{AsksNothing, AsksOnceBy, ComesOf, IsShelfFault}
 use Rattle.chargectl.specs.Commands.{IsTariffFault, IsTextFault, IsWordFault, report_of, what_if_of}
 use Rattle.chargectl.proofs.Words.{Keeps, LedgerFault, work_as, ReportFault, RepositoryFault}
 use Rattle.chargectl.proofs.Words.{Answer, Asked, response_by, Shelf, CommandFault}
@@ -59,7 +60,8 @@ module _ (One Other : RepositoryFault → Type 0)
 
   pub nothing_as : (files : Files) (request : BookRequest) (why : CommandFault)
       → AsksNothing files request One why → AsksNothing files request Other why
-  nothing_as files (to_books.Import dump) why it = either_as (IsFileFault why) why it
+  nothing_as files (to_books.Import dump) why it =
+      either_as (IsUnfit (files dump.file.now) dump.layout dump.whole why) why it
   nothing_as files (to_books.Rule (ruling.Tariff file)) why it =
       either_as (IsTextFault (files file.now) why) why it
   nothing_as files (to_books.Rule (ruling.Close period date)) why it =

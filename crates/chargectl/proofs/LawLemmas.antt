@@ -667,11 +667,11 @@ runs_on files shelf waits history name old new answered held (Ok (request.OfBook
     (Where book.now name
     (DoesToHistory files naming history ((shelf old).refuses book.now) asked has holds Failed done.0))) same
     (step_from same step))
-runs_on files shelf waits history name old new answered held (Ok (request.Trial layout cpu excp fee)) had has
-    holds Failed Says status done =
+runs_on files shelf waits history name old new answered held
+    (Ok (request.Trial layout cpu excp fee whole)) had has holds Failed Says status done =
     same_place shelf history name old new answered held done.1.0
-runs_on files shelf waits history name old new answered held (Ok (request.TrialUnder layout file)) had has
-    holds Failed Says status done =
+runs_on files shelf waits history name old new answered held
+    (Ok (request.TrialUnder layout file whole)) had has holds Failed Says status done =
     same_place shelf history name old new answered held done.1.0
 runs_on files shelf waits history name old new answered held (Ok (request.Unclear why)) had has holds Failed
     Says status done =

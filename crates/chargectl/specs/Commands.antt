@@ -25,13 +25,16 @@ use Rattle.command_line.specs.declared.request.Ruling.{Ruling}
 use Rattle.command_line.specs.declared.request.Words.{Words}
 use Rattle.report_rows.specs.ReportRows.{report_about}
 use Rattle.report_rows.specs.declared.about.About.{About}
+use Rattle.program_output.specs.Marks.{is_receipt_torn}
 use Rattle.program_output.specs.Names.{name_in}
 use Rattle.without_books.specs.declared.command_fault.CommandFault.{CommandFault}
 use Rattle.without_books.specs.declared.ended.Ended.{Ended}
 use Rattle.without_books.specs.declared.notice.Notice.{Notice}
 use Rattle.without_books.specs.Faults.{end_of, shelf_fault, without_log}
-use Rattle.without_books.specs.FirstBytes.{IsLookedAt, layout_notice}
+use Rattle.without_books.specs.DumpEnds.{dump_notice}
+use Rattle.without_books.specs.FirstBytes.{IsLookedAt}
 use Rattle.without_books.specs.Inputs.{Files}
+use Rattle.without_books.specs.Reading.{IsUnfit}
 use Rattle.chargectl.specs.declared.dated_rulings.DatedAnswer.{DatedAnswer}
 use Rattle.chargectl.specs.declared.answered.Answered.{Answered}
 use Rattle.chargectl.specs.Far.{far_notice}
@@ -181,7 +184,8 @@ IsWordFault (Some read) IsLater why = IsLater why
 
 -- why a command asks nothing, of books that are refused for these reasons
 abbrev pub AsksNothing : Files → BookRequest → (RepositoryFault → Type 0) → CommandFault → Type 0
-AsksNothing files (book.Import dump) Refuses why = IsShelfFault Refuses why ⊎ IsFileFault why
+AsksNothing files (book.Import dump) Refuses why =
+    IsShelfFault Refuses why ⊎ IsUnfit (files dump.file.now) dump.layout dump.whole why
 AsksNothing files (book.Rule (ruling.Tariff file)) Refuses why =
     IsTariffFault (files file.now) Refuses why
 AsksNothing files (book.Rule (ruling.Close period date)) Refuses why =
@@ -194,10 +198,11 @@ AsksNothing files (book.WhatIf form period file) Refuses why =
     IsWordFault (what_if_of form period) (IsTariffFault (files file.now) Refuses) why
 AsksNothing files request Refuses why = IsShelfFault Refuses why
 
--- what an import notices of a dump that looked misread or not
-abbrev pub answer_notice : Bool → Result Answer CommandFault → Option Notice
-answer_notice looked (Ok (answers.Receipt receipt)) = layout_notice looked receipt.stop
-answer_notice looked told = None
+-- what an import notices of a dump that had to be whole or not, and looked misread or not
+abbrev pub answer_notice : Bool → Bool → Result Answer CommandFault → Option Notice
+answer_notice whole looked (Ok (answers.Receipt receipt)) =
+    dump_notice whole looked (is_receipt_torn receipt) receipt.stop
+answer_notice whole looked told = None
 
 -- The books of a name were opened and the office was asked for a ruling of a day, and this was answered
 -- and noticed.
@@ -209,7 +214,7 @@ pub record IsDated (asked : Asked) (book : List ℕ) (old new : Shelf) (answered
     pub notice : answered.notice ≡ notice_of told
 
 -- What a command noticed beside its answer: of a tariff and a close whether the day is far, of an import
--- the layout, of others nothing.
+-- whether the dump looked misread or is torn, of others nothing.
 abbrev pub IsNoticedBy : Files → BookRequest → Asked → List ℕ → Shelf → Shelf → Answered → Type 0
 IsNoticedBy files (book.Rule (ruling.Tariff file)) asked name old new answered =
     IsDated asked name old new answered
@@ -217,7 +222,7 @@ IsNoticedBy files (book.Rule (ruling.Close period date)) asked name old new answ
     IsDated asked name old new answered
 IsNoticedBy files (book.Import dump) asked name old new answered =
     (looked : Bool) × IsLookedAt dump.layout (files dump.file.now) looked
-    × (answered.notice ≡ answer_notice looked answered.answer)
+    × (answered.notice ≡ answer_notice dump.whole looked answered.answer)
 IsNoticedBy files request asked name old new answered = answered.notice ≡ None
 
 -- what the reader of a request had: of an import, what the file of its dump holds

@@ -140,12 +140,12 @@ pub record WaitsAndDoes {S : Type 0} (files : Files) (shelf : S → Shelf) (wait
 -- The table of the commands.
 abbrev pub Runs : {S : Type 0} → Files → (S → Shelf) → (S → ℕ → Type 0) → S → S → Request
     → Option (List ℕ) → Option (List ℕ) → Option (List ℕ) → Type 0 → Ended → Type 0
-Runs files shelf waits old new (request.Trial layout cpu excp fee) had held holds Failed ended =
-    (new ≡ old) × TriesAt layout cpu excp fee had held holds Failed ended
-Runs files shelf waits old new (request.TrialUnder layout file) had held holds Failed ended =
-    (new ≡ old) × TriesUnder (files file.now) layout had held holds Failed ended
+Runs files shelf waits old new (request.Trial layout cpu excp fee whole) had held holds Failed ended =
+    (new ≡ old) × TriesAt layout whole cpu excp fee had held holds Failed ended
+Runs files shelf waits old new (request.TrialUnder layout file whole) had held holds Failed ended =
+    (new ≡ old) × TriesUnder (files file.now) layout whole had held holds Failed ended
 Runs files shelf waits old new (request.Check dump) had held holds Failed ended =
-    (new ≡ old) × Checks (files dump.file.now) dump.layout held holds Failed ended
+    (new ≡ old) × Checks (files dump.file.now) dump.layout dump.whole held holds Failed ended
 Runs files shelf waits old new (request.Explain kind number) had held holds Failed ended =
     (new ≡ old) × EndsAt (TellsOf (kind_of kind) number held holds Failed) ended
 Runs files shelf waits old new (request.OfBooks name wait asked) had held holds Failed ended =

@@ -81,13 +81,16 @@ where
             cpu,
             excp,
             record,
+            whole,
         } => {
             let tariff = Tariff::flat(rt.alloc(), cpu, excp, record);
-            run_trial(rt.alloc(), layout, tariff, input, output)
+            run_trial(rt.alloc(), layout, whole, tariff, input, output)
         }
-        Request::TrialUnder { layout, file } => {
-            run_trial_under(rt.alloc(), inputs, layout, file, input, output)
-        }
+        Request::TrialUnder {
+            layout,
+            file,
+            whole,
+        } => run_trial_under(rt.alloc(), inputs, layout, whole, file, input, output),
         Request::Check(dump) => check(rt, inputs, dump, output),
         Request::Explain { kind, number } => {
             let came = explain(rt.alloc(), kind, number, &mut output);
