@@ -111,11 +111,23 @@ class Books(Session):
         self.closes += [day] * (answer == ["DONE"])
         return ["chargectl: far"] * is_far
 
+    def due_to_dump(self, answer):
+        """A dump that was read to its end is torn that has no record, or fewer trailers than headers."""
+        receipt = dict(re.findall(r"([A-Z]+) (\d+)", answer[0])) if answer and answer[0].startswith("KEPT") else None
+        if receipt and answer[0].endswith(" STOP END"):
+            is_torn = not any(map(int, receipt.values())) or int(receipt["TRAILERS"]) < int(receipt["HEADERS"])
+        elif not receipt and answer and re.fullmatch(r"RECORDS \d+ STOP END", answer[-1]):
+            headers, trailers = (sum(line.endswith(mark) for line in answer) for mark in (" HEADER", " TRAILER"))
+            is_torn = len(answer) == 1 or trailers < headers
+        else:
+            is_torn = False
+        return ["chargectl: torn"] * is_torn
+
     def due_to_import(self, answer):
         """A fault that stopped an import has its line."""
         self.has_records = True
         stop = re.search(r" STOP (FRAME|LEDGER) (\d+)$", answer[0] if answer else "")
-        return ["chargectl: %s %s" % (stop[1].lower(), stop[2])] if stop else []
+        return ["chargectl: %s %s" % (stop[1].lower(), stop[2])] if stop else self.due_to_dump(answer)
 
     def said(self, names, verb, words, body):
         """The answer to a line that is a command for short."""
@@ -126,7 +138,8 @@ class Books(Session):
             return self.told(given, due=lambda answer: self.due_to_close(words[1], answer))
         if verb == "import":
             return self.told(given, due=self.due_to_import)
-        return self.told(given, names.dump(words[3:]) if verb == "trial" else b"")
+        due = self.due_to_dump if verb in DUMPS else lambda answer: []
+        return self.told(given, names.dump(words[3:]) if verb == "trial" else b"", due)
 
     # ---- Lines
 
