@@ -125,6 +125,9 @@ whole = flag (codes "whole")
 abbrev pub dry_run : WordSeen
 dry_run = flag (codes "dry-run")
 
+abbrev pub near : WordSeen
+near = flag (codes "near")
+
 abbrev pub csv : WordSeen
 csv = flag (codes "csv")
 
@@ -180,9 +183,9 @@ commands_above = (
 ) ∷
     (codes "check", layouts ∷ quiet ∷ whole ∷ file ∷ []) ∷
     (codes "init", book ∷ []) ∷
-    (codes "tariff", book ∷ file ∷ dry_run ∷ wait ∷ []) ∷
+    (codes "tariff", book ∷ file ∷ dry_run ∷ near ∷ wait ∷ []) ∷
     (codes "import", book ∷ file ∷ layouts ∷ quiet ∷ whole ∷ wait ∷ []) ∷
-    (codes "close", book ∷ period ∷ date ∷ dry_run ∷ wait ∷ []) ∷
+    (codes "close", book ∷ period ∷ date ∷ dry_run ∷ near ∷ wait ∷ []) ∷
     (codes "choose", book ∷ digest ∷ names ∷ dry_run ∷ wait ∷ []) ∷
     (codes "adopt", book ∷ dry_run ∷ wait ∷ []) ∷
     []

@@ -156,10 +156,19 @@ IsRuling name rows ruling.Adopt = name ≡ codes "adopt"
 abbrev pub IsDryRun : List Row → Bool → Type 0
 IsDryRun rows value = IsFlag rows (codes "dry-run") value
 
+-- whether a ruling is made only where its day is not far; no other ruling has a day
+abbrev pub IsNear : List Row → Ruling → Bool → Type 0
+IsNear rows (ruling.Tariff file) value = IsFlag rows (codes "near") value
+IsNear rows (ruling.Close period date) value = IsFlag rows (codes "near") value
+IsNear rows other value = value ≡ false
+
 -- what is asked of books
 abbrev pub IsOfBooks : Text → List Row → BookRequest → Type 0
 IsOfBooks name rows book.Init = name ≡ codes "init"
-IsOfBooks name rows (book.Rule ruled) = IsRuling name rows ruled × IsDryRun rows false
+IsOfBooks name rows (book.Rule ruled) =
+    IsRuling name rows ruled × IsDryRun rows false × IsNear rows ruled false
+IsOfBooks name rows (book.RuleNear ruled) =
+    IsRuling name rows ruled × IsDryRun rows false × IsNear rows ruled true
 IsOfBooks name rows (book.Import dump) = (name ≡ codes "import") × IsDump rows dump
 IsOfBooks name rows (book.ChooseListed file) =
     (name ≡ codes "choose") × IsLeftOut rows (codes "sha256")

@@ -19,6 +19,7 @@ pub(crate) enum Help {
     Quiet,
     Whole,
     DryRun,
+    Near,
     Csv,
     DisputeCsv,
     Wait,
@@ -57,6 +58,7 @@ impl Help {
                 "A dump without a record, or with fewer trailers than headers, is not as it has to be"
             }
             Help::DryRun => "Prints what would change, and changes nothing",
+            Help::Near => "Refuses a day that is far after the newest record, or after today",
             Help::Csv => "As comma-separated values, without the total",
             Help::DisputeCsv => "As comma-separated values, a line for each record",
             Help::Wait => {
@@ -92,7 +94,8 @@ impl Help {
             Help::Port => "PORT",
             Help::Requests | Help::Number => "NUMBER",
             Help::NumberKind => "KIND",
-            Help::Quiet | Help::Whole | Help::DryRun | Help::Csv | Help::DisputeCsv => "",
+            Help::Quiet | Help::Whole | Help::DryRun | Help::Near => "",
+            Help::Csv | Help::DisputeCsv => "",
         }
     }
 }

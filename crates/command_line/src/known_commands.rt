@@ -85,6 +85,8 @@ const WHOLE: Argument = Argument::Flag("whole", Help::Whole);
 
 const DRY_RUN: Argument = Argument::Flag("dry-run", Help::DryRun);
 
+const NEAR: Argument = Argument::Flag("near", Help::Near);
+
 const CSV: Argument = Argument::Flag("csv", Help::Csv);
 
 const DISPUTE_CSV: Argument = Argument::Flag("csv", Help::DisputeCsv);
@@ -148,7 +150,7 @@ pub(crate) static KNOWN_COMMANDS: [KnownCommand; 25] = [
     KnownCommand {
         name: "tariff",
         about: "Puts a tariff in force from its first day on",
-        words: &[BOOK, TARIFF, DRY_RUN, WAIT],
+        words: &[BOOK, TARIFF, DRY_RUN, NEAR, WAIT],
     },
     KnownCommand {
         name: "import",
@@ -158,7 +160,7 @@ pub(crate) static KNOWN_COMMANDS: [KnownCommand; 25] = [
     KnownCommand {
         name: "close",
         about: "Closes the open period through a day",
-        words: &[BOOK, PERIOD, DATE, DRY_RUN, WAIT],
+        words: &[BOOK, PERIOD, DATE, DRY_RUN, NEAR, WAIT],
     },
     KnownCommand {
         name: "choose",

@@ -1,12 +1,13 @@
 //! The command that `clap` found in the words.
 
 ghost use Rattle.std.specs.Prelude.{◌≡◌, ◌≢◌, [], ◌∷◌, ◌++◌, IfSome, IsSome, IsSomeAnd, codes};
+ghost use Rattle.std.specs.Prelude.{false};
 ghost use Rattle.clap.specs.Simple.{subcommand_rows_of};
 ghost use Rattle.command_line.specs.Given.{HasWord, HasWords, HasWordsOf, NoneIs, bookless, changes};
 ghost use Rattle.command_line.specs.Given.{services};
 ghost use Rattle.command_line.specs.Known as known;
 ghost use Rattle.command_line.specs.Requests.{IsAtOnce, IsLeftOut, IsOfBooks, IsOfCommand, IsRequest};
-ghost use Rattle.command_line.specs.Requests.{IsRuling, IsText, rows_in};
+ghost use Rattle.command_line.specs.Requests.{IsDryRun, IsNear, IsRuling, IsText, rows_in};
 ghost use Rattle.command_line.specs.Requests as spec;
 
 use crate::given_words::{
@@ -74,7 +75,7 @@ fn change_in<'a>(name: &str, found: &ArgMatches<'a>) -> Option<Request<'a>>
         "import" => of_books_in(found, import_in(found)),
         "close" => of_books_in(found, close_in(found)),
         "choose" => choice_in(found),
-        "adopt" => of_books_in(found, ruling_in(found, Ruling::Adopt)),
+        "adopt" => of_books_in(found, ruling_in(found, false, Ruling::Adopt)),
         _ => service_in(name, found),
     }
 }
@@ -198,33 +199,53 @@ fn import_in<'a>(found: &ArgMatches<'a>) -> Option<BookRequest<'a>>
 fn tariff_in<'a>(found: &ArgMatches<'a>) -> Option<BookRequest<'a>>
     ensures asked { IfSome result (IsOfBooks (codes "tariff") (rows_in found.now)) }
     ensures some { HasWord (rows_in found.now) known.file
-        → HasWord (rows_in found.now) known.dry_run → IsSome result }
+        → HasWord (rows_in found.now) known.dry_run → HasWord (rows_in found.now) known.near
+        → IsSome result }
 {
     let file = text_in(found, "file")?;
-    ruling_in(found, Ruling::Tariff { file })
+    let near = flag_in(found, "near")?;
+    ruling_in(found, near, Ruling::Tariff { file })
 }
 
 fn close_in<'a>(found: &ArgMatches<'a>) -> Option<BookRequest<'a>>
     ensures asked { IfSome result (IsOfBooks (codes "close") (rows_in found.now)) }
     ensures some { HasWord (rows_in found.now) known.period
         → HasWord (rows_in found.now) known.date
-        → HasWord (rows_in found.now) known.dry_run → IsSome result }
+        → HasWord (rows_in found.now) known.dry_run → HasWord (rows_in found.now) known.near
+        → IsSome result }
 {
     let period = number_in(found, "period")?;
     let date = text_in(found, "date")?;
-    ruling_in(found, Ruling::Close { period, date })
+    let near = flag_in(found, "near")?;
+    ruling_in(found, near, Ruling::Close { period, date })
 }
 
-/// The ruling, or a dry run of it.
-fn ruling_in<'a>(found: &ArgMatches<'_>, ruling: Ruling<'a>) -> Option<BookRequest<'a>>
+/// The ruling, or one that is made only where its day is not far.
+fn ruled<'a>(near: bool, ruling: Ruling<'a>) -> BookRequest<'a>
+    ensures { (name : _) (rows : _) → IsRuling name rows ruling.entry → IsDryRun rows false
+        → IsNear rows ruling.entry near → IsOfBooks name rows result }
+{
+    if near {
+        return BookRequest::RuleNear(ruling);
+    }
+    BookRequest::Rule(ruling)
+}
+
+/// The ruling, or a dry run of it: that says of a day that it is far, and refuses none for it.
+fn ruling_in<'a>(
+    found: &ArgMatches<'_>,
+    near: bool,
+    ruling: Ruling<'a>,
+) -> Option<BookRequest<'a>>
     ensures asked { (name : _) → IsRuling name (rows_in found.now) ruling.entry
+        → IsNear (rows_in found.now) ruling.entry near
         → IfSome result (IsOfBooks name (rows_in found.now)) }
     ensures some { HasWord (rows_in found.now) known.dry_run → IsSome result }
 {
     if flag_in(found, "dry-run")? {
         Some(BookRequest::DryRun(ruling))
     } else {
-        Some(BookRequest::Rule(ruling))
+        Some(ruled(near, ruling))
     }
 }
 
@@ -239,7 +260,7 @@ fn choice_in<'a>(found: &ArgMatches<'a>) -> Option<Request<'a>>
     match text_in(found, "sha256") {
         Some(name) => match text_in(found, "from") {
             Some(_) => unclear,
-            None => of_books_in(found, ruling_in(found, Ruling::Choose { name })),
+            None => of_books_in(found, ruling_in(found, false, Ruling::Choose { name })),
         },
         None => match text_in(found, "from") {
             Some(file) => listed_in(found, file),

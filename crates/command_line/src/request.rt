@@ -124,6 +124,8 @@ pub enum BookRequest<'a> {
     Init,
     /// A ruling made.
     Rule(Ruling<'a>),
+    /// A ruling made where its day is not far.
+    RuleNear(Ruling<'a>),
     /// A dump read into the books.
     Import(DumpFile<'a>),
     /// The records of a list chosen, one after the other.
