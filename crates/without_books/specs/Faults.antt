@@ -48,6 +48,7 @@ fault_status (fault.Report refused) = report_status refused
 fault_status (fault.Stopped stop) = stop_status stop
 fault_status fault.Unsound = status.Store
 fault_status fault.Torn = status.Refused
+fault_status fault.Far = status.Refused
 
 -- the exit status of what a command came to
 abbrev pub came_status : Result (Unit {0}) CommandFault → Status
@@ -96,6 +97,7 @@ fault_lines (fault.Report refused) = report_line refused ∷ []
 fault_lines (fault.Stopped stop) = stop_lines stop
 fault_lines fault.Unsound = unsound_line ∷ []
 fault_lines fault.Torn = torn_line ∷ []
+fault_lines fault.Far = far_line ∷ []
 
 -- what is said of what a command came to: nothing, where all went well
 abbrev pub came_lines : Result (Unit {0}) CommandFault → List (List ℕ)

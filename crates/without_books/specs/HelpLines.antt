@@ -80,6 +80,7 @@ fault_topic (fault.Report refused) = Some (report_topic refused)
 fault_topic (fault.Stopped why) = stop_topic why
 fault_topic fault.Unsound = Some (word_topic word.Unsound)
 fault_topic fault.Torn = Some (word_topic word.Torn)
+fault_topic fault.Far = Some (word_topic word.Far)
 
 -- what it is asked of a notice
 abbrev pub notice_topic : Notice → Topic

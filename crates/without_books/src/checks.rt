@@ -33,7 +33,7 @@ pub fn check<F: Inputs, O: Writer + Drop>(
     dump: DumpFile<'_>,
     output: O,
 ) -> (Ended, O)
-    ensures { Checks (F.held inputs.now dump.entry.file.now) dump.entry.layout dump.entry.whole
+    ensures { Checks ((F.held inputs.now).holds dump.entry.file.now) dump.entry.layout dump.entry.whole
         (O.contents output) (O.contents result.1) (∥ HasFailed O.may_answer result.1 ∥₁) result.0 }
 {
     let layout = dump.layout;
@@ -119,7 +119,7 @@ pub fn expect_whole<F: Inputs>(
     inputs: &F,
     dump: DumpFile<'_>,
 ) -> Result<(), CommandFault>
-    ensures { IfErr result (IsUnfit (F.held inputs.now dump.entry.file.now) dump.entry.layout
+    ensures { IfErr result (IsUnfit ((F.held inputs.now).holds dump.entry.file.now) dump.entry.layout
         dump.entry.whole) }
 {
     if dump.whole {
@@ -136,7 +136,7 @@ fn find_whole<F: Inputs>(
     dump: DumpFile<'_>,
 ) -> Result<(), CommandFault>
     requires { dump.entry.whole ≡ true }
-    ensures { IfErr result (IsUnfit (F.held inputs.now dump.entry.file.now) dump.entry.layout
+    ensures { IfErr result (IsUnfit ((F.held inputs.now).holds dump.entry.file.now) dump.entry.layout
         dump.entry.whole) }
 {
     if !inputs.is_kept(dump.file) {

@@ -46,6 +46,8 @@ pub enum CommandFault {
     Unsound,
     /// A dump that had to be whole is torn, and was not imported.
     Torn,
+    /// The day of a ruling that had to be near is far.
+    Far,
 }
 
 impl CommandFault {
@@ -69,6 +71,7 @@ impl CommandFault {
             CommandFault::Stopped(stop) => stopped(errors, stop),
             CommandFault::Unsound => books_unsound(errors),
             CommandFault::Torn => input_refused(errors, "torn"),
+            CommandFault::Far => input_refused(errors, "far"),
         }
     }
 }

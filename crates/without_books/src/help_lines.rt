@@ -97,6 +97,7 @@ fn fault_topic(fault: CommandFault) -> Option<Topic>
         CommandFault::Stopped(stop) => stop_topic(stop),
         CommandFault::Unsound => Some(word_topic(WordKind::Unsound)),
         CommandFault::Torn => Some(word_topic(WordKind::Torn)),
+        CommandFault::Far => Some(word_topic(WordKind::Far)),
         CommandFault::Usage | CommandFault::Number | CommandFault::Unclear(_) => None,
     }
 }

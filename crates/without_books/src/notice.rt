@@ -15,7 +15,7 @@ use streams::Writer;
 pub enum Notice {
     /// The dump was read in one layout, and looks like one in the other.
     Layout,
-    /// The day of a ruling lies more than a year after all that the books charged.
+    /// The day of a ruling lies long after all that the books charged, or after today.
     Far,
     /// The dump has no record, or fewer trailers than headers.
     Torn,

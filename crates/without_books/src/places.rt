@@ -245,6 +245,7 @@ impl<'a> Places<'a> {
 fn read_by<'a>(asked: BookRequest<'a>) -> Option<&'a str> {
     match asked {
         BookRequest::Rule(Ruling::Tariff { file })
+        | BookRequest::RuleNear(Ruling::Tariff { file })
         | BookRequest::DryRun(Ruling::Tariff { file })
         | BookRequest::ChooseListed { file }
         | BookRequest::WhatIf { file, .. } => Some(file),

@@ -71,7 +71,7 @@ pub fn run_trial_under<F: Inputs, I: Read + Drop, O: Writer + Drop>(
     input: I,
     output: O,
 ) -> (Ended, O)
-    ensures { TriesUnder (F.held inputs.now file.now) layout has_to_be_whole (I.remaining input)
+    ensures { TriesUnder ((F.held inputs.now).holds file.now) layout has_to_be_whole (I.remaining input)
         (O.contents output) (O.contents result.1) (∥ HasFailed O.may_answer result.1 ∥₁) result.0 }
 {
     match read_tariff(alloc, inputs, file) {
@@ -82,7 +82,7 @@ pub fn run_trial_under<F: Inputs, I: Read + Drop, O: Writer + Drop>(
 
 /// The tariff of a file, in force on every day.
 fn read_tariff<F: Inputs>(alloc: Global, inputs: &F, file: &str) -> Result<Tariff, CommandFault>
-    ensures { IsTariffRead (F.held inputs.now file.now) result }
+    ensures { IsTariffRead ((F.held inputs.now).holds file.now) result }
 {
     let text = tariff_text(alloc, inputs, file)?;
     lasting_tariff(alloc, text.as_str())

@@ -8,7 +8,7 @@ returns-then-has_torn g c =
     inr (
       c.requires,
       refl,
-      found_torn c.args.dump.layout _ (g.F.Inputs.held c.args.inputs.now c.args.dump.file.now) _ _ _
+      found_torn c.args.dump.layout _ ((g.F.Inputs.held c.args.inputs.now).holds c.args.dump.file.now) _ _ _
           c.list_dump-ended.result.0 c.in_ok-reader.ensures c.list_dump-ended.ensures
           (sym c.has_torn.ensures ∙ c.if-has_torn.true),
     )
