@@ -31,6 +31,7 @@ use Rattle.chargectl.specs.Audits.{AuditsBooks, BacksUp}
 use Rattle.chargectl.specs.Choices.{ChoosesListed}
 use Rattle.chargectl.specs.Commands.{AsksAndTells, IsRefusedBy, IsShelfFault}
 use Rattle.chargectl.specs.DryRuns.{TriesAndTells}
+use Rattle.chargectl.specs.NearRulings.{RulesNear}
 use Rattle.chargectl.specs.StreamedLists.{ListsAsked, list_of}
 use Rattle.chargectl.specs.Upgrades.{UpgradesBy}
 use Rattle.chargectl.specs.Serving.{ServesInTurn, lines_of, ready, service_end}
@@ -106,9 +107,11 @@ Does files shelf (book.Serve port requests) name old new held holds Failed ended
 Does files shelf (book.List asked) name old new held holds Failed ended =
     SettlesBy (ListsAsked (list_of asked) name (shelf old) (shelf new) held holds Failed) ended
 Does files shelf (book.ChooseListed file) name old new held holds Failed ended =
-    ChoosesListed (files file.now) name (shelf old) (shelf new) held holds Failed ended
+    ChoosesListed (files.holds file.now) name (shelf old) (shelf new) held holds Failed ended
 Does files shelf (book.DryRun ruling) name old new held holds Failed ended =
     TriesAndTells files ruling name (shelf old) (shelf new) held holds Failed ended
+Does files shelf (book.RuleNear ruling) name old new held holds Failed ended =
+    RulesNear files ruling name (shelf old) (shelf new) held holds Failed ended
 Does files shelf asked name old new held holds Failed ended =
     AsksAndTells files asked name (shelf old) (shelf new) held holds Failed ended
 
@@ -143,9 +146,9 @@ abbrev pub Runs : {S : Type 0} → Files → (S → Shelf) → (S → ℕ → Ty
 Runs files shelf waits old new (request.Trial layout cpu excp fee whole) had held holds Failed ended =
     (new ≡ old) × TriesAt layout whole cpu excp fee had held holds Failed ended
 Runs files shelf waits old new (request.TrialUnder layout file whole) had held holds Failed ended =
-    (new ≡ old) × TriesUnder (files file.now) layout whole had held holds Failed ended
+    (new ≡ old) × TriesUnder (files.holds file.now) layout whole had held holds Failed ended
 Runs files shelf waits old new (request.Check dump) had held holds Failed ended =
-    (new ≡ old) × Checks (files dump.file.now) dump.layout dump.whole held holds Failed ended
+    (new ≡ old) × Checks (files.holds dump.file.now) dump.layout dump.whole held holds Failed ended
 Runs files shelf waits old new (request.Explain kind number) had held holds Failed ended =
     (new ≡ old) × EndsAt (TellsOf (kind_of kind) number held holds Failed) ended
 Runs files shelf waits old new (request.OfBooks name wait asked) had held holds Failed ended =

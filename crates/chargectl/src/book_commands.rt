@@ -227,7 +227,7 @@ pub(crate) fn rule<S: Repository, F: Inputs>(
 {
     let asked = asked_ruling(rt.alloc(), &*repository, inputs, book, ruling)?;
     if is_dated(ruling) {
-        Ok(rule_on_day(rt.alloc(), repository, book, asked))
+        Ok(rule_on_day(rt.alloc(), repository, inputs, book, asked))
     } else {
         Ok(ask_books(rt, repository, book, asked, io::empty()))
     }

@@ -66,7 +66,7 @@ pub(crate) fn choose_listed<S: Repository, F: Inputs, O: Writer + Drop>(
     file: &str,
     output: O,
 ) -> (Ended, O)
-    ensures { ChoosesListed (F.held inputs.now file.now) book.now (S.shelf repository.old)
+    ensures { ChoosesListed ((F.held inputs.now).holds file.now) book.now (S.shelf repository.old)
         (S.shelf repository.new) (O.contents output) (O.contents result.1)
         (∥ HasFailed O.may_answer result.1 ∥₁) result.0 }
 {
@@ -82,7 +82,7 @@ fn ask_listed<S: Repository, F: Inputs>(
     book: &str,
     file: &str,
 ) -> Result<ListAnswered, CommandFault>
-    ensures { ComesOfList (F.held inputs.now file.now) book.now (S.shelf repository.old)
+    ensures { ComesOfList ((F.held inputs.now).holds file.now) book.now (S.shelf repository.old)
         (S.shelf repository.new) result }
 {
     repository.expect(book)?;
@@ -97,9 +97,9 @@ fn read_list<F: Inputs>(
     file: &str,
 ) -> Result<Vec<[u8; 32]>, CommandFault>
     ensures listed { IfOk result (λ names. AreListed names.items) }
-    ensures all { IfOk result (λ names. AreAllOf (front_of (F.held inputs.now file.now))
+    ensures all { IfOk result (λ names. AreAllOf (front_of ((F.held inputs.now).holds file.now))
         names.items) }
-    ensures refused { IfErr result (IsListFault (front_of (F.held inputs.now file.now))) }
+    ensures refused { IfErr result (IsListFault (front_of ((F.held inputs.now).holds file.now))) }
 {
     let input = inputs.open(file)?;
     read_front(alloc, input)

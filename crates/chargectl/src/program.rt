@@ -11,6 +11,7 @@ use crate::audits::{audit, back_up};
 use crate::book_commands::{import_dump, rule, tell};
 use crate::choices::choose_listed;
 use crate::dry_runs::dry_run;
+use crate::near_rulings::rule_near;
 use crate::report_commands::{report, what_if};
 use crate::serve::serve;
 use crate::streamed_lists::list;
@@ -130,6 +131,9 @@ fn run_on_books<S: AuditedRepository, F: Inputs, O: Writer + Drop>(
     match asked {
         BookRequest::Init => (Ended::without_log(made(repository.make(book))), output),
         BookRequest::Rule(ruling) => tell(rule(rt, repository, inputs, book, ruling), output),
+        BookRequest::RuleNear(ruling) => {
+            tell(rule_near(rt, repository, inputs, book, ruling), output)
+        }
         BookRequest::Import(dump) => {
             tell(import_dump(rt, repository, inputs, book, dump), output)
         }
