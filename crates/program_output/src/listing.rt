@@ -24,12 +24,13 @@ use streams::Writer;
 const MOST_WRITTEN: usize = 65_536;
 
 /// No line of a list is longer.
-const LONGEST_LINE: usize = 64;
+const LONGEST_LINE: usize = 128;
 
 /// The lines of a list that are waiting to be written, how many records have a line, and which of
 /// them mark its begin and its end.
 #[derive(Drop)]
 pub struct Listing {
+    alloc: Global,
     text: String,
     count: u64,
     marks: Marks,
@@ -52,6 +53,7 @@ impl Listing {
         ensures marks { IfOk result (λ made. listed_marks made ≡ no_marks) }
     {
         Ok(Listing {
+            alloc,
             text: String::with_capacity(alloc, MOST_WRITTEN)?,
             count: 0,
             marks: Marks::none(),
@@ -77,17 +79,19 @@ impl Listing {
         Ok(())
     }
 
-    /// Adds the line of the next record. Where there is no room for a further line, what waits is
-    /// written.
+    /// Adds the line of the next record, with its name where names are asked for. Where there is no
+    /// room for a further line, what waits is written.
     pub(crate) fn push_line<W: Writer + Drop>(
         &mut self,
+        names: bool,
         bytes: &[u8],
         sink: &mut Sink<W>,
     ) -> Result<(), ReportFault>
         requires unwritten { has_failed sink.old ≡ false }
         requires few { listed_count self.old < 2 ^ 63 }
         requires room { HasRoom self.old }
-        ensures written { WritesAllBut (waiting self.old ++ record_line (listed_count self.old + 1) bytes.now)
+        ensures written { WritesAllBut
+            (waiting self.old ++ record_line names (listed_count self.old + 1) bytes.now)
             (waiting self.new) (W.contents (writer_of sink.old)) (W.contents (writer_of sink.new))
             result }
         ensures room { OnOk result (HasRoom self.new) }
@@ -99,7 +103,7 @@ impl Listing {
     {
         self.count += 1;
         self.marks = self.marks.after(class(bytes));
-        push_record_line(&mut self.text, self.count, bytes)?;
+        push_record_line(self.alloc, &mut self.text, names, self.count, bytes)?;
         if self.text.len() + LONGEST_LINE > MOST_WRITTEN {
             self.flush(sink)?;
         }
