@@ -122,6 +122,9 @@ quiet = flag (codes "quiet")
 abbrev pub whole : WordSeen
 whole = flag (codes "whole")
 
+abbrev pub with_names : WordSeen
+with_names = flag (codes "names")
+
 abbrev pub dry_run : WordSeen
 dry_run = flag (codes "dry-run")
 
@@ -181,7 +184,7 @@ commands_above = (
   layouts ∷ rate_of (codes "cpu") ∷ rate_of (codes "excp") ∷ rate_of (codes "record") ∷ prices
       ∷ whole ∷ [],
 ) ∷
-    (codes "check", layouts ∷ quiet ∷ whole ∷ file ∷ []) ∷
+    (codes "check", layouts ∷ quiet ∷ whole ∷ with_names ∷ file ∷ []) ∷
     (codes "init", book ∷ []) ∷
     (codes "tariff", book ∷ file ∷ dry_run ∷ near ∷ wait ∷ []) ∷
     (codes "import", book ∷ file ∷ layouts ∷ quiet ∷ whole ∷ wait ∷ []) ∷

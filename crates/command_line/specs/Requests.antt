@@ -247,7 +247,8 @@ IsOfCommand name rows (request.Trial layout cpu excp price whole) =
 IsOfCommand name rows (request.TrialUnder layout file whole) =
     (name ≡ codes "trial") × IsLayout rows layout × AreRates rows 0 0 0
     × IsText rows (codes "tariff") file × IsWhole rows whole
-IsOfCommand name rows (request.Check dump) = (name ≡ codes "check") × IsDump rows dump
+IsOfCommand name rows (request.Check dump names) =
+    (name ≡ codes "check") × IsDump rows dump × IsFlag rows (codes "names") names
 IsOfCommand name rows (request.Explain kind value) =
     (name ≡ codes "explain") × IsKind rows kind × IsNumber rows (codes "number") value
 IsOfCommand name rows (request.OfBooks path wait asked) =

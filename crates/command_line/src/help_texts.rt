@@ -18,6 +18,7 @@ pub(crate) enum Help {
     Layout,
     Quiet,
     Whole,
+    WithNames,
     DryRun,
     Near,
     Csv,
@@ -57,6 +58,7 @@ impl Help {
             Help::Whole => {
                 "A dump without a record, or with fewer trailers than headers, is not as it has to be"
             }
+            Help::WithNames => "Adds the name of each record that could be kept",
             Help::DryRun => "Prints what would change, and changes nothing",
             Help::Near => "Refuses a day that is far after the newest record, or after today",
             Help::Csv => "As comma-separated values, without the total",
@@ -94,7 +96,8 @@ impl Help {
             Help::Port => "PORT",
             Help::Requests | Help::Number => "NUMBER",
             Help::NumberKind => "KIND",
-            Help::Quiet | Help::Whole | Help::DryRun | Help::Near => "",
+            Help::Quiet | Help::Whole | Help::WithNames => "",
+            Help::DryRun | Help::Near => "",
             Help::Csv | Help::DisputeCsv => "",
         }
     }

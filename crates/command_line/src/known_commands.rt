@@ -83,6 +83,8 @@ const QUIET: Argument = Argument::Flag("quiet", Help::Quiet);
 
 const WHOLE: Argument = Argument::Flag("whole", Help::Whole);
 
+const WITH_NAMES: Argument = Argument::Flag("names", Help::WithNames);
+
 const DRY_RUN: Argument = Argument::Flag("dry-run", Help::DryRun);
 
 const NEAR: Argument = Argument::Flag("near", Help::Near);
@@ -140,7 +142,7 @@ pub(crate) static KNOWN_COMMANDS: [KnownCommand; 25] = [
     KnownCommand {
         name: "check",
         about: "Says what each record of a dump is, and why reading stopped",
-        words: &[LAYOUT, QUIET, WHOLE, DUMP],
+        words: &[LAYOUT, QUIET, WHOLE, WITH_NAMES, DUMP],
     },
     KnownCommand {
         name: "init",

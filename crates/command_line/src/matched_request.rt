@@ -182,9 +182,12 @@ fn check_in<'a>(found: &ArgMatches<'a>) -> Option<Request<'a>>
     ensures request { IfSome result (IsOfCommand (codes "check") (rows_in found.now)) }
     ensures some { HasWord (rows_in found.now) known.file
         → HasWord (rows_in found.now) known.layouts → HasWord (rows_in found.now) known.quiet
-        → HasWord (rows_in found.now) known.whole → IsSome result }
+        → HasWord (rows_in found.now) known.whole → HasWord (rows_in found.now) known.with_names
+        → IsSome result }
 {
-    Some(Request::Check(dump_in(found)?))
+    let dump = dump_in(found)?;
+    let names = flag_in(found, "names")?;
+    Some(Request::Check { dump, names })
 }
 
 fn import_in<'a>(found: &ArgMatches<'a>) -> Option<BookRequest<'a>>

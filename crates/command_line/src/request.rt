@@ -194,7 +194,11 @@ pub enum Request<'a> {
         whole: bool,
     },
     /// What every record of a file is.
-    Check(DumpFile<'a>),
+    Check {
+        dump: DumpFile<'a>,
+        /// With the names of those that could be kept.
+        names: bool,
+    },
     /// What a number on standard error or in a list means, or a word that has none.
     Explain {
         kind: NumberKind,
