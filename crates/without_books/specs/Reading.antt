@@ -1,5 +1,5 @@
 -- What the commands do that ask no books: trials, checks and explanations.
-use Rattle.std.specs.Prelude.{◌≡◌, ◌↔◌, ◌⊎◌, Bool, true, ℕ, List, ◌++◌, codes, Option, Some, None}
+use Rattle.std.specs.Prelude.{◌≡◌, ◌↔◌, ◌⊎◌, Bool, true, false, ℕ, List, ◌++◌, codes, Option, Some, None}
 use Rattle.std.specs.Prelude.{Result, Ok, Err, IsSome, IfSome}
 use Rattle.std.specs.Io.KnownBytes.{Keeps}
 use Rattle.std.specs.declared.io.ErrorKind.{ErrorKind}
@@ -107,14 +107,14 @@ pub record TriesUnder (file : Option (List ℕ)) (layout : Layout) (whole : Bool
 
 -- A check of what a reader had, with as many reads as an import has, once its first bytes were looked at.
 -- That a write failed is told only where the output has failed.
-pub record Lists (layout : Layout) (whole : Bool) (had held holds : Option (List ℕ)) (Failed : Type 0)
-    (ended : Ended) : Type 0 where
+pub record Lists (layout : Layout) (whole names : Bool) (had held holds : Option (List ℕ))
+    (Failed : Type 0) (ended : Ended) : Type 0 where
   pub looked : Bool
   pub look : IsLookedAt layout had looked
   pub input : Input
   pub answer : Result Checked ReportFault
   pub begun : Keeps had input.old.left
-  pub list : IsCheck (reading layout (cut_by input.new) most_reads input) held holds answer
+  pub list : IsCheck names (reading layout (cut_by input.new) most_reads input) held holds answer
   pub ends : ended ≡ check_end whole looked answer
   pub failed : is_write_fault answer ≡ true → Failed
 
@@ -125,17 +125,17 @@ pub record IsUnopened (held holds : Option (List ℕ)) (ended : Ended) : Type 0 
   pub ends : ended ≡ without_log (Err (io_fault why))
 
 -- a check of a file that had these bytes, where that is known
-abbrev pub Checks : Option (List ℕ) → Layout → Bool → Option (List ℕ) → Option (List ℕ) → Type 0
-    → Ended → Type 0
-Checks had layout whole held holds Failed ended =
-    Lists layout whole had held holds Failed ended ⊎ IsUnopened held holds ended
+abbrev pub Checks : Option (List ℕ) → Layout → Bool → Bool → Option (List ℕ) → Option (List ℕ)
+    → Type 0 → Ended → Type 0
+Checks had layout whole names held holds Failed ended =
+    Lists layout whole names had held holds Failed ended ⊎ IsUnopened held holds ended
 
 -- a check of what a file holds notices that it is not whole, as it had to be, whatever becomes of its list
 pub record FindsTorn (layout : Layout) (had : Option (List ℕ)) : Type 0 where
   pub held : Option (List ℕ)
   pub holds : Option (List ℕ)
   pub ended : Ended
-  pub lists : Lists layout true had held holds (Unit {0}) ended
+  pub lists : Lists layout true false had held holds (Unit {0}) ended
   pub torn : notices_torn ended ≡ true
 
 -- why a dump in a file that had these bytes is not imported: the file failed, or the dump had to be whole,

@@ -31,16 +31,18 @@ pub fn check<F: Inputs, O: Writer + Drop>(
     rt: &HostRuntime,
     inputs: &F,
     dump: DumpFile<'_>,
+    names: bool,
     output: O,
 ) -> (Ended, O)
-    ensures { Checks ((F.held inputs.now).holds dump.entry.file.now) dump.entry.layout dump.entry.whole
-        (O.contents output) (O.contents result.1) (∥ HasFailed O.may_answer result.1 ∥₁) result.0 }
+    ensures { Checks ((F.held inputs.now).holds dump.entry.file.now) dump.entry.layout
+        dump.entry.whole names (O.contents output) (O.contents result.1)
+        (∥ HasFailed O.may_answer result.1 ∥₁) result.0 }
 {
     let layout = dump.layout;
     let is_shown = !dump.quiet && rt.stderr().is_terminal() && !rt.stdout().is_terminal();
     match open_watched(rt, inputs, dump.file, is_shown) {
         Ok(reader) => {
-            let listed = list_dump(rt.alloc(), layout, dump.whole, reader, output);
+            let listed = list_dump(rt.alloc(), layout, dump.whole, names, reader, output);
             clear_line(rt, is_shown);
             listed
         }
@@ -53,16 +55,17 @@ fn list_dump<R: Read + Drop, O: Writer + Drop>(
     alloc: Global,
     layout: Layout,
     has_to_be_whole: bool,
+    names: bool,
     reader: R,
     output: O,
 ) -> (Ended, O)
-    ensures { Lists layout has_to_be_whole (R.remaining reader) (O.contents output) (O.contents result.1)
-        (∥ HasFailed O.may_answer result.1 ∥₁) result.0 }
+    ensures { Lists layout has_to_be_whole names (R.remaining reader) (O.contents output)
+        (O.contents result.1) (∥ HasFailed O.may_answer result.1 ∥₁) result.0 }
 {
     let LookedAt { reader, is_misread } = look_at(alloc, layout, reader);
     let mut source = Source::new(reader);
     let mut sink = Sink::new(output);
-    let told = check_list(alloc, &mut source, layout, MAX_READS, &mut sink);
+    let told = check_list(alloc, &mut source, layout, names, MAX_READS, &mut sink);
     end_check(has_to_be_whole, is_misread, told, sink)
 }
 
@@ -144,7 +147,7 @@ fn find_whole<F: Inputs>(
     }
     let is_shown = !dump.quiet && rt.stderr().is_terminal();
     let reader = open_watched(rt, inputs, dump.file, is_shown)?;
-    let (ended, _) = list_dump(rt.alloc(), dump.layout, true, reader, Unread);
+    let (ended, _) = list_dump(rt.alloc(), dump.layout, true, false, reader, Unread);
     clear_line(rt, is_shown);
     if has_torn(&ended) {
         return Err(CommandFault::Torn);

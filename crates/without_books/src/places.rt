@@ -82,7 +82,7 @@ impl<'a> Places<'a> {
         match request {
             Request::OfBooks { book, asked, .. } => Places::of_books(book, asked),
             Request::TrialUnder { file, .. } => Places::of_file(Some(file), Place::Input),
-            Request::Check(dump) => Places::of_file(Some(dump.file), Place::File(dump.file)),
+            Request::Check { dump, .. } => Places::of_file(Some(dump.file), Place::File(dump.file)),
             Request::Trial { .. } | Request::Explain { .. } | Request::Unclear(_) => {
                 Places::of_file(None, Place::Input)
             }
