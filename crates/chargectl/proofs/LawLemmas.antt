@@ -741,7 +741,7 @@ runs_on files shelf waits history name old new answered held
 runs_on files shelf waits history name old new answered held (Ok (request.Unclear why)) had has holds Failed
     Says status done =
     same_place shelf history name old new answered held done.1.0
-runs_on files shelf waits history name old new answered held (Ok (request.Check dump)) had has holds Failed
+runs_on files shelf waits history name old new answered held (Ok (request.Check dump names)) had has holds Failed
     Says status done =
     same_place shelf history name old new answered held done.1.0
 runs_on files shelf waits history name old new answered held (Ok (request.Explain kind number)) had has

@@ -147,8 +147,9 @@ Runs files shelf waits old new (request.Trial layout cpu excp fee whole) had hel
     (new ≡ old) × TriesAt layout whole cpu excp fee had held holds Failed ended
 Runs files shelf waits old new (request.TrialUnder layout file whole) had held holds Failed ended =
     (new ≡ old) × TriesUnder (files.holds file.now) layout whole had held holds Failed ended
-Runs files shelf waits old new (request.Check dump) had held holds Failed ended =
-    (new ≡ old) × Checks (files.holds dump.file.now) dump.layout dump.whole held holds Failed ended
+Runs files shelf waits old new (request.Check dump names) had held holds Failed ended =
+    (new ≡ old)
+    × Checks (files.holds dump.file.now) dump.layout dump.whole names held holds Failed ended
 Runs files shelf waits old new (request.Explain kind number) had held holds Failed ended =
     (new ≡ old) × EndsAt (TellsOf (kind_of kind) number held holds Failed) ended
 Runs files shelf waits old new (request.OfBooks name wait asked) had held holds Failed ended =

@@ -92,7 +92,7 @@ where
             file,
             whole,
         } => run_trial_under(rt.alloc(), inputs, layout, whole, file, input, output),
-        Request::Check(dump) => check(rt, inputs, dump, output),
+        Request::Check { dump, names } => check(rt, inputs, dump, names, output),
         Request::Explain { kind, number } => {
             let came = explain(rt.alloc(), kind, number, &mut output);
             (Ended::without_log(came), output)
