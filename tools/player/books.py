@@ -110,8 +110,8 @@ class Books(Session):
     def due_to_close(self, day, answer):
         """What a period has of later days is in the next one, once it is closed."""
         periods = [len(self.closes) + 1, len(self.closes) + 2]
-        is_late = date(day) > datetime.datetime.now(datetime.timezone.utc).date()
-        is_far = answer == ["DONE"] and (is_late or self.is_far(periods, day, NEAR_DAYS))
+        today = datetime.datetime.now(datetime.timezone.utc).date()
+        is_far = answer == ["DONE"] and (date(day) > today or self.is_far(periods, day, NEAR_DAYS))
         self.closes += [day] * (answer == ["DONE"])
         return ["chargectl: far"] * is_far
 

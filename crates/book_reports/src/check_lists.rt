@@ -1,5 +1,5 @@
-//! The lines of a check list: of which type and class a record is, its name if that is asked for, and
-//! how many there are.
+//! The lines of a check list: of which type and class a record is, its name if that is asked for,
+//! and how many there are.
 
 ghost use Rattle.std.specs.Prelude.{◌≡◌, ◌++◌, OnOk, string_bytes};
 ghost use Rattle.book_reports.specs.CheckLists as spec;

@@ -344,8 +344,8 @@ ruling_failed {old = old} {new = new} {fault = fault} {today = today} asked ruli
     (λ was book events is called. record {
       shows = λ fresh free. record {
         told_so = refused_tells old.naming asked ruling fault was book events is named called fresh free;
-        notice = sym (ap (notice_by (is_far_asked today asked book)) (told_by old.naming asked (Err fault) was book
-            events is called fresh free));
+        notice = sym (ap (notice_by (is_far_asked today asked book)) (told_by old.naming asked
+            (Err fault) was book events is called fresh free));
       };
       made = inr (record { answer = Err fault; left = is; made = called });
     }) work

@@ -56,7 +56,7 @@ impl Help {
             }
             Help::Quiet => "Shows no progress on a terminal",
             Help::Whole => {
-                "A dump without a record, or with fewer trailers than headers, is not as it has to be"
+                "The dump has to be whole: it has a record, and as many trailers as headers"
             }
             Help::WithNames => "Adds the name of each record that could be kept",
             Help::DryRun => "Prints what would change, and changes nothing",

@@ -122,8 +122,8 @@ pub fn expect_whole<F: Inputs>(
     inputs: &F,
     dump: DumpFile<'_>,
 ) -> Result<(), CommandFault>
-    ensures { IfErr result (IsUnfit ((F.held inputs.now).holds dump.entry.file.now) dump.entry.layout
-        dump.entry.whole) }
+    ensures { IfErr result (IsUnfit ((F.held inputs.now).holds dump.entry.file.now)
+        dump.entry.layout dump.entry.whole) }
 {
     if dump.whole {
         find_whole(rt, inputs, dump)
@@ -139,8 +139,8 @@ fn find_whole<F: Inputs>(
     dump: DumpFile<'_>,
 ) -> Result<(), CommandFault>
     requires { dump.entry.whole ≡ true }
-    ensures { IfErr result (IsUnfit ((F.held inputs.now).holds dump.entry.file.now) dump.entry.layout
-        dump.entry.whole) }
+    ensures { IfErr result (IsUnfit ((F.held inputs.now).holds dump.entry.file.now)
+        dump.entry.layout dump.entry.whole) }
 {
     if !inputs.is_kept(dump.file) {
         return Ok(());

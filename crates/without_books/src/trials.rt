@@ -32,8 +32,8 @@ pub fn run_trial<I: Read + Drop, O: Writer + Drop>(
     input: I,
     output: O,
 ) -> (Ended, O)
-    ensures { TriesBy layout has_to_be_whole tariff (I.remaining input) (O.contents output) (O.contents result.1)
-        (∥ HasFailed O.may_answer result.1 ∥₁) result.0 }
+    ensures { TriesBy layout has_to_be_whole tariff (I.remaining input) (O.contents output)
+        (O.contents result.1) (∥ HasFailed O.may_answer result.1 ∥₁) result.0 }
 {
     let Some(tariff) = tariff else {
         return (Ended::without_log(Err(CommandFault::Usage)), output);
@@ -71,8 +71,8 @@ pub fn run_trial_under<F: Inputs, I: Read + Drop, O: Writer + Drop>(
     input: I,
     output: O,
 ) -> (Ended, O)
-    ensures { TriesUnder ((F.held inputs.now).holds file.now) layout has_to_be_whole (I.remaining input)
-        (O.contents output) (O.contents result.1) (∥ HasFailed O.may_answer result.1 ∥₁) result.0 }
+    ensures { TriesUnder ((F.held inputs.now).holds file.now) layout has_to_be_whole
+        (I.remaining input) (O.contents output) (O.contents result.1) (∥ HasFailed O.may_answer result.1 ∥₁) result.0 }
 {
     match read_tariff(alloc, inputs, file) {
         Ok(tariff) => run_trial(alloc, layout, has_to_be_whole, Some(tariff), input, output),
