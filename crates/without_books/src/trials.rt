@@ -72,7 +72,8 @@ pub fn run_trial_under<F: Inputs, I: Read + Drop, O: Writer + Drop>(
     output: O,
 ) -> (Ended, O)
     ensures { TriesUnder ((F.held inputs.now).holds file.now) layout has_to_be_whole
-        (I.remaining input) (O.contents output) (O.contents result.1) (∥ HasFailed O.may_answer result.1 ∥₁) result.0 }
+        (I.remaining input) (O.contents output) (O.contents result.1)
+        (∥ HasFailed O.may_answer result.1 ∥₁) result.0 }
 {
     match read_tariff(alloc, inputs, file) {
         Ok(tariff) => run_trial(alloc, layout, has_to_be_whole, Some(tariff), input, output),
