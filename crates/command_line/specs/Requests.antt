@@ -173,6 +173,9 @@ IsOfBooks name rows (book.Import dump) = (name ≡ codes "import") × IsDump row
 IsOfBooks name rows (book.ChooseListed file) =
     (name ≡ codes "choose") × IsLeftOut rows (codes "sha256")
     × IsText rows (codes "from") file × IsDryRun rows false
+IsOfBooks name rows (book.TryListed file) =
+    (name ≡ codes "choose") × IsLeftOut rows (codes "sha256")
+    × IsText rows (codes "from") file × IsDryRun rows true
 IsOfBooks name rows (book.DryRun ruled) = IsRuling name rows ruled × IsDryRun rows true
 IsOfBooks name rows (book.Report asked) =
     AsksReport name rows asked × ((reports.row_of asked.name).streamed ≡ false)
@@ -235,9 +238,6 @@ IsUnclear name rows unclear.Choice =
 IsUnclear name rows unclear.Prices =
     (name ≡ codes "trial") × IsGiven rows (codes "tariff") × NamesRate rows
 IsUnclear name rows unclear.Period = has_plain_period rows ≡ false
-IsUnclear name rows unclear.DryRun =
-    (name ≡ codes "choose") × IsLeftOut rows (codes "sha256") × IsGiven rows (codes "from")
-    × IsDryRun rows true
 
 -- what is asked of the program, by the words of a command
 abbrev pub IsOfCommand : Text → List Row → Request → Type 0

@@ -272,7 +272,18 @@ fn choice_in<'a>(found: &ArgMatches<'a>) -> Option<Request<'a>>
     }
 }
 
-/// The choices of a list. A dry run is not of them.
+/// The choices of a list, or a dry run of them.
+fn listed<'a>(tried: bool, file: &'a str) -> BookRequest<'a>
+    ensures { (rows : _) → IsLeftOut rows (codes "sha256") → IsText rows (codes "from") file.entry
+        → IsDryRun rows tried → IsOfBooks (codes "choose") rows result }
+{
+    if tried {
+        return BookRequest::TryListed { file };
+    }
+    BookRequest::ChooseListed { file }
+}
+
+/// What is asked by a list.
 fn listed_in<'a>(found: &ArgMatches<'a>, file: &'a str) -> Option<Request<'a>>
     ensures request { IsLeftOut (rows_in found.now) (codes "sha256")
         → IsText (rows_in found.now) (codes "from") file.entry
@@ -281,11 +292,8 @@ fn listed_in<'a>(found: &ArgMatches<'a>, file: &'a str) -> Option<Request<'a>>
         → HasWord (rows_in found.now) known.dry_run → HasWord (rows_in found.now) known.wait
         → IsSome result }
 {
-    if flag_in(found, "dry-run")? {
-        Some(Request::Unclear(Unclear::DryRun))
-    } else {
-        of_books_in(found, Some(BookRequest::ChooseListed { file }))
-    }
+    let tried = flag_in(found, "dry-run")?;
+    of_books_in(found, Some(listed(tried, file)))
 }
 
 fn audit_in<'a>(found: &ArgMatches<'_>) -> Option<BookRequest<'a>>

@@ -56,8 +56,6 @@ pub enum Unclear {
     Prices,
     /// Which period: its number has a sign, or a 0 before other digits.
     Period,
-    /// What a dry run is of: it is of one choice, and a list of names is given.
-    DryRun,
 }
 
 /// A ruling on the books.
@@ -131,6 +129,11 @@ pub enum BookRequest<'a> {
     /// The records of a list chosen, one after the other.
     ChooseListed {
         /// The path of the list, which has a name a line.
+        file: &'a str,
+    },
+    /// What the choices of a list would be answered printed, and nothing changed.
+    TryListed {
+        /// The path of the list.
         file: &'a str,
     },
     /// What a ruling would change printed, and nothing changed.
