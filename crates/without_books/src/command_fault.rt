@@ -84,7 +84,6 @@ fn unclear_text(why: Unclear) -> &'static str
         Unclear::Choice => "error: choose takes either SHA256 or --from FILE\n",
         Unclear::Prices => "error: trial takes either rates or --tariff FILE\n",
         Unclear::Period => "error: PERIOD is a number without a sign or a leading 0\n",
-        Unclear::DryRun => "error: choose --dry-run takes SHA256, not --from FILE\n",
     }
 }
 

@@ -248,6 +248,7 @@ fn read_by<'a>(asked: BookRequest<'a>) -> Option<&'a str> {
         | BookRequest::RuleNear(Ruling::Tariff { file })
         | BookRequest::DryRun(Ruling::Tariff { file })
         | BookRequest::ChooseListed { file }
+        | BookRequest::TryListed { file }
         | BookRequest::WhatIf { file, .. } => Some(file),
         BookRequest::Import(dump) => Some(dump.file),
         _ => None,
@@ -262,7 +263,7 @@ fn made_by<'a>(
     match asked {
         BookRequest::Init => Some((book, &NEW_FILES)),
         BookRequest::BackUp { copy, .. } => Some((copy, &NEW_FILES)),
-        BookRequest::DryRun(_) => Some((book, &TRIAL_FILES)),
+        BookRequest::DryRun(_) | BookRequest::TryListed { .. } => Some((book, &TRIAL_FILES)),
         _ => None,
     }
 }
