@@ -44,7 +44,8 @@ use Rattle.chargectl.specs.CommandLaws.{AreCommanded, AskedBy, AsksOfHistory, Au
 use Rattle.chargectl.specs.CommandLaws.{AuditsOf, Commanded, ChoicesFollow, CommandsFollowHistory}
 use Rattle.chargectl.specs.CommandLaws.{DoesToHistory, Follows, IsListed, LeaveHistory, ListBy}
 use Rattle.chargectl.specs.CommandLaws.{NearBy, NearFollows, NearOfHistory}
-use Rattle.chargectl.specs.CommandLaws.{ListOfHistory, ListsHistoryBy, ListsAskedOfHistory}
+use Rattle.chargectl.specs.CommandLaws.{ListOfHistory, ListTriedBy, ListTriedOfHistory}
+use Rattle.chargectl.specs.CommandLaws.{ListsHistoryBy, ListsAskedOfHistory}
 use Rattle.chargectl.specs.CommandLaws.{ListsOfHistory, OpenedSo, RunsOn, ServesEach}
 use Rattle.chargectl.specs.CommandLaws.{ServesHistoryBy, TriedBy, TriesOfHistory, place_after}
 use Rattle.chargectl.specs.DryRuns.{ComesOfDryRun, ShowsDry, TriesAndTells, TriesOnceBy}
@@ -277,28 +278,28 @@ module _ (naming : Naming) (history : List Event) (name : List ℕ) (old new : S
       (work_on book (WritesAnswerUntil answer naming held_bytes holds told)
       (listing_answered answer naming held_bytes holds told) done)
 
+  -- what chose records follows the history
+  choices_followed : (names : List (List ℕ)) (told : Result Chosen AllocError) (made : List Event)
+      → Makes (ChoosesBy naming names told) history made
+      → ChoicesFollow naming history names told made
+  choices_followed names (Ok chosen) made it =
+      let work = subst (λ book. ChoosesBy naming names (Ok chosen) false book made it.is)
+      (books_follow_history history) it.made_so in
+      record {
+        left = it.is;
+        work = work;
+        is = choices_done naming names chosen.answers.items chosen.refusal (book_of history) made it.is
+            work;
+      }
+  choices_followed names (Err none) made it = it.made_so.none
+
   -- records were chosen, one after the other
   chosen_on : (book : List ℕ) (names : List (List ℕ)) (told : Result Chosen AllocError)
       → IsDoneTo book (ChoosesBy naming names told) old new
       → Step naming history name old new (Where book name (ChoicesFollow naming history names told))
-  chosen_on book names (Ok chosen) done =
-      step_where follows_of
-      (work_on book (ChoosesBy naming names (Ok chosen)) (list_answered naming names (Ok chosen)) done)
-    where
-      follows_of : (made : List Event) → Makes (ChoosesBy naming names (Ok chosen)) history made
-          → ChoicesFollow naming history names (Ok chosen) made
-      follows_of made it =
-          let work = subst (λ book. ChoosesBy naming names (Ok chosen) false book made it.is)
-          (books_follow_history history) it.made_so in
-          record {
-            left = it.is;
-            work = work;
-            is = choices_done naming names chosen.answers.items chosen.refusal (book_of history) made it.is
-                work;
-          }
-  chosen_on book names (Err none) done =
-      step_as (λ made so. (λ same. (so.0 same).made_so.none, so.1))
-      (work_on book NoEvent (none_answered naming) done)
+  chosen_on book names told done =
+      step_where (choices_followed names told)
+      (work_on book (ChoosesBy naming names told) (list_answered naming names told) done)
 
   -- or the place refused them, for such a reason
   opened_on : {A : Type 0} (book : List ℕ) (Refuses : RepositoryFault → Type 0)
@@ -397,7 +398,7 @@ module _ (history : List Event) (name : List ℕ) (old new : Shelf)
 
   -- a list of choices
   list_comes_on : (had : Option (List ℕ)) (book : List ℕ) (came : Result ListAnswered CommandFault)
-      → ComesOfList had book old new came
+      → ComesOfList false had book old new came
       → Step old.naming history name old new
       (Where book name (ListBy had old.naming history (Refuses book) came))
   list_comes_on had book (Ok told) comes =
@@ -425,12 +426,77 @@ module _ (history : List Event) (name : List ℕ) (old new : Shelf)
       (none_on old.naming history name old new answered held book comes.1)
 
   list_on : (had : Option (List ℕ)) (book : List ℕ) (has holds : Option (List ℕ)) (Failed : Type 0)
-      (ended : Ended) → ChoosesListed had book old new has holds Failed ended
+      (ended : Ended) → ChoosesListed false had book old new has holds Failed ended
       → Step old.naming history name old new
       (Where book name (ListOfHistory had old.naming history (Refuses book) has holds Failed ended))
   list_on had book has holds Failed ended it =
       step_where (λ made so. record { came = it.answered; listed = so; tells = it.tells })
       (list_comes_on had book it.answered it.comes)
+
+  -- or they were tried
+  names_tried : (book : List ℕ) (names : List (List ℕ))
+      (told : Result (Result Chosen AllocError) RepositoryFault)
+      → IsTried (ChoosesBy old.naming names) book old new told
+      → Step old.naming history name old new (λ made. (book ≡ name
+      → IfOk told (λ chosen. (events : List Event)
+      × ChoicesFollow old.naming history names chosen events))
+      × IfErr told (Refuses book) × (made ≡ []))
+  names_tried book names (Ok chosen) tried =
+      step_as (λ made is. (λ same. follows same, tt, is))
+      (none_on old.naming history name old new answered held book tried.0)
+    where
+      follows : book ≡ name
+          → (events : List Event) × ChoicesFollow old.naming history names chosen events
+      follows same =
+          let found = tried.1 history (subst (λ name. old.holds name history) (sym same) held) in
+          (found.0, choices_followed old.naming history name old new answered held names chosen found.0
+          (record { is = found.1; made_so = found.2 }))
+  names_tried book names (Err fault) tried =
+      step_as (λ made is. (λ _. tt, follow book fault tried.0, is))
+      (none_on old.naming history name old new answered held book tried.1)
+
+  list_tried : (had : Option (List ℕ)) (book : List ℕ) (has holds : Option (List ℕ)) (Failed : Type 0)
+      (ended : Ended) → ChoosesListed true had book old new has holds Failed ended
+      → Step old.naming history name old new
+      (Where book name
+      (ListTriedOfHistory had old.naming history (Refuses book) has holds Failed ended))
+  list_tried had book has holds Failed ended it =
+      step_as (λ made so. (
+        λ same. record {
+          came = it.answered;
+          tried = so.0 same;
+          tells = it.tells;
+          none = so.1;
+        },
+        λ _. so.1,
+      ))
+      (by_came it.answered it.comes)
+    where
+      by_came : (came : Result ListAnswered CommandFault) → ComesOfList true had book old new came
+          → Step old.naming history name old new
+          (λ made. (book ≡ name
+          → ListTriedBy had old.naming history (Refuses book) came) × (made ≡ []))
+      by_came (Ok listed) comes =
+          step_as (λ made so. (
+            λ same. record {
+              names = comes.names;
+              listed = comes.listed;
+              all = comes.all;
+              told = comes.came.told;
+              follows = so.0 same;
+              refused = so.1;
+              says = comes.came.says;
+            },
+            so.2,
+          ))
+          (names_tried book comes.names comes.came.told comes.came.tried)
+      by_came (Err why) comes =
+          step_as (λ made is. (
+            λ _. either_as (old.refuses book) (Refuses book) (follow book)
+                (IsListFault (front_of had) why) why comes.0,
+            is,
+          ))
+          (none_on old.naming history name old new answered held book comes.1)
 
   -- books that are untouched, whatever else a command does
   still_on : (book touched : List ℕ) → IsUntouched touched old new
@@ -690,6 +756,9 @@ module _ {S : Type 0} (shelf : S → Shelf) (history : List Event) (name : List 
   does_on files book (asks.ChooseListed file) has holds Failed ended does =
       list_on history name (shelf before) (shelf after) answered held Refuses follow (files.holds file.now)
       book has holds Failed ended does
+  does_on files book (asks.TryListed file) has holds Failed ended does =
+      list_tried history name (shelf before) (shelf after) answered held Refuses follow
+      (files.holds file.now) book has holds Failed ended does
   does_on files book (asks.DryRun ruling) has holds Failed ended does =
       tries_on history name (shelf before) (shelf after) answered held Refuses follow files book ruling
       has holds Failed ended does

@@ -252,6 +252,34 @@ pub record ListOfHistory (had : Option (List ℕ)) (naming : Naming) (history : 
   pub listed : ListBy had naming history Refuses came made
   pub tells : TellsList came held holds Failed ended
 
+-- The names of a list, in a file that had these bytes, were chosen on a copy of the books of a history, and so
+-- it was told: as if they had been chosen.
+pub record ListTriedOf (had : Option (List ℕ)) (naming : Naming) (history : List Event)
+    (Refuses : RepositoryFault → Type 0) (answered : ListAnswered) : Type 0 where
+  pub names : List (List ℕ)
+  pub listed : AreListed names
+  pub all : AreAllOf (front_of had) names
+  pub told : Result (Result Chosen AllocError) RepositoryFault
+  pub follows : IfOk told (λ chosen. (events : List Event)
+      × ChoicesFollow naming history names chosen events)
+  pub refused : IfErr told Refuses
+  pub says : answered.chosen ≡ chosen_of told
+
+-- or none were
+abbrev pub ListTriedBy : Option (List ℕ) → Naming → List Event → (RepositoryFault → Type 0)
+    → Result ListAnswered CommandFault → Type 0
+ListTriedBy had naming history Refuses (Ok answered) = ListTriedOf had naming history Refuses answered
+ListTriedBy had naming history Refuses (Err why) = ChoosesNothing had Refuses why
+
+-- that was written, and no event was made
+pub record ListTriedOfHistory (had : Option (List ℕ)) (naming : Naming) (history : List Event)
+    (Refuses : RepositoryFault → Type 0) (held holds : Option (List ℕ)) (Failed : Type 0)
+    (ended : Ended) (made : List Event) : Type 0 where
+  pub came : Result ListAnswered CommandFault
+  pub tried : ListTriedBy had naming history Refuses came
+  pub tells : TellsList came held holds Failed ended
+  pub none : made ≡ []
+
 -- One client was replied to, and these events were made; or the place refused the books, for any reason.
 pub record AnswersOrNot (naming : Naming) (what : Served) (was : Bool) (before : Book)
     (events : List Event) (is : Bool) : Type 0 where
@@ -394,6 +422,8 @@ DoesToHistory files naming history Refuses (book.List asked) held holds Failed e
     ListsAskedOfHistory (list_of asked) naming history Refuses held holds ended made
 DoesToHistory files naming history Refuses (book.ChooseListed file) held holds Failed ended made =
     ListOfHistory (files.holds file.now) naming history Refuses held holds Failed ended made
+DoesToHistory files naming history Refuses (book.TryListed file) held holds Failed ended made =
+    ListTriedOfHistory (files.holds file.now) naming history Refuses held holds Failed ended made
 DoesToHistory files naming history Refuses (book.DryRun ruling) held holds Failed ended made =
     TriesOfHistory files naming history Refuses ruling held holds Failed ended made
 DoesToHistory files naming history Refuses (book.RuleNear ruling) held holds Failed ended made =

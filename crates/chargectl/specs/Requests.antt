@@ -1,5 +1,5 @@
 -- What the program does: for each request, and for words that are none.
-use Rattle.std.specs.Prelude.{◌≡◌, ◌⊎◌, Bool, true, ℕ, List, [], ◌∷◌, ◌++◌, length, Option, None}
+use Rattle.std.specs.Prelude.{◌≡◌, ◌⊎◌, Bool, true, false, ℕ, List, [], ◌∷◌, ◌++◌, length, Option, None}
 use Rattle.std.specs.Prelude.{IfErr, IfOk, OnErr, Result, Ok, Err, String, string_bytes}
 use Rattle.std.specs.Global.{Global}
 use Rattle.std.specs.declared.io.Error.{Error}
@@ -107,7 +107,9 @@ Does files shelf (book.Serve port requests) name old new held holds Failed ended
 Does files shelf (book.List asked) name old new held holds Failed ended =
     SettlesBy (ListsAsked (list_of asked) name (shelf old) (shelf new) held holds Failed) ended
 Does files shelf (book.ChooseListed file) name old new held holds Failed ended =
-    ChoosesListed (files.holds file.now) name (shelf old) (shelf new) held holds Failed ended
+    ChoosesListed false (files.holds file.now) name (shelf old) (shelf new) held holds Failed ended
+Does files shelf (book.TryListed file) name old new held holds Failed ended =
+    ChoosesListed true (files.holds file.now) name (shelf old) (shelf new) held holds Failed ended
 Does files shelf (book.DryRun ruling) name old new held holds Failed ended =
     TriesAndTells files ruling name (shelf old) (shelf new) held holds Failed ended
 Does files shelf (book.RuleNear ruling) name old new held holds Failed ended =
