@@ -635,7 +635,8 @@ class Rows:
             for number, name in enumerate(names, 1):
                 if not DIGITS.fullmatch(name):
                     return ["chargectl: word line %d" % number]
-            return books.choose_each(name.lower() for name in names)
+            tried = copy.deepcopy(books) if is_tried else books
+            return tried.choose_each(name.lower() for name in names)
 
         return {"init": lambda: [],
                 "tariff": lambda file: self.ruled(office.ruling_of_tariff(self.file(file)), is_tried),
