@@ -147,6 +147,13 @@ def check_list(dump, layout):
     return "".join(lines + ["RECORDS %d STOP %s\n" % (len(records), stop)]).encode(), stop
 
 
+def is_torn(dump, layout):
+    """A dump has no record, or fewer trailers than headers."""
+    *records, stop = framed(dump, layout)
+    classes = [class_of(record) for record in records]
+    return not records or classes.count("TRAILER") < classes.count("HEADER")
+
+
 COUNTED = "KEPT KNOWN UNPRICED OTHER HEADERS TRAILERS LOST CONTINUED DAMAGED".split()
 PLURALS = {"HEADER": "HEADERS", "TRAILER": "TRAILERS"}
 
@@ -547,13 +554,13 @@ ERROR = re.compile(
 
 # What a command notices, after what it says; and the last line of one that leaves pages in the log of
 # books, or keeps a log that holds none.
-LAYOUT, FAR = b"chargectl: layout\n", b"chargectl: far\n"
+LAYOUT, FAR, TORN = b"chargectl: layout\n", b"chargectl: far\n", b"chargectl: torn\n"
 LOG = b"chargectl: log\n"
 
 
 def said_first(lines):
     """What is said on standard error before what is noticed."""
-    return lines.removesuffix(LOG).removesuffix(FAR).removesuffix(LAYOUT)
+    return lines.removesuffix(LOG).removesuffix(FAR).removesuffix(LAYOUT).removesuffix(TORN)
 
 
 # What a close leaves of a log, and the header of one and that of a page.

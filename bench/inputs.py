@@ -426,7 +426,7 @@ COMMANDS = ("init tariff import close choose adopt statement adjustments details
             "-V").split()
 WORDS = ("books nothing tariff dump . .. books/ books-wal 0 1 2 3 65535 65536 -1 1e3 0x1 ١ "
          "2024-01-31 2024-02-30 2024-02-29 2024-1-1 --layout --layout=bdw --layout=xyz rdw bdw "
-         "--quiet --quiet=1 --dry-run --csv --cpu --cpu=100000000 --cpu=100000001 --excp --record "
+         "--quiet --quiet=1 --whole --dry-run --csv --cpu --cpu=100000000 --cpu=100000001 --excp --record "
          "--record=-1 -- - -q --help -h --port --requests --from --tariff "
          "--tariff=tariff --tariff=dump "
          "--centre --centre=LEDGER --wait --wait=0 --wait=3601 frame ledger tariff damaged").split()
@@ -450,7 +450,7 @@ PLACED = {
     "N": (HELD_RECORD.decode(), "0" * 64, "ab" * 32, "AB" * 32, "zz" * 32, "0" * 63, ""),
     "O": ("--csv", "--tariff=tariff", "--tariff=dump", "--tariff=nothing", "--centre=LEDGER"),
     "K": ("frame", "ledger", "tariff", "damaged", "io", "busy", "exists", "word", "unsound", "log",
-          "layout", "far", "other")}
+          "layout", "far", "torn", "other")}
 
 
 def words(rng):

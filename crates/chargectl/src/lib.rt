@@ -13,6 +13,7 @@ mod dated_rulings;
 mod dry_runs;
 mod far;
 mod laws;
+mod near_rulings;
 mod port;
 mod program;
 mod report_commands;

@@ -95,7 +95,7 @@ names = named_if_given (codes "from") any
 abbrev pub number_kind : WordSeen
 number_kind = place (codes "kind") (among (codes "frame" ∷ codes "ledger" ∷ codes "tariff"
     ∷ codes "damaged" ∷ codes "io" ∷ codes "busy" ∷ codes "exists" ∷ codes "word"
-    ∷ codes "unsound" ∷ codes "log" ∷ codes "layout" ∷ codes "far" ∷ []))
+    ∷ codes "unsound" ∷ codes "log" ∷ codes "layout" ∷ codes "far" ∷ codes "torn" ∷ []))
 
 abbrev pub kind_number : WordSeen
 kind_number = place_or (codes "number") (at_most most_number) (codes "0")
@@ -119,8 +119,17 @@ prices = named_if_given (codes "tariff") any
 abbrev pub quiet : WordSeen
 quiet = flag (codes "quiet")
 
+abbrev pub whole : WordSeen
+whole = flag (codes "whole")
+
+abbrev pub with_names : WordSeen
+with_names = flag (codes "names")
+
 abbrev pub dry_run : WordSeen
 dry_run = flag (codes "dry-run")
+
+abbrev pub near : WordSeen
+near = flag (codes "near")
 
 abbrev pub csv : WordSeen
 csv = flag (codes "csv")
@@ -172,13 +181,14 @@ report_command name = ((reports.row_of name).word, report_words (reports.row_of 
 abbrev pub commands_above : List (Text × List WordSeen)
 commands_above = (
   codes "trial",
-  layouts ∷ rate_of (codes "cpu") ∷ rate_of (codes "excp") ∷ rate_of (codes "record") ∷ prices ∷ [],
+  layouts ∷ rate_of (codes "cpu") ∷ rate_of (codes "excp") ∷ rate_of (codes "record") ∷ prices
+      ∷ whole ∷ [],
 ) ∷
-    (codes "check", layouts ∷ quiet ∷ file ∷ []) ∷
+    (codes "check", layouts ∷ quiet ∷ whole ∷ with_names ∷ file ∷ []) ∷
     (codes "init", book ∷ []) ∷
-    (codes "tariff", book ∷ file ∷ dry_run ∷ wait ∷ []) ∷
-    (codes "import", book ∷ file ∷ layouts ∷ quiet ∷ wait ∷ []) ∷
-    (codes "close", book ∷ period ∷ date ∷ dry_run ∷ wait ∷ []) ∷
+    (codes "tariff", book ∷ file ∷ dry_run ∷ near ∷ wait ∷ []) ∷
+    (codes "import", book ∷ file ∷ layouts ∷ quiet ∷ whole ∷ wait ∷ []) ∷
+    (codes "close", book ∷ period ∷ date ∷ dry_run ∷ near ∷ wait ∷ []) ∷
     (codes "choose", book ∷ digest ∷ names ∷ dry_run ∷ wait ∷ []) ∷
     (codes "adopt", book ∷ dry_run ∷ wait ∷ []) ∷
     []

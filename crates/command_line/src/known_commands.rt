@@ -81,7 +81,13 @@ const LAYOUT: Argument = Argument::NamedOr(
 
 const QUIET: Argument = Argument::Flag("quiet", Help::Quiet);
 
+const WHOLE: Argument = Argument::Flag("whole", Help::Whole);
+
+const WITH_NAMES: Argument = Argument::Flag("names", Help::WithNames);
+
 const DRY_RUN: Argument = Argument::Flag("dry-run", Help::DryRun);
+
+const NEAR: Argument = Argument::Flag("near", Help::Near);
 
 const CSV: Argument = Argument::Flag("csv", Help::Csv);
 
@@ -114,7 +120,7 @@ const NUMBER_KIND: Argument = Argument::InPlace(
     Help::NumberKind,
     ValueKind::OneOf(&[
         "frame", "ledger", "tariff", "damaged", "io", "busy", "exists", "word", "unsound", "log",
-        "layout", "far",
+        "layout", "far", "torn",
     ]),
 );
 
@@ -131,12 +137,12 @@ pub(crate) static KNOWN_COMMANDS: [KnownCommand; 25] = [
     KnownCommand {
         name: "trial",
         about: "Prices a dump from standard input in new books, and prints their statement",
-        words: &[LAYOUT, CPU, EXCP, RECORD, PRICES],
+        words: &[LAYOUT, CPU, EXCP, RECORD, PRICES, WHOLE],
     },
     KnownCommand {
         name: "check",
         about: "Says what each record of a dump is, and why reading stopped",
-        words: &[LAYOUT, QUIET, DUMP],
+        words: &[LAYOUT, QUIET, WHOLE, WITH_NAMES, DUMP],
     },
     KnownCommand {
         name: "init",
@@ -146,17 +152,17 @@ pub(crate) static KNOWN_COMMANDS: [KnownCommand; 25] = [
     KnownCommand {
         name: "tariff",
         about: "Puts a tariff in force from its first day on",
-        words: &[BOOK, TARIFF, DRY_RUN, WAIT],
+        words: &[BOOK, TARIFF, DRY_RUN, NEAR, WAIT],
     },
     KnownCommand {
         name: "import",
         about: "Reads a dump into the books, each record once",
-        words: &[BOOK, DUMP, LAYOUT, QUIET, WAIT],
+        words: &[BOOK, DUMP, LAYOUT, QUIET, WHOLE, WAIT],
     },
     KnownCommand {
         name: "close",
         about: "Closes the open period through a day",
-        words: &[BOOK, PERIOD, DATE, DRY_RUN, WAIT],
+        words: &[BOOK, PERIOD, DATE, DRY_RUN, NEAR, WAIT],
     },
     KnownCommand {
         name: "choose",

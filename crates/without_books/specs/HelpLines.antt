@@ -79,11 +79,15 @@ fault_topic (fault.LedgerAt refused line) = Some (ledger_topic refused)
 fault_topic (fault.Report refused) = Some (report_topic refused)
 fault_topic (fault.Stopped why) = stop_topic why
 fault_topic fault.Unsound = Some (word_topic word.Unsound)
+fault_topic fault.Torn = Some (word_topic word.Torn)
+fault_topic fault.Far = Some (word_topic word.Far)
 
 -- what it is asked of a notice
 abbrev pub notice_topic : Notice → Topic
 notice_topic notice.Layout = word_topic word.Layout
 notice_topic notice.Far = word_topic word.Far
+notice_topic notice.Torn = word_topic word.Torn
+notice_topic notice.NotWhole = word_topic word.Torn
 
 -- what a fault is about, in the words of the command
 abbrev pub place_text : Place → List ℕ

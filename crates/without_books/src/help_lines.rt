@@ -96,6 +96,8 @@ fn fault_topic(fault: CommandFault) -> Option<Topic>
         CommandFault::Report(refused) => Some(report_topic(refused)),
         CommandFault::Stopped(stop) => stop_topic(stop),
         CommandFault::Unsound => Some(word_topic(WordKind::Unsound)),
+        CommandFault::Torn => Some(word_topic(WordKind::Torn)),
+        CommandFault::Far => Some(word_topic(WordKind::Far)),
         CommandFault::Usage | CommandFault::Number | CommandFault::Unclear(_) => None,
     }
 }
@@ -155,6 +157,7 @@ fn notice_topic(notice: Notice) -> Topic
     match notice {
         Notice::Layout => word_topic(WordKind::Layout),
         Notice::Far => word_topic(WordKind::Far),
+        Notice::Torn | Notice::NotWhole => word_topic(WordKind::Torn),
     }
 }
 

@@ -19,14 +19,14 @@ mod served_lines;
 mod tariff_texts;
 mod trials;
 
-pub use checks::check;
+pub use checks::{check, expect_whole};
 pub use command_fault::{CommandFault, end_of};
 pub use ended::{Ended, say_fault, settled};
 pub use explanations::explain;
 pub use first_bytes::{LookedAt, Rest, look_at};
 pub use help_lines::{Said, help};
 pub use inputs::{HostInputs, Inputs};
-pub use notice::{Notice, layout_notice};
+pub use notice::{Notice, dump_notice};
 pub use ports::listen_here;
 pub use printed_text::{let_out, print_text};
 pub use progress::{ProgressLine, WatchedReader, clear_line, open_watched};

@@ -82,7 +82,7 @@ impl<'a> Places<'a> {
         match request {
             Request::OfBooks { book, asked, .. } => Places::of_books(book, asked),
             Request::TrialUnder { file, .. } => Places::of_file(Some(file), Place::Input),
-            Request::Check(dump) => Places::of_file(Some(dump.file), Place::File(dump.file)),
+            Request::Check { dump, .. } => Places::of_file(Some(dump.file), Place::File(dump.file)),
             Request::Trial { .. } | Request::Explain { .. } | Request::Unclear(_) => {
                 Places::of_file(None, Place::Input)
             }
@@ -130,7 +130,9 @@ impl<'a> Places<'a> {
             CommandFault::Exists => self.in_the_way(rt),
             // Of an unsound copy nothing is left.
             CommandFault::Unsound => Spot::in_file(self.books),
-            CommandFault::ArgumentAt(_) | CommandFault::LedgerAt(_, _) => Spot::in_file(self.read),
+            CommandFault::ArgumentAt(_) | CommandFault::LedgerAt(_, _) | CommandFault::Torn => {
+                Spot::in_file(self.read)
+            }
             CommandFault::Ledger(refused) => self.refused(rt, refused),
             CommandFault::Report(ReportFault::Ledger(refused)) => self.refused(rt, refused),
             CommandFault::Report(ReportFault::Write) => Some(output_failed()),
@@ -243,8 +245,10 @@ impl<'a> Places<'a> {
 fn read_by<'a>(asked: BookRequest<'a>) -> Option<&'a str> {
     match asked {
         BookRequest::Rule(Ruling::Tariff { file })
+        | BookRequest::RuleNear(Ruling::Tariff { file })
         | BookRequest::DryRun(Ruling::Tariff { file })
         | BookRequest::ChooseListed { file }
+        | BookRequest::TryListed { file }
         | BookRequest::WhatIf { file, .. } => Some(file),
         BookRequest::Import(dump) => Some(dump.file),
         _ => None,
@@ -259,7 +263,7 @@ fn made_by<'a>(
     match asked {
         BookRequest::Init => Some((book, &NEW_FILES)),
         BookRequest::BackUp { copy, .. } => Some((copy, &NEW_FILES)),
-        BookRequest::DryRun(_) => Some((book, &TRIAL_FILES)),
+        BookRequest::DryRun(_) | BookRequest::TryListed { .. } => Some((book, &TRIAL_FILES)),
         _ => None,
     }
 }
