@@ -323,7 +323,7 @@ def answer(status, body=None, kind="plain", allow=None, charset="us-ascii"):
 
 
 # What stands in the head of a page.
-PAGE_LINES = ("Content-Security-Policy: default-src 'none'; style-src 'unsafe-inline'\r\n"
+PAGE_LINES = ("Content-Security-Policy: default-src 'none'; style-src 'unsafe-inline'; frame-ancestors 'none'\r\n"
               "X-Content-Type-Options: nosniff\r\n")
 
 # The head of an answer of any status.

@@ -200,7 +200,8 @@ PAGE_PATH = re.compile("/(?:period/([1-9][0-9]{0,3}))?")
 PHRASES = {200: "OK", 400: "Bad Request", 404: "Not Found", 503: "Service Unavailable"}
 
 # Of a page, which works by its style alone.
-PAGE_LINES = ["Content-Security-Policy: default-src 'none'; style-src 'unsafe-inline'", "X-Content-Type-Options: nosniff"]
+PAGE_LINES = ["Content-Security-Policy: default-src 'none'; style-src 'unsafe-inline'; frame-ancestors 'none'",
+              "X-Content-Type-Options: nosniff"]
 
 
 def bytes_of(text):
