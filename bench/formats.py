@@ -265,7 +265,8 @@ def asked(request, last_period):
     if len(lengths) > 1 or lengths and not LENGTH.fullmatch(lengths[0]):
         return Asked(400)
     hosts = [value.strip(b" \t") for name, value in fields if name.lower() == b"host"]
-    if not all(map(HOST.fullmatch, hosts)):
+    sites = [value.strip(b" \t").lower() for name, value in fields if name.lower() == b"sec-fetch-site"]
+    if not all(map(HOST.fullmatch, hosts)) or b"cross-site" in sites:
         return Asked(403)
     path = PATH.fullmatch(head[2].split(b"?")[0])
     if not path or path["day"] and not is_day_text(path["day"]):
