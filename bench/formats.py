@@ -318,21 +318,23 @@ def answer(status, body=None, kind="plain", allow=None, charset="us-ascii"):
     """An answer as it is sent: without a body it gives its status alone."""
     phrase = "%d %s" % (status, PHRASES[status])
     body = (phrase + "\n").encode() if body is None else body
-    line = "Allow: %s\r\n" % allow.decode() if allow else PAGE_LINES if kind == "html" else ""
+    line = ("Allow: %s\r\n" % allow.decode() if allow else PAGE_LINES if kind == "html"
+            else NO_SNIFFING if charset == "utf-8" else "")
     return ("HTTP/1.1 %s\r\nContent-Type: text/%s; charset=%s\r\n%sContent-Length: %d\r\n"
             "Connection: close\r\n\r\n" % (phrase, kind, charset, line, len(body))).encode() + body
 
 
-# What stands in the head of a page.
+# What stands in the head of a tariff file, and of a page.
+NO_SNIFFING = "X-Content-Type-Options: nosniff\r\n"
 PAGE_LINES = ("Content-Security-Policy: default-src 'none'; style-src 'unsafe-inline'; frame-ancestors 'none'\r\n"
-              "X-Content-Type-Options: nosniff\r\n")
+              + NO_SNIFFING)
 
 # The head of an answer of any status.
 STATUSES = "|".join("%d %s" % named for named in PHRASES.items())
 ANSWER = re.compile((
     "HTTP/1\\.1 (?:%s)\r\nContent-Type: text/(?:(?:plain|csv|html); charset=us-ascii|plain; charset=utf-8)\r\n"
-    "(?:Allow: (?:GET|POST)\r\n|Retry-After: 1\r\n|%s)?Content-Length: [0-9]+\r\nConnection: close\r\n\r\n"
-    % (STATUSES, re.escape(PAGE_LINES))).encode())
+    "(?:Allow: (?:GET|POST)\r\n|Retry-After: 1\r\n|%s|%s)?Content-Length: [0-9]+\r\nConnection: close\r\n\r\n"
+    % (STATUSES, re.escape(PAGE_LINES), NO_SNIFFING)).encode())
 
 # The forms of texts.
 SHOWN = r"(?:[ -\[\]-~]|\\[0-9A-F]{2})*"

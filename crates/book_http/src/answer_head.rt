@@ -42,7 +42,8 @@ fn push_status(text: &mut AnswerText, status: Status)
 }
 
 /// Appends the lines that tell a browser what it may do with a page: it runs no script, fetches
-/// nothing, shows the page inside no other, and takes it for nothing but HTML.
+/// nothing, shows the page inside no other, and takes it for nothing but HTML. A tariff file it takes
+/// for nothing but a text.
 fn push_limits(text: &mut AnswerText, kind: BodyKind)
     requires { array_string_len text.old + 129 ≤ 512 }
     ensures bytes { text.new.bytes ≡ text.old.bytes ++ limit_lines kind }
@@ -54,7 +55,8 @@ fn push_limits(text: &mut AnswerText, kind: BodyKind)
             text.push_str("style-src 'unsafe-inline'; frame-ancestors 'none'\r\n");
             text.push_str("X-Content-Type-Options: nosniff\r\n");
         }
-        BodyKind::Text | BodyKind::Csv | BodyKind::TariffFile => {}
+        BodyKind::TariffFile => text.push_str("X-Content-Type-Options: nosniff\r\n"),
+        BodyKind::Text | BodyKind::Csv => {}
     }
 }
 
