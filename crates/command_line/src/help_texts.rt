@@ -17,6 +17,7 @@ pub(crate) enum Help {
     Names,
     Layout,
     Quiet,
+    Explain,
     DryRun,
     Csv,
     DisputeCsv,
@@ -52,6 +53,9 @@ impl Help {
                 "How the dump is laid out: segments one after another (rdw), or in blocks (bdw)"
             }
             Help::Quiet => "Shows no progress on a terminal",
+            Help::Explain => {
+                "Says why it failed and what to do though standard error is no terminal"
+            }
             Help::DryRun => "Prints what would change, and changes nothing",
             Help::Csv => "As comma-separated values, without the total",
             Help::DisputeCsv => "As comma-separated values, a line for each record",
@@ -88,7 +92,7 @@ impl Help {
             Help::Port => "PORT",
             Help::Requests | Help::Number => "NUMBER",
             Help::NumberKind => "KIND",
-            Help::Quiet | Help::DryRun | Help::Csv | Help::DisputeCsv => "",
+            Help::Quiet | Help::Explain | Help::DryRun | Help::Csv | Help::DisputeCsv => "",
         }
     }
 }
