@@ -16,6 +16,7 @@ use Rattle.program_output.specs.Explanations.{Explains}
 use Rattle.program_output.specs.declared.causes.Cause.{Cause}
 use Rattle.program_output.specs.declared.explanations.Explanation.{Explanation}
 use Rattle.program_output.specs.declared.words.WordKind.{WordKind}
+use Rattle.without_books.specs.ShownPaths.{shown_path}
 use Rattle.without_books.specs.declared.command_fault.CommandFault.{CommandFault}
 use Rattle.without_books.specs.declared.help_lines.Topic.{Topic}
 use Rattle.without_books.specs.declared.notice.Notice.{Notice}
@@ -87,8 +88,8 @@ notice_topic notice.Far = word_topic word.Far
 
 -- what a fault is about, in the words of the command
 abbrev pub place_text : Place → List ℕ
-place_text (place.File path) = path.now
-place_text (place.Beside path ending) = path.now ++ ending.now
+place_text (place.File path) = shown_path path.now
+place_text (place.Beside path ending) = shown_path path.now ++ ending.now
 place_text (place.Port number) = codes "port " ++ decimal number
 place_text place.Input = codes "standard input"
 place_text place.Output = codes "standard output"

@@ -10,6 +10,7 @@ use crate::command_fault::CommandFault;
 use crate::ended::Ended;
 use crate::notice::Notice;
 use crate::places::{Place, Places, Spot};
+use crate::shown_paths::push_path;
 use book_core::LedgerFault;
 use book_import::Stop;
 use book_reports::ReportFault;
@@ -187,9 +188,9 @@ fn push_place(out: &mut Draft, place: Place<'_>)
     ensures { out.new ≡ out.old ++ place_text place.entry }
 {
     match place {
-        Place::File(path) => out.push_str(path),
+        Place::File(path) => push_path(out, path),
         Place::Beside(path, ending) => {
-            out.push_str(path);
+            push_path(out, path);
             out.push_str(ending);
         }
         Place::Port(number) => {

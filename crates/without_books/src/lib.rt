@@ -16,6 +16,7 @@ mod ports;
 mod printed_text;
 mod progress;
 mod served_lines;
+mod shown_paths;
 mod tariff_texts;
 mod trials;
 
