@@ -4,12 +4,12 @@
 ghost use Rattle.std.specs.Prelude.{◌≡◌, ◌++◌};
 ghost use Rattle.without_books.specs.HelpLines as spec;
 ghost use Rattle.without_books.specs.HelpLines.{TellsTopic, entry_text, place_text, spot_line};
-ghost use Rattle.without_books.specs.HelpLines.{why_text};
+ghost use Rattle.without_books.specs.HelpLines.{why_text, within_text};
 
 use crate::command_fault::CommandFault;
 use crate::ended::Ended;
 use crate::notice::Notice;
-use crate::places::{Place, Places, Spot};
+use crate::places::{Place, Places, Spot, Within};
 use crate::shown_paths::push_path;
 use book_core::LedgerFault;
 use book_import::Stop;
@@ -179,7 +179,7 @@ fn push_spot(out: &mut Draft, spot: Spot<'_>)
 {
     out.push_str("  ");
     push_place(out, spot.place);
-    push_entry(out, spot.within);
+    push_within(out, spot.within);
     push_cause(out, spot.cause);
     out.push_str("\n");
 }
@@ -202,19 +202,31 @@ fn push_place(out: &mut Draft, place: Place<'_>)
     }
 }
 
-fn push_entry(out: &mut Draft, entry: Option<Entry>)
+fn push_within(out: &mut Draft, within: Option<Within>)
+    ensures { out.new ≡ out.old ++ within_text within }
+{
+    match within {
+        Some(Within::Line(number)) => {
+            out.push_str(", line ");
+            out.push_number(number);
+        }
+        Some(Within::Entry(entry)) => push_entry(out, entry),
+        None => (),
+    }
+}
+
+fn push_entry(out: &mut Draft, entry: Entry)
     ensures { out.new ≡ out.old ++ entry_text entry }
 {
     match entry {
-        Some(Entry::Shift(number)) => {
+        Entry::Shift(number) => {
             out.push_str(", shift ");
             out.push_number(u64::from(number));
         }
-        Some(Entry::Centre(number)) => {
+        Entry::Centre(number) => {
             out.push_str(", centre ");
             out.push_number(u64::from(number));
         }
-        None => (),
     }
 }
 
