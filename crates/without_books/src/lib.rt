@@ -2,6 +2,7 @@
 //! explanations; why a command did not do what it was asked, what it noticed, and how far it is.
 #![tactic(auto)]
 
+mod asked_help;
 mod causes;
 mod checks;
 mod command_fault;
