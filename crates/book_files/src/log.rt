@@ -85,6 +85,17 @@ impl<'a> Log<'a> {
         Ok(())
     }
 
+    /// Sees that no other program has the books, and leaves nothing beside them.
+    pub(crate) fn expect_free(&self, book: &str) -> Result<(), RepositoryFault> {
+        match lock_at(self.rt, book, Unknown) {
+            Ok(files) => {
+                self.leave(Some(files));
+                Ok(())
+            }
+            Err(fault) => Err(refused(fault)),
+        }
+    }
+
     /// Renames a log that is of no use to books, to a name that nothing has. No other place renames
     /// one. The opening that follows syncs the folder too, and fails where it can't.
     fn keep<D: Disk>(&mut self, _log: &D) -> Result<(), RepositoryFault>
