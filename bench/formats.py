@@ -581,10 +581,16 @@ def is_signed(log):
     return struct.unpack_from(">2I", log, 24) == (first, second)
 
 
+def is_renewed(log):
+    """The header of a log is that of one of books which was begun anew, once its pages were moved."""
+    begins = bytes.fromhex("377F0682002DE21800001000")
+    return log[:12] == begins and is_signed(log) and log[12:16] not in (bytes(4), b"\xff" * 4)
+
+
 def is_no_log(file):
     """A file is longer than what a close leaves of a log, and is passed over as one: no page has
-    room in it, or its header is not signed."""
-    if len(file) <= CLOSED_LOG:
+    room in it, or its header is not signed. One that a command emptied is the program's own."""
+    if len(file) <= CLOSED_LOG or is_renewed(file):
         return False
     return len(file) < LOG_HEADER + PAGE_HEADER or not is_signed(file)
 

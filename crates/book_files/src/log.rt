@@ -7,7 +7,7 @@ ghost use Rattle.book_files.specs.Logs.{IsOfNoUse};
 
 use crate::faults::of_file;
 use crate::paths::{beside, is_there, may_be_books, sync_folder};
-use crate::seen_logs::is_of_no_use;
+use crate::seen_logs::{is_of_no_use, was_emptied};
 use book_sessions::refused;
 use book_trees::{lock_at, needs_no_log};
 use named_books::RepositoryFault;
@@ -59,7 +59,8 @@ impl<'a> Log<'a> {
 
     /// Gives a log that was there another name, where recovery would write over it: it is somebody's,
     /// or damaged, or a stopped command's. By `is_unused` the file alone holds the same books. The
-    /// two are locked meanwhile: it is not the log of a command that runs.
+    /// two are locked meanwhile: it is not the log of a command that runs. One that a command emptied
+    /// and could not cut off has nothing to be kept: it is written over.
     pub(crate) fn keep_unused(&mut self, book: &str) -> Result<(), RepositoryFault> {
         if !self.was_there {
             return Ok(());
@@ -75,6 +76,9 @@ impl<'a> Log<'a> {
     fn keep_if_unused<D: Disk>(&mut self, log: &mut D) -> Result<(), RepositoryFault>
         requires { IsTrue (D.Disk.is_usable log.old) }
     {
+        if was_emptied(log) {
+            return Ok(());
+        }
         let is_unused = match is_of_no_use(self.rt.alloc(), log) {
             Ok(is_unused) => is_unused,
             Err(fault) => return Err(refused(fault)),
