@@ -1,6 +1,7 @@
 -- How connections are served.
-use Rattle.std.proofs.Common.{◌≡◌, ◌∙◌, Bool, true, false, List, [], ◌∷◌, ℕ, ◌+◌, refl, sym, Option}
-use Rattle.std.proofs.Common.{Some, None, Result, Ok, Err, arith, inl, inr, subst, unwrap_or, IfErr}
+use Rattle.std.proofs.Common.{◌≡◌, ◌∙◌, Bool, true, false, List, [], ◌∷◌, ℕ, ◌+◌, refl, sym, ap, Option}
+use Rattle.std.proofs.Common.{Some, None, Result, Ok, Err, arith, inl, inr, length, subst, unwrap_or}
+use Rattle.std.proofs.Common.{IfErr}
 use Rattle.streams.specs.InputOutput.{WriterSeen}
 use Rattle.book_model.specs.Words.{AreMadeOf, Book, Event, Naming}
 use Rattle.book_core.specs.Words.{MakesAnswered, Transition, NoEvent}
@@ -16,8 +17,10 @@ use Rattle.without_books.proofs.ServedLineLemmas.{gains_then}
 use Rattle.chargectl.specs.ClientRequests.{LeavesLog}
 use Rattle.chargectl.specs.CommandLaws.{AnswersOrNot, OpenedSo, ServesAny, ServesEach}
 use Rattle.chargectl.specs.Requests.{IsServiceFault, Serves, WritesEarly, WritesLines}
-use Rattle.chargectl.specs.Serving.{AnswersSome, CameInTurn, Coming, IsServing, IsToldOf, Replies}
-use Rattle.chargectl.specs.Serving.{ServesInTurn, ServesOne, line_of, lines_of, ready, service_end}
+use Rattle.chargectl.specs.Serving.{AllCame, AnswersSome, CameInTurn, Coming, IsServing, IsToldOf}
+use Rattle.chargectl.specs.Serving.{Replies, ServesInTurn, ServesOne, due_after, due_from, first_due}
+use Rattle.chargectl.specs.Serving.{line_of, lines_of, most_beside, ready, service_end}
+use Rattle.chargectl.specs.declared.due.Due.{Due}
 use Rattle.chargectl.proofs.CommandLemmas.{either_as}
 use Rattle.chargectl.proofs.Words.{RepositoryFault, Unseen, Shelf, IsDoneTo, IsOpened, done_as}
 use Rattle.chargectl.proofs.Words.{CommandFault}
@@ -196,6 +199,36 @@ serving_more shelf sent may_come left first middle last book old between new hel
       lines = gains_then held has holds (lines_of before.told) (line_of what) before.lines line;
     }
 
+-- ---- how many are due
+
+-- what is due after connections that came in turn, each of which was due
+pub due_in_turn : {S C : Type 0} (shelf : S → Shelf) (sent : C → Option (List ℕ)) (due : C → Due)
+    (book : List ℕ) (first last : C) (old new : S) (told : List Served)
+    → CameInTurn shelf sent (λ before what after. due after ≡ due_after what (due before)) book first
+    last old new told
+    → due last ≡ due_from (due first) told
+due_in_turn shelf sent due book first last old new [] it = ap due it.0
+due_in_turn shelf sent due book first last old new (what ∷ before)
+    (middle, between, earlier, came, served) =
+    came
+    ∙ ap (due_after what)
+    (due_in_turn shelf sent due book first middle old between before earlier)
+
+-- where none is left of those that were due at first, all came
+pub all_came : (requests : ℕ) (told : List Served) (first last : Due) → first ≡ first_due requests
+    → last ≡ due_from first told → last.left ≡ 0
+    → (last.left + last.beside) + length told ≡ first.left + first.beside → AllCame requests told
+all_came requests told first last begun ends none count =
+    let at = first_due requests in
+    let same : last ≡ due_from at told = ends ∙ ap (λ due. due_from due told) begun in
+    let counted : (last.left + last.beside) + length told ≡ requests + most_beside =
+    subst (λ (due : Due). (last.left + last.beside) + length told ≡ due.left + due.beside) begun count in
+    let each : last.beside + length told ≡ requests + most_beside = omega (arith, counted, none) in
+    record {
+      none = ap (λ (due : Due). due.left) (sym same) ∙ none;
+      each = subst (λ (due : Due). due.beside + length told ≡ requests + most_beside) same each;
+    }
+
 -- a log is as the last client left it, or as it was before
 pub log_left : {S : Type 0} (shelf : S → Shelf) (book : List ℕ) (old new : S) (was : Bool)
     (left : Option Bool) → (shelf old).has_log book was → LeavesLog shelf book old new left
@@ -282,8 +315,9 @@ pub serves_all : {S C : Type 0} {sent : C → Option (List ℕ)} {may_come : Com
     {from to : C} (shelf : S → Shelf) (book : List ℕ) (old new : S) (requests : ℕ)
     (held holds : Option (List ℕ)) (Failed : Type 0) (first before after : WriterSeen)
     (failed : Bool) (ended : Ended) (has_log : Bool)
-    → first ≡ unfailed held → Gains first before ready → left from ≡ requests → left to ≡ 0
-    → IsServing shelf sent may_come left from to book old new before after
+    → first ≡ unfailed held → Gains first before ready
+    → (it : IsServing shelf sent may_come left from to book old new before after)
+    → AllCame requests it.told
     → holds ≡ after.holds → failed ≡ after.has_failed → (after.has_failed ≡ true → Failed)
     → ended ≡ record {
       came = service_end (Ok failed);
@@ -294,14 +328,14 @@ pub serves_all : {S C : Type 0} {sent : C → Option (List ℕ)} {may_come : Com
     → (shelf new).has_log book has_log
     → Serves shelf (λ _. ⊥) requests book old new held holds Failed ended
 serves_all shelf book old new requests held holds Failed first before after failed ended has_log begun
-    said all none it bytes flag lost is log =
+    said it all bytes flag lost is log =
     subst (λ ended. Serves shelf (λ _. ⊥) requests book old new held holds Failed ended) (sym is)
     (record {
       told = it.told;
       turn = turn_of shelf book old new before after it;
       served = Ok failed;
       all = (
-        (let counted = it.count in omega (arith, counted, all, none)),
+        all,
         subst (λ failed. WritesLines it.told held holds failed) (sym flag)
             (lines_written held holds first before after it.told begun said it.lines bytes),
         λ told. lost (sym flag ∙ told),

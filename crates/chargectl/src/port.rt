@@ -4,10 +4,11 @@ ghost use Rattle.std.specs.Prelude.{◌≡◌, true};
 ghost use Rattle.streams.specs.Failures.{HasFailed};
 ghost use Rattle.book_http.specs.Served.{is_unanswered, is_write_fault};
 ghost use Rattle.chargectl.specs.ClientRequests.{IsServedByReads};
-ghost use Rattle.chargectl.specs.Serving.{Attends, is_answered};
+ghost use Rattle.chargectl.specs.Serving.{Attends, first_due, is_answered};
 
 use crate::client_requests::{Attended, serve_request};
 use crate::connection::Client;
+use crate::due::Due;
 use book_core::Source;
 use book_http::{Routes, Served};
 use named_books::Repository;
@@ -25,6 +26,9 @@ pub trait Connections {
     /// How many are left to be answered.
     ghost left: { Self → ℕ };
 
+    /// How many may come, those among them that are answered and not counted.
+    ghost most: { Self → ℕ };
+
     /// The bytes that the next one sends, where they are known.
     ghost sent: { Self → Option (List ℕ) } = { λ _. None };
 
@@ -41,10 +45,10 @@ pub trait Connections {
         ensures { result ≡ (left self.now == 0) };
 
     /// Waits for the next one, and answers it from the books of a name, which are open only while
-    /// they are asked. An error means that none came; it counts as one of those that were left.
+    /// they are asked. An error means that none came; it counts as one of those that may come.
     fn next<S: Repository>(&mut self, repository: &mut S, book: &str) -> io::Result<Attended>
         requires { 0 < left self.old }
-        ensures left { left self.new + 1 ≡ left self.old }
+        ensures most { most self.new + 1 ≡ most self.old }
         ensures served { IfOk result (Attends S.shelf book.now (sent self.old) repository.old
             repository.new) }
         ensures came { IfOk result (λ attended. may_come self.old attended.served self.new) }
@@ -71,48 +75,58 @@ pub trait Peer: Reader + Writer + Copy {
         ensures unwritten { Self.contents result ≡ Self.contents self };
 }
 
-/// The connections to a port that are left to be answered.
+/// The connections to a port that are due.
 #[derive(Drop)]
 pub(crate) struct Port<'a> {
     rt: &'a HostRuntime,
     listener: &'a TcpListener,
-    pub(crate) left: u32,
+    pub(crate) due: Due,
     /// One router for all that they ask.
     routes: Routes,
 }
 
 impl<'a> Port<'a> {
-    /// So many connections are to be answered.
+    /// So many requests are to be answered.
     pub(crate) fn over(rt: &'a HostRuntime, listener: &'a TcpListener, requests: u32) -> Port<'a>
-        ensures { result.left ≡ requests }
+        ensures { result.due ≡ first_due requests }
     {
         Port {
             rt,
             listener,
-            left: requests,
+            due: Due::first(requests),
             routes: Routes::new(rt.alloc()),
         }
     }
 }
 
 impl Connections for Port<'_> {
-    ghost use Rattle.std.specs.Prelude.{⊤};
+    ghost use Rattle.std.specs.Prelude.{◌≡◌, ◌+◌, ⊤};
+    ghost use Rattle.chargectl.specs.Serving.{due_after};
 
-    ghost left = { λ port. port.left };
+    ghost left = { λ port. port.due.left };
 
-    // Of the sockets of the machine nothing is known.
-    ghost may_come = { λ _ _ _. ⊤ };
+    ghost most = { λ port. port.due.left + port.due.beside };
+
+    // Of the sockets of the machine nothing is known; but one of those that are due is answered.
+    ghost may_come = { λ before served after. after.due ≡ due_after served before.due };
 
     ghost may_fail = { λ _ _ _. ⊤ };
 
     fn is_over(&self) -> bool {
-        self.left == 0
+        self.due.left == 0
     }
 
     fn next<S: Repository>(&mut self, repository: &mut S, book: &str) -> io::Result<Attended> {
-        self.left -= 1;
-        let (stream, _) = self.listener.accept()?;
-        Ok(answer_stream(self.rt, &mut self.routes, &stream, repository, book))
+        let (stream, _) = match self.listener.accept() {
+            Ok(came) => came,
+            Err(error) => {
+                self.due = self.due.after(Served::Closed);
+                return Err(error);
+            }
+        };
+        let attended = answer_stream(self.rt, &mut self.routes, &stream, repository, book);
+        self.due = self.due.after(attended.served);
+        Ok(attended)
     }
 }
 

@@ -20,9 +20,10 @@ use without_books::{CommandFault, Ended, ServedLines, listen_here};
 /// Room for the line of an answer.
 type Line = ArrayString<16>;
 
-/// Answers a given number of connections, one after the other, and says what became of each. That the
-/// books can't be opened is told before the port is taken; from then on they are open only while they
-/// are asked. A line that can't be written keeps nobody from being answered: that is told at the end.
+/// Answers a given number of connections, one after the other, and says what became of each; those that
+/// are turned away come beside them. That the books can't be opened is told before the port is taken;
+/// from then on they are open only while they are asked. A line that can't be written keeps nobody from
+/// being answered: that is told at the end.
 pub(crate) fn serve<S: Repository, O: Writer + Drop>(
     rt: &HostRuntime,
     repository: &mut S,
@@ -135,7 +136,7 @@ pub fn serve_each<C: Connections, S: Repository, O: Writer + Drop>(
     requires { (S.shelf repository.old).has_log book.now has_log }
 
     // No fault of the output or of the books ends it early.
-    ensures served { ServesUntil S.shelf C.sent C.may_come C.may_fail C.left connections.old
+    ensures served { ServesUntil S.shelf C.sent C.may_come C.may_fail C.most connections.old
         connections.new book.now repository.old repository.new
         (seen_of O.contents lines.old) (seen_of O.contents lines.new) result.0 }
     ensures all { OnOk result.0 (C.left connections.new ≡ 0) }

@@ -7,16 +7,15 @@ use Rattle.chargectl.proofs.serve.serve_each.Goals as goal
 pub loop-connections-preserved : goal.loop-connections-preserved
 loop-connections-preserved g c =
     let shelf = g.S.Repository.shelf in
-    let left = g.C.Connections.left in
     let seen = seen_of g.O.Write.contents in
     record {
       serving = serving_more shelf g.C.Connections.sent g.C.Connections.may_come
-          g.C.Connections.left c.args.connections.now c.loop-connections.connections
+          g.C.Connections.most c.args.connections.now c.loop-connections.connections
           c.next.new.self c.args.book.now c.args.repository.now c.loop-connections.repository
           c.next.new.repository
           (seen c.args.lines.now) (seen c.loop-connections.lines) (seen c.say_served.new.lines)
           c.in-Ok.attended.served c.loop-connections.invariant.serving c.in-Ok.ensures.came
-          c.in-Ok.ensures.served.done c.say_served.ensures c.next.ensures.left;
+          c.in-Ok.ensures.served.done c.say_served.ensures c.next.ensures.most;
       log = subst (λ is. (shelf c.next.new.repository).has_log c.args.book.now is)
           (sym c.unwrap_or-has_log.ensures)
           (log_left shelf c.args.book.now c.loop-connections.repository c.next.new.repository
@@ -39,7 +38,7 @@ returns-in-Err-clause-served g c =
         lines = it.lines;
       };
       ends = c.in-Err.ensures.failed;
-      count = c.next.ensures.left;
+      count = c.next.ensures.most;
     }
 
 pub returns-clause-served : goal.returns-clause-served
