@@ -225,9 +225,11 @@ VERSIONS += [b" HTTP/2.0", b" HTTP/1.2", b" http/1.1", b" HTTP/1.1 ", b"  HTTP/1
 ENDS = [b"\r\n"] * 20 + [b"\n"] * 3 + [b"\r", b"\r\r\n", b"\n\r", b"\0\r\n"]
 HOSTS = [b"Host: localhost"] * 6 + [b"Host: 127.0.0.1:8030", b"HOST: LocalHost:80", b"host:[::1]:65536", b"Host: localhost:"]
 FOREIGN_HOSTS = [b"Host: books", b"Host:", b"host: books.example.org:80", b"Host: localhost.example.org", b"Host: [::1",
-                 b"Host: 127.0.0.1:80x", b"Host: 127.0.0.2", b"Host: local\xffhost", b"HOST: localhost, localhost"]
+                 b"Host: 127.0.0.1:80x", b"Host: 127.0.0.2", b"Host: local\xffhost", b"HOST: localhost, localhost",
+                 b"Sec-Fetch-Site: cross-site", b"SEC-FETCH-SITE:Cross-Site"]
 OTHER_FIELDS = HOSTS[5:] + [b"Expect: 100-continue", b"Connection: keep-alive", b"Accept: */*",
-                b"X:", b"X: \t ", b"X-A: a\tb", b"X: \xff\xfe", b"Content_Length: 5", b"Origins: a"]
+                b"X:", b"X: \t ", b"X-A: a\tb", b"X: \xff\xfe", b"Content_Length: 5", b"Origins: a",
+                b"Sec-Fetch-Site: same-origin", b"Sec-Fetch-Site: none", b"Sec-Fetch-Site: cross-sites"]
 WRONG_FIELDS = [b" folded", b"\tfolded", b"no colon", b": no name", b"Host : books", b"A B: c",
                 b"X: a\0b", b"X: a\x7fb", b"X\xc3: a", b"X: a\rb", b"Content-Length : 5"]
 POST_FIELDS = [b"Origin: http://example.org", b"ORIGIN:", b"origin: null",

@@ -200,7 +200,8 @@ PAGE_PATH = re.compile("/(?:period/([1-9][0-9]{0,3}))?")
 PHRASES = {200: "OK", 400: "Bad Request", 404: "Not Found", 503: "Service Unavailable"}
 
 # Of a page, which works by its style alone.
-PAGE_LINES = ["Content-Security-Policy: default-src 'none'; style-src 'unsafe-inline'", "X-Content-Type-Options: nosniff"]
+NO_SNIFFING = ["X-Content-Type-Options: nosniff"]
+PAGE_LINES = ["Content-Security-Policy: default-src 'none'; style-src 'unsafe-inline'; frame-ancestors 'none'", *NO_SNIFFING]
 
 
 def bytes_of(text):
@@ -221,7 +222,7 @@ def served(status, text, form="plain", charset="us-ascii"):
     first = "%d %s" % (status, PHRASES[status])
     body = text if isinstance(text, bytes) else bytes_of(text or [first])
     head = ["HTTP/1.1 " + first, "Content-Type: text/%s; charset=%s" % (form, charset), *PAGE_LINES * (form == "html"),
-            "Content-Length: %d" % len(body), "Connection: close", ""]
+            *NO_SNIFFING * (charset == "utf-8"), "Content-Length: %d" % len(body), "Connection: close", ""]
     return [line + "\\r" for line in head] + shown_bytes(body) + ["SERVED %d" % status]
 
 

@@ -1,7 +1,7 @@
 -- Commands, one after the other, on books that are kept by their names: each tells what the definitions
 -- give for the whole history before it.
 use Rattle.std.specs.Prelude.{◌≡◌, ◌≢◌, ⊤, Bool, false, ℕ, List, [], ◌∷◌, ◌++◌, Option, None, Some}
-use Rattle.std.specs.Prelude.{IfErr, IfOk, OnErr, OnOk, Result, Ok, Err, String, length, true, ℤ}
+use Rattle.std.specs.Prelude.{IfErr, IfOk, OnErr, OnOk, Result, Ok, Err, String, true, ℤ}
 use Rattle.std.specs.Global.{Global}
 use Rattle.std.specs.declared.alloc.AllocError.{AllocError}
 use Rattle.streams.specs.Failures.{HasFailed}
@@ -56,7 +56,7 @@ use Rattle.chargectl.specs.Far.{is_far_asked}
 use Rattle.chargectl.specs.NearRulings.{near_answer_of}
 use Rattle.chargectl.specs.Requests.{Answering, CommandsBy, IsServiceFault, WritesEarly, WritesLines}
 use Rattle.chargectl.specs.StreamedLists.{WritesSomeOf, list_answer, list_end, list_of}
-use Rattle.chargectl.specs.Serving.{AnswersSome, IsToldOf, service_end}
+use Rattle.chargectl.specs.Serving.{AllCame, AnswersSome, IsToldOf, service_end}
 
 -- a command: its words, its input, its output and standard error before and after it, its status, and
 -- the place of the books after it; and what the files that it may read held
@@ -309,7 +309,7 @@ pub record ServesHistory (naming : Naming) (history : List Event)
   pub is : Bool
   pub made_so : ServesEach naming told false (book_after history) made is
   pub served : Result Bool CommandFault
-  pub all : IfOk served (λ failed. (length told ≡ requests) × WritesLines told held holds failed
+  pub all : IfOk served (λ failed. AllCame requests told × WritesLines told held holds failed
       × (failed ≡ true → Failed))
   pub early : OnErr served (WritesEarly told held holds)
   pub cause : IfErr served (IsServiceFault Refuses)

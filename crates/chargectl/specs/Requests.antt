@@ -1,5 +1,5 @@
 -- What the program does: for each request, and for words that are none.
-use Rattle.std.specs.Prelude.{◌≡◌, ◌⊎◌, Bool, true, false, ℕ, List, [], ◌∷◌, ◌++◌, length, Option, None}
+use Rattle.std.specs.Prelude.{◌≡◌, ◌⊎◌, Bool, true, false, ℕ, List, [], ◌∷◌, ◌++◌, Option, None}
 use Rattle.std.specs.Prelude.{IfErr, IfOk, OnErr, Result, Ok, Err, String, string_bytes}
 use Rattle.std.specs.Global.{Global}
 use Rattle.std.specs.declared.io.Error.{Error}
@@ -34,7 +34,7 @@ use Rattle.chargectl.specs.DryRuns.{TriesAndTells}
 use Rattle.chargectl.specs.NearRulings.{RulesNear}
 use Rattle.chargectl.specs.StreamedLists.{ListsAsked, list_of}
 use Rattle.chargectl.specs.Upgrades.{UpgradesBy}
-use Rattle.chargectl.specs.Serving.{ServesInTurn, lines_of, ready, service_end}
+use Rattle.chargectl.specs.Serving.{AllCame, ServesInTurn, lines_of, ready, service_end}
 
 -- new books were made, or not, and nothing was written
 pub record Makes (book : List ℕ) (old new : Shelf) (held holds : Option (List ℕ)) (ended : Ended)
@@ -68,7 +68,7 @@ pub record Serves {S : Type 0} (shelf : S → Shelf) (Refuses : RepositoryFault 
   pub told : List Served
   pub turn : ServesInTurn shelf book old new told
   pub served : Result Bool CommandFault
-  pub all : IfOk served (λ failed. (length told ≡ requests) × WritesLines told held holds failed
+  pub all : IfOk served (λ failed. AllCame requests told × WritesLines told held holds failed
       × (failed ≡ true → Failed))
   pub early : OnErr served (WritesEarly told held holds)
   pub cause : IfErr served (IsServiceFault Refuses)

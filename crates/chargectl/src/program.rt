@@ -33,7 +33,7 @@ const SERVICE_WAIT: u16 = 2;
 
 /// Does what the words ask for, the first of which is the program's name. Books are kept at a
 /// place, and the files that words name are read from others. Why it was not done is said on
-/// standard error; where that is a terminal, a person is told more.
+/// standard error; where that is a terminal, or it is asked for, a person is told more.
 pub fn command<S, F: Inputs, I: Read + Drop, O: Writer + Drop, E: Writer>(
     rt: &HostRuntime,
     place: &mut S,
@@ -54,7 +54,7 @@ where
             let (ended, output) = run(rt, place, files, request, input, output);
             let said = Said::by(&ended);
             let status = ended.write_to(errors);
-            help(rt, request, said);
+            help(rt, words, request, said);
             (status, output)
         }
         Err(fault) => refuse(&fault, output, errors),

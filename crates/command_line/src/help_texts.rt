@@ -19,6 +19,7 @@ pub(crate) enum Help {
     Quiet,
     Whole,
     WithNames,
+    Explain,
     DryRun,
     Near,
     Csv,
@@ -59,6 +60,9 @@ impl Help {
                 "The dump has to be whole: it has a record, and as many trailers as headers"
             }
             Help::WithNames => "Adds the name of each record that could be kept",
+            Help::Explain => {
+                "Says why it failed and what to do though standard error is no terminal"
+            }
             Help::DryRun => "Prints what would change, and changes nothing",
             Help::Near => "Refuses a day that is far after the newest record, or after today",
             Help::Csv => "As comma-separated values, without the total",
@@ -97,7 +101,7 @@ impl Help {
             Help::Requests | Help::Number => "NUMBER",
             Help::NumberKind => "KIND",
             Help::Quiet | Help::Whole | Help::WithNames => "",
-            Help::DryRun | Help::Near => "",
+            Help::Explain | Help::DryRun | Help::Near => "",
             Help::Csv | Help::DisputeCsv => "",
         }
     }

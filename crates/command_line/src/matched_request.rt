@@ -148,7 +148,7 @@ fn trial_in<'a>(found: &ArgMatches<'a>) -> Option<Request<'a>>
     ensures request { IfSome result (IsOfCommand (codes "trial") (rows_in found.now)) }
     ensures some { HasWords (rows_in found.now) (known.layouts ∷ known.rate_of (codes "cpu")
         ∷ known.rate_of (codes "excp") ∷ known.rate_of (codes "record") ∷ known.prices
-        ∷ known.whole ∷ [])
+        ∷ known.whole ∷ known.explain ∷ [])
         → IsSome result }
 {
     let layout = layout_in(found)?;

@@ -2,6 +2,7 @@
 //! explanations; why a command did not do what it was asked, what it noticed, and how far it is.
 #![tactic(auto)]
 
+mod asked_help;
 mod causes;
 mod checks;
 mod command_fault;
@@ -16,6 +17,7 @@ mod ports;
 mod printed_text;
 mod progress;
 mod served_lines;
+mod shown_paths;
 mod tariff_texts;
 mod trials;
 
