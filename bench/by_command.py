@@ -100,7 +100,8 @@ class Commands:
     def end_of(self, dump, layout, stop, out):
         noticed = formats.LAYOUT if formats.is_misread(dump, layout) else b""
         if stop == "END":
-            return Ran(0, out, noticed)
+            torn = formats.TORN if formats.is_torn(dump, layout) else b""
+            return Ran(0, out, noticed or torn)
         return Ran(3, out, b"chargectl: %s\n" % stop.lower().encode() + noticed)
 
     def dump(self, rng):

@@ -147,6 +147,13 @@ def check_list(dump, layout):
     return "".join(lines + ["RECORDS %d STOP %s\n" % (len(records), stop)]).encode(), stop
 
 
+def is_torn(dump, layout):
+    """A dump has no record, or fewer trailers than headers."""
+    *records, stop = framed(dump, layout)
+    classes = [class_of(record) for record in records]
+    return not records or classes.count("TRAILER") < classes.count("HEADER")
+
+
 COUNTED = "KEPT KNOWN UNPRICED OTHER HEADERS TRAILERS LOST CONTINUED DAMAGED".split()
 PLURALS = {"HEADER": "HEADERS", "TRAILER": "TRAILERS"}
 
@@ -265,7 +272,8 @@ def asked(request, last_period):
     if len(lengths) > 1 or lengths and not LENGTH.fullmatch(lengths[0]):
         return Asked(400)
     hosts = [value.strip(b" \t") for name, value in fields if name.lower() == b"host"]
-    if not all(map(HOST.fullmatch, hosts)):
+    sites = [value.strip(b" \t").lower() for name, value in fields if name.lower() == b"sec-fetch-site"]
+    if not all(map(HOST.fullmatch, hosts)) or b"cross-site" in sites:
         return Asked(403)
     path = PATH.fullmatch(head[2].split(b"?")[0])
     if not path or path["day"] and not is_day_text(path["day"]):
@@ -317,21 +325,23 @@ def answer(status, body=None, kind="plain", allow=None, charset="us-ascii"):
     """An answer as it is sent: without a body it gives its status alone."""
     phrase = "%d %s" % (status, PHRASES[status])
     body = (phrase + "\n").encode() if body is None else body
-    line = "Allow: %s\r\n" % allow.decode() if allow else PAGE_LINES if kind == "html" else ""
+    line = ("Allow: %s\r\n" % allow.decode() if allow else PAGE_LINES if kind == "html"
+            else NO_SNIFFING if charset == "utf-8" else "")
     return ("HTTP/1.1 %s\r\nContent-Type: text/%s; charset=%s\r\n%sContent-Length: %d\r\n"
             "Connection: close\r\n\r\n" % (phrase, kind, charset, line, len(body))).encode() + body
 
 
-# What stands in the head of a page.
-PAGE_LINES = ("Content-Security-Policy: default-src 'none'; style-src 'unsafe-inline'\r\n"
-              "X-Content-Type-Options: nosniff\r\n")
+# What stands in the head of a tariff file, and of a page.
+NO_SNIFFING = "X-Content-Type-Options: nosniff\r\n"
+PAGE_LINES = ("Content-Security-Policy: default-src 'none'; style-src 'unsafe-inline'; frame-ancestors 'none'\r\n"
+              + NO_SNIFFING)
 
 # The head of an answer of any status.
 STATUSES = "|".join("%d %s" % named for named in PHRASES.items())
 ANSWER = re.compile((
     "HTTP/1\\.1 (?:%s)\r\nContent-Type: text/(?:(?:plain|csv|html); charset=us-ascii|plain; charset=utf-8)\r\n"
-    "(?:Allow: (?:GET|POST)\r\n|Retry-After: 1\r\n|%s)?Content-Length: [0-9]+\r\nConnection: close\r\n\r\n"
-    % (STATUSES, re.escape(PAGE_LINES))).encode())
+    "(?:Allow: (?:GET|POST)\r\n|Retry-After: 1\r\n|%s|%s)?Content-Length: [0-9]+\r\nConnection: close\r\n\r\n"
+    % (STATUSES, re.escape(PAGE_LINES), NO_SNIFFING)).encode())
 
 # The forms of texts.
 SHOWN = r"(?:[ -\[\]-~]|\\[0-9A-F]{2})*"
@@ -547,13 +557,13 @@ ERROR = re.compile(
 
 # What a command notices, after what it says; and the last line of one that leaves pages in the log of
 # books, or keeps a log that holds none.
-LAYOUT, FAR = b"chargectl: layout\n", b"chargectl: far\n"
+LAYOUT, FAR, TORN = b"chargectl: layout\n", b"chargectl: far\n", b"chargectl: torn\n"
 LOG = b"chargectl: log\n"
 
 
 def said_first(lines):
     """What is said on standard error before what is noticed."""
-    return lines.removesuffix(LOG).removesuffix(FAR).removesuffix(LAYOUT)
+    return lines.removesuffix(LOG).removesuffix(FAR).removesuffix(LAYOUT).removesuffix(TORN)
 
 
 # What a close leaves of a log, and the header of one and that of a page.
@@ -578,10 +588,16 @@ def is_signed(log):
     return struct.unpack_from(">2I", log, 24) == (first, second)
 
 
+def is_renewed(log):
+    """The header of a log is that of one of books which was begun anew, once its pages were moved."""
+    begins = bytes.fromhex("377F0682002DE21800001000")
+    return log[:12] == begins and is_signed(log) and log[12:16] not in (bytes(4), b"\xff" * 4)
+
+
 def is_no_log(file):
     """A file is longer than what a close leaves of a log, and is passed over as one: no page has
-    room in it, or its header is not signed."""
-    if len(file) <= CLOSED_LOG:
+    room in it, or its header is not signed. One that a command emptied is the program's own."""
+    if len(file) <= CLOSED_LOG or is_renewed(file):
         return False
     return len(file) < LOG_HEADER + PAGE_HEADER or not is_signed(file)
 

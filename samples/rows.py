@@ -200,7 +200,8 @@ PAGE_PATH = re.compile("/(?:period/([1-9][0-9]{0,3}))?")
 PHRASES = {200: "OK", 400: "Bad Request", 404: "Not Found", 503: "Service Unavailable"}
 
 # Of a page, which works by its style alone.
-PAGE_LINES = ["Content-Security-Policy: default-src 'none'; style-src 'unsafe-inline'", "X-Content-Type-Options: nosniff"]
+NO_SNIFFING = ["X-Content-Type-Options: nosniff"]
+PAGE_LINES = ["Content-Security-Policy: default-src 'none'; style-src 'unsafe-inline'; frame-ancestors 'none'", *NO_SNIFFING]
 
 
 def bytes_of(text):
@@ -221,7 +222,7 @@ def served(status, text, form="plain", charset="us-ascii"):
     first = "%d %s" % (status, PHRASES[status])
     body = text if isinstance(text, bytes) else bytes_of(text or [first])
     head = ["HTTP/1.1 " + first, "Content-Type: text/%s; charset=%s" % (form, charset), *PAGE_LINES * (form == "html"),
-            "Content-Length: %d" % len(body), "Connection: close", ""]
+            *NO_SNIFFING * (charset == "utf-8"), "Content-Length: %d" % len(body), "Connection: close", ""]
     return [line + "\\r" for line in head] + shown_bytes(body) + ["SERVED %d" % status]
 
 
@@ -567,6 +568,12 @@ class Rows:
         notices = ["! " + line for line in self.notices]
         return output_shown(verb, words[:at + 1], output) + notices + refusal
 
+    def dumped(self, lines):
+        """What a command writes of a dump: and whether the dump is torn."""
+        if lines and office.is_torn(lines[0]):
+            self.notices.append("chargectl: torn")
+        return lines
+
     def ruled(self, ruling, is_tried):
         """What a command writes of a ruling, or of its dry run: and whether its day is noticed."""
         books, after = self.books, copy.deepcopy(self.books)
@@ -577,7 +584,7 @@ class Rows:
     def output(self, words):
         """What a command writes: bytes, or lines, of which the last may be that of a refusal."""
         if words[0] == "trial":
-            return office.tried(self.files[dict(options(words[1:]))["--tariff"]], self.input)
+            return self.dumped(office.tried(self.files[dict(options(words[1:]))["--tariff"]], self.input))
         # How long a command waits for books changes nothing that it says of them.
         words = [word for word, before in zip(words, [""] + words) if "--wait" not in (word, before)]
         is_tried = "--dry-run" in words
@@ -629,14 +636,15 @@ class Rows:
             for number, name in enumerate(names, 1):
                 if not DIGITS.fullmatch(name):
                     return ["chargectl: word line %d" % number]
-            return books.choose_each(name.lower() for name in names)
+            tried = copy.deepcopy(books) if is_tried else books
+            return tried.choose_each(name.lower() for name in names)
 
         return {"init": lambda: [],
                 "tariff": lambda file: self.ruled(office.ruling_of_tariff(self.file(file)), is_tried),
                 "close": close,
                 "tariff-text": tariff_text,
                 "record": record,
-                "import": lambda file: books.take(self.file(file)),
+                "import": lambda file: self.dumped(books.take(self.file(file))),
                 "choose": choose,
                 "adopt": lambda: self.ruled(office.ruling_of_adoption(), is_tried),
                 "rulings": lambda: list(books.rulings()),

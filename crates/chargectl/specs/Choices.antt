@@ -1,6 +1,7 @@
 -- Choices by the names of a list in a file: what the list has to be, what the books are asked, what is
 -- written, and how the command ends.
-use Rattle.std.specs.Prelude.{◌≡◌, ◌⊎◌, ◌+◌, true, ℕ, List, length, take, Option, Some, None}
+use Rattle.std.specs.Prelude.{◌≡◌, ◌⊎◌, ◌+◌, Bool, true, false, ℕ, List, length, take, Option, Some}
+use Rattle.std.specs.Prelude.{None}
 use Rattle.std.specs.Prelude.{IfSome, Result, Ok, Err, option_map}
 use Rattle.std.specs.declared.alloc.AllocError.{AllocError}
 use Rattle.book_model.specs.declared.fault.LedgerFault.{LedgerFault}
@@ -10,7 +11,7 @@ use Rattle.book_core.proofs.FollowLemmas.{none_answered}
 use Rattle.office.specs.declared.choosing.Chosen.{Chosen}
 use Rattle.named_books.specs.declared.repository.RepositoryFault.{RepositoryFault}
 use Rattle.office.specs.Choices.{ChoosesEach, answer_lines}
-use Rattle.named_books.specs.Shelves.{Shelf, IsOpened, IsThere, IsUntouched}
+use Rattle.named_books.specs.Shelves.{Shelf, IsOpened, IsThere, IsTried, IsUntouched}
 use Rattle.office.proofs.ChoiceLemmas.{choices_answered}
 use Rattle.program_output.specs.declared.names.NamesFault.{NamesFault}
 use Rattle.program_output.specs.Names.{names_in}
@@ -81,24 +82,40 @@ pub record IsListAnswered (names : List (List ℕ)) (book : List ℕ) (old new :
   pub there : IsThere book old new told
   pub says : answered.chosen ≡ chosen_of told
   pub log : new.has_log book answered.has_log
+  pub change : answered.is_change ≡ true
+
+-- Or they were visited as a copy, and the records chosen there: the books are as they were.
+pub record IsListTried (names : List (List ℕ)) (book : List ℕ) (old new : Shelf)
+    (answered : ListAnswered) : Type 0 where
+  pub told : Result (Result Chosen AllocError) RepositoryFault
+  pub tried : IsTried (ChoosesBy old.naming names) book old new told
+  pub there : IsThere book old new told
+  pub says : answered.chosen ≡ chosen_of told
+  pub log : new.has_log book answered.has_log
+  pub change : answered.is_change ≡ false
+
+-- the one or the other, as it is asked for
+abbrev pub IsListBy : Bool → List (List ℕ) → List ℕ → Shelf → Shelf → ListAnswered → Type 0
+IsListBy true names book old new answered = IsListTried names book old new answered
+IsListBy false names book old new answered = IsListAnswered names book old new answered
 
 -- so with the names of a list in a file that had these bytes
-pub record AnswersList (had : Option (List ℕ)) (book : List ℕ) (old new : Shelf)
+pub record AnswersList (tried : Bool) (had : Option (List ℕ)) (book : List ℕ) (old new : Shelf)
     (answered : ListAnswered) : Type 0 where
   pub names : List (List ℕ)
   pub listed : AreListed names
   pub all : AreAllOf (front_of had) names
-  pub came : IsListAnswered names book old new answered
+  pub came : IsListBy tried names book old new answered
 
 -- why nothing is chosen by a file that had these bytes, of books that are refused for these reasons
 abbrev pub ChoosesNothing : Option (List ℕ) → (RepositoryFault → Type 0) → CommandFault → Type 0
 ChoosesNothing had Refuses why = IsShelfFault Refuses why ⊎ IsListFault (front_of had) why
 
 -- what came of a list
-abbrev pub ComesOfList : Option (List ℕ) → List ℕ → Shelf → Shelf → Result ListAnswered CommandFault
-    → Type 0
-ComesOfList had book old new (Ok answered) = AnswersList had book old new answered
-ComesOfList had book old new (Err why) =
+abbrev pub ComesOfList : Bool → Option (List ℕ) → List ℕ → Shelf → Shelf
+    → Result ListAnswered CommandFault → Type 0
+ComesOfList tried had book old new (Ok answered) = AnswersList tried had book old new answered
+ComesOfList tried had book old new (Err why) =
     ChoosesNothing had (old.refuses book) why × IsUntouched book old new
 
 -- the refusal of the choice on the line of this number, if it was refused
@@ -130,7 +147,7 @@ pub record TellsListAnswered (answered : ListAnswered) (held holds : Option (Lis
     (ended : Ended) : Type 0 where
   pub told : TellsChoices answered.chosen held holds Failed ended.came
   pub log : ended.has_log ≡ answered.has_log
-  pub change : ended.is_change ≡ true
+  pub change : ended.is_change ≡ answered.is_change
   pub notice : ended.notice ≡ None
 
 -- and where nothing was chosen
@@ -139,9 +156,9 @@ abbrev pub TellsList : Result ListAnswered CommandFault → Option (List ℕ) �
 TellsList (Ok answered) held holds Failed ended = TellsListAnswered answered held holds Failed ended
 TellsList (Err why) held holds Failed ended = (holds ≡ held) × (ended ≡ without_log (Err why))
 
--- The command: what came of the list, and what was told of that.
-pub record ChoosesListed (had : Option (List ℕ)) (book : List ℕ) (old new : Shelf)
+-- The command, or a dry run of it: what came of the list, and what was told of that.
+pub record ChoosesListed (tried : Bool) (had : Option (List ℕ)) (book : List ℕ) (old new : Shelf)
     (held holds : Option (List ℕ)) (Failed : Type 0) (ended : Ended) : Type 0 where
   pub answered : Result ListAnswered CommandFault
-  pub comes : ComesOfList had book old new answered
+  pub comes : ComesOfList tried had book old new answered
   pub tells : TellsList answered held holds Failed ended

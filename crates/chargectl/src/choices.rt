@@ -6,7 +6,8 @@ ghost use Rattle.streams.specs.Failures.{HasFailed};
 ghost use Rattle.office.specs.Choices as choices;
 ghost use Rattle.chargectl.specs.Choices as spec;
 ghost use Rattle.chargectl.specs.Choices.{AreAllOf, AreListed, ChoosesBy, ChoosesListed};
-ghost use Rattle.chargectl.specs.Choices.{ComesOfList, EndsChoices, IsListAnswered, IsListFault};
+ghost use Rattle.chargectl.specs.Choices.{ComesOfList, EndsChoices, IsListAnswered, IsListBy};
+ghost use Rattle.chargectl.specs.Choices.{IsListFault, IsListTried};
 ghost use Rattle.chargectl.specs.Choices.{TellsChoices, TellsList, chosen_of, front_of};
 ghost use Rattle.chargectl.specs.Choices.{list_answered};
 ghost use Rattle.chargectl.specs.Commands.{IsPrinted};
@@ -54,23 +55,26 @@ pub(crate) struct ListAnswered {
     pub(crate) chosen: Result<Chosen, CommandFault>,
     /// The log beside the books holds a part of them.
     pub(crate) has_log: bool,
+    /// They may have changed the books.
+    pub(crate) is_change: bool,
 }
 
-/// Chooses the records that a list names, one after the other up to the first refusal, and writes
-/// the answers.
+/// Chooses the records that a list names, one after the other up to the first refusal, or tries that
+/// on a copy of the books, and writes the answers.
 pub(crate) fn choose_listed<S: Repository, F: Inputs, O: Writer + Drop>(
     alloc: Global,
     repository: &mut S,
     inputs: &F,
     book: &str,
     file: &str,
+    tried: bool,
     output: O,
 ) -> (Ended, O)
-    ensures { ChoosesListed (F.held inputs.now file.now) book.now (S.shelf repository.old)
+    ensures { ChoosesListed tried ((F.held inputs.now).holds file.now) book.now (S.shelf repository.old)
         (S.shelf repository.new) (O.contents output) (O.contents result.1)
         (∥ HasFailed O.may_answer result.1 ∥₁) result.0 }
 {
-    let answered = ask_listed(alloc, repository, inputs, book, file);
+    let answered = ask_listed(alloc, repository, inputs, book, file, tried);
     tell_list(alloc, answered, output)
 }
 
@@ -81,13 +85,14 @@ fn ask_listed<S: Repository, F: Inputs>(
     inputs: &F,
     book: &str,
     file: &str,
+    tried: bool,
 ) -> Result<ListAnswered, CommandFault>
-    ensures { ComesOfList (F.held inputs.now file.now) book.now (S.shelf repository.old)
+    ensures { ComesOfList tried ((F.held inputs.now).holds file.now) book.now (S.shelf repository.old)
         (S.shelf repository.new) result }
 {
     repository.expect(book)?;
     let names = read_list(alloc, inputs, file)?;
-    Ok(choose_names(alloc, repository, book, names))
+    Ok(answer_names(alloc, repository, book, names, tried))
 }
 
 /// The names of a list in a file.
@@ -97,9 +102,9 @@ fn read_list<F: Inputs>(
     file: &str,
 ) -> Result<Vec<[u8; 32]>, CommandFault>
     ensures listed { IfOk result (λ names. AreListed names.items) }
-    ensures all { IfOk result (λ names. AreAllOf (front_of (F.held inputs.now file.now))
+    ensures all { IfOk result (λ names. AreAllOf (front_of ((F.held inputs.now).holds file.now))
         names.items) }
-    ensures refused { IfErr result (IsListFault (front_of (F.held inputs.now file.now))) }
+    ensures refused { IfErr result (IsListFault (front_of ((F.held inputs.now).holds file.now))) }
 {
     let input = inputs.open(file)?;
     read_front(alloc, input)
@@ -129,6 +134,42 @@ fn read_names<R: Read + Drop>(alloc: Global, reader: R) -> Result<Vec<[u8; 32]>,
     Ok(list.end()?)
 }
 
+/// Chooses the records of these names, or tries that.
+fn answer_names<S: Repository>(
+    alloc: Global,
+    repository: &mut S,
+    book: &str,
+    names: Vec<[u8; 32]>,
+    tried: bool,
+) -> ListAnswered
+    ensures { IsListBy tried names.items book.now (S.shelf repository.old)
+        (S.shelf repository.new) result }
+{
+    if tried {
+        return try_names(alloc, repository, book, names);
+    }
+    choose_names(alloc, repository, book, names)
+}
+
+/// Chooses the records of these names on a copy of the books, which is let go.
+fn try_names<S: Repository>(
+    alloc: Global,
+    repository: &mut S,
+    book: &str,
+    names: Vec<[u8; 32]>,
+) -> ListAnswered
+    ensures { IsListTried names.items book.now (S.shelf repository.old) (S.shelf repository.new)
+        result }
+{
+    let mut choices = ListedChoices { alloc, names };
+    let Opened { answer, has_log } = repository.try_out(book, &mut choices);
+    ListAnswered {
+        chosen: chosen_in(answer),
+        has_log,
+        is_change: false,
+    }
+}
+
 /// Opens the books, and chooses the records of these names.
 fn choose_names<S: Repository>(
     alloc: Global,
@@ -144,6 +185,7 @@ fn choose_names<S: Repository>(
     ListAnswered {
         chosen: chosen_in(answer),
         has_log,
+        is_change: true,
     }
 }
 
@@ -170,12 +212,18 @@ fn tell_list<O: Writer + Drop>(
         (∥ HasFailed O.may_answer result.1 ∥₁) result.0 }
 {
     match answered {
-        Ok(ListAnswered { chosen, has_log }) => {
+        Ok(
+            ListAnswered {
+                chosen,
+                has_log,
+                is_change,
+            },
+        ) => {
             let (came, output) = tell_choices(alloc, chosen, output);
             let ended = Ended {
                 came,
                 has_log,
-                is_change: true,
+                is_change,
                 notice: None,
             };
             (ended, output)

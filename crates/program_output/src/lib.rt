@@ -14,6 +14,7 @@ mod laws;
 mod layouts;
 mod ledger_faults;
 mod listing;
+mod marks;
 mod message;
 mod names;
 mod status;
@@ -28,10 +29,12 @@ pub use error_line::{PROGRAM, hand_all, say};
 pub use explanations::{Explanation, FaultKind, explained};
 pub use laws::{numbers_are_one_to_one, same_records_same_texts};
 pub use layouts::is_misread;
+pub use listing::Checked;
+pub use marks::is_receipt_torn;
 pub use message::{
     arguments_failed, books_busy, books_unsound, far_noticed, input_refused, input_refused_at,
     io_failed, layout_noticed, ledger_refused, ledger_refused_at, log_left, no_such_number,
-    out_of_memory, report_failed, stopped, words_refused,
+    out_of_memory, report_failed, stopped, torn_noticed, words_refused,
 };
 pub use names::{MAX_NAMES, NameList, NamesFault};
 pub use status::Status;

@@ -4,7 +4,7 @@ use Rattle.chargectl.proofs.choices.ask_listed.Goals as goal
 
 pub returns-in_err-names : goal.returns-in_err-names
 returns-in_err-names g c =
-    not_listed (g.F.Inputs.held c.args.inputs.now c.args.file.now) c.args.book.now
+    not_listed c.args.tried ((g.F.Inputs.held c.args.inputs.now).holds c.args.file.now) c.args.book.now
     (g.S.Repository.shelf c.args.repository.now)
     c.from_residual-in_err-names.result c.in_err-names.field-0.0 c.from_residual-in_err-names.ensures.0
     c.from_residual-in_err-names.ensures.1 (inr c.in_err-names.ensures.refused)
@@ -14,5 +14,5 @@ returns g c = record {
   names = c.in_ok-names.names.items;
   listed = c.in_ok-names.ensures.listed;
   all = c.in_ok-names.ensures.all;
-  came = c.choose_names.ensures;
+  came = c.answer_names.ensures;
 }

@@ -3,8 +3,8 @@ use Rattle.chargectl.specs.ClientRequests.{later_of}
 use Rattle.chargectl.proofs.ServingLemmas.{any_together, told_count}
 use Rattle.tests_books.proofs.client.QueueConnections.next.Goals as goal
 
-pub returns-clause-left : goal.returns-clause-left
-returns-clause-left g c =
+pub returns-clause-most : goal.returns-clause-most
+returns-clause-most g c =
     let came = c.answer_peer-attended in
     let count = came.ensures.count in
     let long = told_count came.result.0 in
