@@ -15,6 +15,7 @@ const HOST: &str = "host";
 /// The name of the field in which a browser says how near the page is that makes it ask, and the
 /// value of one elsewhere.
 const FETCH_SITE: &str = "sec-fetch-site";
+
 const CROSS_SITE: &str = "cross-site";
 
 /// Each byte is a digit.

@@ -448,9 +448,11 @@ module _ (history : List Event) (name : List ℕ) (old new : Shelf)
       follows : book ≡ name
           → (events : List Event) × ChoicesFollow old.naming history names chosen events
       follows same =
-          let found = tried.1 history (subst (λ name. old.holds name history) (sym same) held) in
-          (found.0, choices_followed old.naming history name old new answered held names chosen found.0
-          (record { is = found.1; made_so = found.2 }))
+          let found = tried.1 history (subst (λ name. old.holds name history) (sym same) held) in (
+            found.0,
+            choices_followed old.naming history name old new answered held names chosen found.0
+                (record { is = found.1; made_so = found.2 }),
+          )
   names_tried book names (Err fault) tried =
       step_as (λ made is. (λ _. tt, follow book fault tried.0, is))
       (none_on old.naming history name old new answered held book tried.1)

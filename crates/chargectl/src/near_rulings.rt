@@ -56,12 +56,7 @@ impl Visit for NearRuling {
 
 /// Asks for a ruling, unless its day is far.
 #[tactic(auto, using(crate::proofs::FarLemmas::ruling_unread))]
-fn ask_if_near<L: Ledger>(
-    alloc: Global,
-    books: &mut L,
-    asked: &Asked,
-    is_far: bool,
-) -> NearAnswer
+fn ask_if_near<L: Ledger>(alloc: Global, books: &mut L, asked: &Asked, is_far: bool) -> NearAnswer
     requires { IsAskableRuling asked.now }
     ensures { IsTransition (L.seen books.old) (L.seen books.new)
         (AsksIfNear (L.seen books.old).naming asked.now is_far result) }

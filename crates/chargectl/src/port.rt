@@ -128,8 +128,14 @@ impl<'a> Port<'a> {
             left: self.due.left - 1,
             waiting: self.waiting.taken(),
         };
-        let (attended, soon) =
-            answer_stream(self.rt, &mut self.routes, stream, soon, repository, book);
+        let (attended, soon) = answer_stream(
+            self.rt,
+            &mut self.routes,
+            stream,
+            soon,
+            repository,
+            book,
+        );
         let Arriving { waiting, .. } = soon;
         let due = self.due.after_all(&attended);
         self.due = due;

@@ -235,11 +235,7 @@ fn ruled<'a>(near: bool, ruling: Ruling<'a>) -> BookRequest<'a>
 }
 
 /// The ruling, or a dry run of it: that says of a day that it is far, and refuses none for it.
-fn ruling_in<'a>(
-    found: &ArgMatches<'_>,
-    near: bool,
-    ruling: Ruling<'a>,
-) -> Option<BookRequest<'a>>
+fn ruling_in<'a>(found: &ArgMatches<'_>, near: bool, ruling: Ruling<'a>) -> Option<BookRequest<'a>>
     ensures asked { (name : _) → IsRuling name (rows_in found.now) ruling.entry
         → IsNear (rows_in found.now) ruling.entry near
         → IfSome result (IsOfBooks name (rows_in found.now)) }

@@ -86,11 +86,7 @@ fn end_check<O: Writer + Drop>(
 }
 
 /// How a check ends of a dump that looks misread or not.
-fn check_ended(
-    has_to_be_whole: bool,
-    is_misread: bool,
-    told: Result<Checked, ReportFault>,
-) -> Ended
+fn check_ended(has_to_be_whole: bool, is_misread: bool, told: Result<Checked, ReportFault>) -> Ended
     ensures { result ≡ check_end has_to_be_whole is_misread told }
 {
     match told {

@@ -41,12 +41,7 @@ impl Ended {
     }
 
     /// How a command ended that read a dump up to a stop, and opened no books.
-    pub fn at_stop(
-        stop: Stop,
-        has_to_be_whole: bool,
-        is_misread: bool,
-        is_torn: bool,
-    ) -> Ended
+    pub fn at_stop(stop: Stop, has_to_be_whole: bool, is_misread: bool, is_torn: bool) -> Ended
         ensures { result ≡ dump_end has_to_be_whole is_misread is_torn stop }
     {
         Ended {

@@ -102,11 +102,7 @@ fn lasting_tariff(alloc: Global, text: &str) -> Result<Tariff, CommandFault>
 }
 
 /// How a trial ends of a dump that looks misread or not.
-fn trial_ended(
-    has_to_be_whole: bool,
-    is_misread: bool,
-    told: Result<Receipt, ReportFault>,
-) -> Ended
+fn trial_ended(has_to_be_whole: bool, is_misread: bool, told: Result<Receipt, ReportFault>) -> Ended
     ensures { result ≡ trial_end has_to_be_whole is_misread told }
 {
     match told {
