@@ -13,6 +13,7 @@ mod frame_faults;
 mod laws;
 mod layouts;
 mod ledger_faults;
+mod listed_line;
 mod listing;
 mod marks;
 mod message;
@@ -36,7 +37,7 @@ pub use message::{
     io_failed, layout_noticed, ledger_refused, ledger_refused_at, log_left, no_such_number,
     out_of_memory, report_failed, stopped, torn_noticed, words_refused,
 };
-pub use names::{MAX_NAMES, NameList, NamesFault};
+pub use names::{Listed, MAX_LIST, NameList, NamesFault};
 pub use status::Status;
 pub use trials::trial;
 pub use words::WordKind;
