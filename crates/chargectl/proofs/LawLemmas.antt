@@ -404,8 +404,11 @@ module _ (history : List Event) (name : List ℕ) (old new : Shelf)
   list_comes_on had book (Ok told) comes =
       step_where (λ made follows. record {
         names = comes.names;
+        lines = comes.lines;
         listed = comes.listed;
         all = comes.all;
+        placed = comes.placed;
+        numbered = comes.numbered;
         told = comes.came.told;
         follows = follows;
         says = comes.came.says;
@@ -482,8 +485,11 @@ module _ (history : List Event) (name : List ℕ) (old new : Shelf)
           step_as (λ made so. (
             λ same. record {
               names = comes.names;
+              lines = comes.lines;
               listed = comes.listed;
               all = comes.all;
+              placed = comes.placed;
+              numbered = comes.numbered;
               told = comes.came.told;
               follows = so.0 same;
               refused = so.1;

@@ -45,8 +45,8 @@ use Rattle.chargectl.specs.declared.dated_rulings.DatedAnswer.{DatedAnswer}
 use Rattle.chargectl.specs.declared.answered.Answered.{Answered}
 use Rattle.chargectl.specs.declared.streamed_lists.StreamedList.{StreamedList}
 use Rattle.chargectl.specs.Audits.{EndsAudit}
-use Rattle.chargectl.specs.Choices.{AreAllOf, AreListed, ChoosesNothing, TellsList, chosen_of}
-use Rattle.chargectl.specs.Choices.{front_of}
+use Rattle.chargectl.specs.Choices.{AreAllOf, AreLinesOf, AreListed, ChoosesNothing, TellsList}
+use Rattle.chargectl.specs.Choices.{chosen_of, front_of}
 use Rattle.chargectl.specs.Commands.{AsksNothing, HasDump, IsAskedBy, IsShelfFault, Tells, answer_of}
 use Rattle.chargectl.specs.Commands.{answer_told, first_fault, may_change, notice_of}
 use Rattle.chargectl.specs.declared.near_rulings.NearAnswer.{NearAnswer}
@@ -231,8 +231,11 @@ ChoicesFollow naming history names (Err none) made = made ≡ []
 pub record ListOf (had : Option (List ℕ)) (naming : Naming) (history : List Event)
     (Refuses : RepositoryFault → Type 0) (answered : ListAnswered) (made : List Event) : Type 0 where
   pub names : List (List ℕ)
-  pub listed : AreListed names
+  pub lines : List ℕ
+  pub listed : AreListed names lines
   pub all : AreAllOf (front_of had) names
+  pub placed : AreLinesOf (front_of had) lines
+  pub numbered : answered.lines.items ≡ lines
   pub told : Result (Result Chosen AllocError) RepositoryFault
   pub follows : OpenedSo Refuses (ChoicesFollow naming history names) told made
   pub says : answered.chosen ≡ chosen_of told
@@ -257,8 +260,11 @@ pub record ListOfHistory (had : Option (List ℕ)) (naming : Naming) (history : 
 pub record ListTriedOf (had : Option (List ℕ)) (naming : Naming) (history : List Event)
     (Refuses : RepositoryFault → Type 0) (answered : ListAnswered) : Type 0 where
   pub names : List (List ℕ)
-  pub listed : AreListed names
+  pub lines : List ℕ
+  pub listed : AreListed names lines
   pub all : AreAllOf (front_of had) names
+  pub placed : AreLinesOf (front_of had) lines
+  pub numbered : answered.lines.items ≡ lines
   pub told : Result (Result Chosen AllocError) RepositoryFault
   pub follows : IfOk told (λ chosen. (events : List Event)
       × ChoicesFollow naming history names chosen events)

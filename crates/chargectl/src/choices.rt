@@ -5,7 +5,7 @@ ghost use Rattle.std.specs.Prelude.{◌≡◌, IfErr, IfOk};
 ghost use Rattle.streams.specs.Failures.{HasFailed};
 ghost use Rattle.office.specs.Choices as choices;
 ghost use Rattle.chargectl.specs.Choices as spec;
-ghost use Rattle.chargectl.specs.Choices.{AreAllOf, AreListed, ChoosesBy, ChoosesListed};
+ghost use Rattle.chargectl.specs.Choices.{AreAllOf, AreLinesOf, AreListed, ChoosesBy, ChoosesListed};
 ghost use Rattle.chargectl.specs.Choices.{ComesOfList, EndsChoices, IsListAnswered, IsListBy};
 ghost use Rattle.chargectl.specs.Choices.{IsListFault, IsListTried};
 ghost use Rattle.chargectl.specs.Choices.{TellsChoices, TellsList, chosen_of, front_of};
@@ -16,15 +16,11 @@ use crate::book_commands::print;
 use book_core::{Ledger, LedgerFault, Ruled};
 use named_books::{Opened, Repository, RepositoryFault, Visit};
 use office::{Answer, Chosen, answer_lines, choose_each};
-use program_output::{MAX_NAMES, NameList};
+use program_output::{Listed, MAX_LIST, NameList};
 use std::alloc::{AllocError, Global};
 use std::io::{BufReader, Read};
 use streams::Writer;
 use without_books::{CommandFault, Ended, Inputs};
-
-/// How many bytes of a list are read: one more than a list has that is as long as it may be, for each
-/// name its digits and the two bytes after them. So many have a line that is no name, or one too many.
-const MOST_BYTES: u64 = 66 * MAX_NAMES as u64 + 1;
 
 /// The choices that the names of a list ask for.
 #[derive(Drop)]
@@ -53,6 +49,8 @@ impl Visit for ListedChoices {
 pub(crate) struct ListAnswered {
     /// The answers, or why there are none.
     pub(crate) chosen: Result<Chosen, CommandFault>,
+    /// The numbers of the lines of the names.
+    pub(crate) lines: Vec<usize>,
     /// The log beside the books holds a part of them.
     pub(crate) has_log: bool,
     /// They may have changed the books.
@@ -91,19 +89,17 @@ fn ask_listed<S: Repository, F: Inputs>(
         (S.shelf repository.new) result }
 {
     repository.expect(book)?;
-    let names = read_list(alloc, inputs, file)?;
-    Ok(answer_names(alloc, repository, book, names, tried))
+    let listed = read_list(alloc, inputs, file)?;
+    Ok(answer_names(alloc, repository, book, listed, tried))
 }
 
 /// The names of a list in a file.
-fn read_list<F: Inputs>(
-    alloc: Global,
-    inputs: &F,
-    file: &str,
-) -> Result<Vec<[u8; 32]>, CommandFault>
-    ensures listed { IfOk result (λ names. AreListed names.items) }
-    ensures all { IfOk result (λ names. AreAllOf (front_of ((F.held inputs.now).holds file.now))
-        names.items) }
+fn read_list<F: Inputs>(alloc: Global, inputs: &F, file: &str) -> Result<Listed, CommandFault>
+    ensures listed { IfOk result (λ listed. AreListed listed.names.items listed.lines.items) }
+    ensures all { IfOk result (λ listed.
+        AreAllOf (front_of ((F.held inputs.now).holds file.now)) listed.names.items) }
+    ensures placed { IfOk result (λ listed.
+        AreLinesOf (front_of ((F.held inputs.now).holds file.now)) listed.lines.items) }
     ensures refused { IfErr result (IsListFault (front_of ((F.held inputs.now).holds file.now))) }
 {
     let input = inputs.open(file)?;
@@ -112,19 +108,23 @@ fn read_list<F: Inputs>(
 
 /// The names of a list that a reader gives, of which no more is read than a list may have. All its
 /// lines are looked at before a record is chosen.
-fn read_front<R: Read + Drop>(alloc: Global, reader: R) -> Result<Vec<[u8; 32]>, CommandFault>
-    ensures listed { IfOk result (λ names. AreListed names.items) }
-    ensures all { IfOk result (λ names. AreAllOf (front_of (R.remaining reader)) names.items) }
+fn read_front<R: Read + Drop>(alloc: Global, reader: R) -> Result<Listed, CommandFault>
+    ensures listed { IfOk result (λ listed. AreListed listed.names.items listed.lines.items) }
+    ensures all { IfOk result (λ listed.
+        AreAllOf (front_of (R.remaining reader)) listed.names.items) }
+    ensures placed { IfOk result (λ listed.
+        AreLinesOf (front_of (R.remaining reader)) listed.lines.items) }
     ensures refused { IfErr result (IsListFault (front_of (R.remaining reader))) }
 {
     let buffered = BufReader::new(alloc, reader)?;
-    read_names(alloc, buffered.take(MOST_BYTES))
+    read_names(alloc, buffered.take(MAX_LIST))
 }
 
 /// The names of a list that a reader gives, which is read to its end.
-fn read_names<R: Read + Drop>(alloc: Global, reader: R) -> Result<Vec<[u8; 32]>, CommandFault>
-    ensures listed { IfOk result (λ names. AreListed names.items) }
-    ensures all { IfOk result (λ names. AreAllOf (R.remaining reader) names.items) }
+fn read_names<R: Read + Drop>(alloc: Global, reader: R) -> Result<Listed, CommandFault>
+    ensures listed { IfOk result (λ listed. AreListed listed.names.items listed.lines.items) }
+    ensures all { IfOk result (λ listed. AreAllOf (R.remaining reader) listed.names.items) }
+    ensures placed { IfOk result (λ listed. AreLinesOf (R.remaining reader) listed.lines.items) }
     ensures refused { IfErr result (IsListFault (R.remaining reader)) }
 {
     let mut list = NameList::new(alloc);
@@ -139,16 +139,17 @@ fn answer_names<S: Repository>(
     alloc: Global,
     repository: &mut S,
     book: &str,
-    names: Vec<[u8; 32]>,
+    listed: Listed,
     tried: bool,
 ) -> ListAnswered
-    ensures { IsListBy tried names.items book.now (S.shelf repository.old)
+    ensures came { IsListBy tried listed.names.items book.now (S.shelf repository.old)
         (S.shelf repository.new) result }
+    ensures lines { result.lines.items ≡ listed.lines.items }
 {
     if tried {
-        return try_names(alloc, repository, book, names);
+        return try_names(alloc, repository, book, listed);
     }
-    choose_names(alloc, repository, book, names)
+    choose_names(alloc, repository, book, listed)
 }
 
 /// Chooses the records of these names on a copy of the books, which is let go.
@@ -156,15 +157,18 @@ fn try_names<S: Repository>(
     alloc: Global,
     repository: &mut S,
     book: &str,
-    names: Vec<[u8; 32]>,
+    listed: Listed,
 ) -> ListAnswered
-    ensures { IsListTried names.items book.now (S.shelf repository.old) (S.shelf repository.new)
-        result }
+    ensures came { IsListTried listed.names.items book.now (S.shelf repository.old)
+        (S.shelf repository.new) result }
+    ensures lines { result.lines.items ≡ listed.lines.items }
 {
+    let Listed { names, lines } = listed;
     let mut choices = ListedChoices { alloc, names };
     let Opened { answer, has_log } = repository.try_out(book, &mut choices);
     ListAnswered {
         chosen: chosen_in(answer),
+        lines,
         has_log,
         is_change: false,
     }
@@ -175,15 +179,18 @@ fn choose_names<S: Repository>(
     alloc: Global,
     repository: &mut S,
     book: &str,
-    names: Vec<[u8; 32]>,
+    listed: Listed,
 ) -> ListAnswered
-    ensures { IsListAnswered names.items book.now (S.shelf repository.old) (S.shelf repository.new)
-        result }
+    ensures came { IsListAnswered listed.names.items book.now (S.shelf repository.old)
+        (S.shelf repository.new) result }
+    ensures lines { result.lines.items ≡ listed.lines.items }
 {
+    let Listed { names, lines } = listed;
     let mut choices = ListedChoices { alloc, names };
     let Opened { answer, has_log } = repository.open(book, &mut choices);
     ListAnswered {
         chosen: chosen_in(answer),
+        lines,
         has_log,
         is_change: true,
     }
@@ -215,11 +222,12 @@ fn tell_list<O: Writer + Drop>(
         Ok(
             ListAnswered {
                 chosen,
+                lines,
                 has_log,
                 is_change,
             },
         ) => {
-            let (came, output) = tell_choices(alloc, chosen, output);
+            let (came, output) = tell_choices(alloc, chosen, &lines, output);
             let ended = Ended {
                 came,
                 has_log,
@@ -235,13 +243,14 @@ fn tell_list<O: Writer + Drop>(
 fn tell_choices<O: Writer + Drop>(
     alloc: Global,
     chosen: Result<Chosen, CommandFault>,
+    lines: &[usize],
     output: O,
 ) -> (Result<(), CommandFault>, O)
-    ensures { TellsChoices chosen (O.contents output) (O.contents result.1)
+    ensures { TellsChoices chosen lines.now (O.contents output) (O.contents result.1)
         (∥ HasFailed O.may_answer result.1 ∥₁) result.0 }
 {
     match chosen {
-        Ok(chosen) => tell_chosen(alloc, &chosen, output),
+        Ok(chosen) => tell_chosen(alloc, &chosen, lines, output),
         Err(fault) => (Err(fault), output),
     }
 }
@@ -250,23 +259,35 @@ fn tell_choices<O: Writer + Drop>(
 fn tell_chosen<O: Writer + Drop>(
     alloc: Global,
     chosen: &Chosen,
+    lines: &[usize],
     output: O,
 ) -> (Result<(), CommandFault>, O)
-    ensures { EndsChoices chosen.now (O.contents output) (O.contents result.1)
+    ensures { EndsChoices chosen.now lines.now (O.contents output) (O.contents result.1)
         (∥ HasFailed O.may_answer result.1 ∥₁) result.0 }
 {
     let (written, output) = print_answers(alloc, &chosen.answers, output);
-    (chosen_end(chosen, written), output)
+    (chosen_end(chosen, lines, written), output)
 }
 
 /// How choices end, by whether their answers were written.
-fn chosen_end(chosen: &Chosen, written: Result<(), CommandFault>) -> Result<(), CommandFault>
-    ensures { result ≡ spec.choices_end chosen.now written }
+fn chosen_end(
+    chosen: &Chosen,
+    lines: &[usize],
+    written: Result<(), CommandFault>,
+) -> Result<(), CommandFault>
+    ensures { result ≡ spec.choices_end chosen.now lines.now written }
 {
     match chosen.refusal {
-        Some(fault) => Err(CommandFault::LedgerAt(fault, chosen.answers.len() + 1)),
+        Some(fault) => Err(CommandFault::LedgerAt(fault, line_of(lines, chosen.answers.len()))),
         None => written,
     }
+}
+
+/// The number of the line of a name, by its place among the names.
+fn line_of(lines: &[usize], place: usize) -> usize
+    ensures { result ≡ spec.line_of lines.now place }
+{
+    if place < lines.len() { lines[place] } else { 0 }
 }
 
 /// Writes a line for each answer, so that they have left the program.
