@@ -1,6 +1,7 @@
 -- What is said of a fault to people, where standard error is a terminal: below the lines that the formats
 -- fix, and never in their place.
-use Rattle.std.specs.Prelude.{◌≡◌, ℕ, List, [], ◌++◌, codes, Option, Some, None, decimal}
+use Rattle.std.specs.Prelude.{◌≡◌, ◌==◌, if◌then◌else◌, ℕ, List, [], ◌++◌, length, codes, Option}
+use Rattle.std.specs.Prelude.{Some, None, decimal}
 use Rattle.std.specs.declared.io.ErrorKind.{ErrorKind}
 use Rattle.std.specs.declared.io.ErrorKind.TheVariants.{NotFound, NotADirectory, PermissionDenied}
 use Rattle.std.specs.declared.io.ErrorKind.TheVariants.{ReadOnlyFilesystem, IsADirectory, AddrInUse}
@@ -16,7 +17,7 @@ use Rattle.program_output.specs.Explanations.{Explains}
 use Rattle.program_output.specs.declared.causes.Cause.{Cause}
 use Rattle.program_output.specs.declared.explanations.Explanation.{Explanation}
 use Rattle.program_output.specs.declared.words.WordKind.{WordKind}
-use Rattle.without_books.specs.ShownPaths.{shown_path}
+use Rattle.without_books.specs.ShownPaths.{plain_bytes, shown_path}
 use Rattle.without_books.specs.declared.command_fault.CommandFault.{CommandFault}
 use Rattle.without_books.specs.declared.help_lines.Topic.{Topic}
 use Rattle.without_books.specs.declared.notice.Notice.{Notice}
@@ -105,11 +106,15 @@ abbrev pub entry_text : Entry → List ℕ
 entry_text (Shift number) = codes ", shift " ++ decimal number
 entry_text (Centre number) = codes ", centre " ++ decimal number
 
--- where in a tariff file
+-- where in a tariff file or a list
 abbrev pub within_text : Option Within → List ℕ
 within_text (Some (within.Line number)) = codes ", line " ++ decimal number
 within_text (Some (within.Entry entry)) = entry_text entry
 within_text None = []
+
+-- what a line of a list says, as far as it is known
+abbrev pub line_text : List ℕ → List ℕ
+line_text line = if length line == 0 then [] else codes ": " ++ plain_bytes line
 
 -- why, as far as it is known
 abbrev pub why_text : Option Cause → List ℕ
@@ -120,9 +125,10 @@ why_text None = []
 abbrev pub help_line : List ℕ → List ℕ
 help_line text = codes "  " ++ text ++ codes "\n"
 
--- where a fault is, and why
-abbrev pub spot_line : Spot → List ℕ
-spot_line spot = help_line (place_text spot.place ++ within_text spot.within ++ why_text spot.cause)
+-- where a fault is, what stands there, and why
+abbrev pub spot_line : Spot → List ℕ → List ℕ
+spot_line spot line =
+    help_line (place_text spot.place ++ within_text spot.within ++ line_text line ++ why_text spot.cause)
 
 -- what `explain` says, a line each
 abbrev pub topic_lines : Option Explanation → List ℕ

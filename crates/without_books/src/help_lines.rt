@@ -4,15 +4,15 @@
 
 ghost use Rattle.std.specs.Prelude.{◌≡◌, ◌++◌};
 ghost use Rattle.without_books.specs.HelpLines as spec;
-ghost use Rattle.without_books.specs.HelpLines.{TellsTopic, entry_text, place_text, spot_line};
-ghost use Rattle.without_books.specs.HelpLines.{why_text, within_text};
+ghost use Rattle.without_books.specs.HelpLines.{TellsTopic, entry_text, line_text, place_text};
+ghost use Rattle.without_books.specs.HelpLines.{spot_line, why_text, within_text};
 
 use crate::asked_help::{is_asked, push_heading};
 use crate::command_fault::CommandFault;
 use crate::ended::Ended;
 use crate::notice::Notice;
 use crate::places::{Place, Places, Spot, Within};
-use crate::shown_paths::push_path;
+use crate::shown_paths::{push_path, push_plain_bytes};
 use book_core::LedgerFault;
 use book_import::Stop;
 use book_reports::ReportFault;
@@ -71,8 +71,10 @@ pub fn help(rt: &HostRuntime, words: &[String], request: Request<'_>, said: Said
 /// Adds the lines for a person.
 fn push_help(out: &mut Draft, rt: &HostRuntime, request: Request<'_>, said: Said) {
     if let Some(fault) = said.fault {
-        if let Some(spot) = Places::of(request).spot_of(rt, fault) {
-            push_spot(out, spot);
+        let places = Places::of(request);
+        if let Some(spot) = places.spot_of(rt, fault) {
+            let line = places.refused_line(rt, fault);
+            push_spot(out, spot, line.as_slice().trim_ascii_end());
         }
         if let Some(topic) = fault_topic(fault) {
             push_topic(out, topic);
@@ -187,13 +189,14 @@ fn push_topic(out: &mut Draft, topic: Topic)
     out.push_str("\n");
 }
 
-/// Adds where a fault is, and why.
-fn push_spot(out: &mut Draft, spot: Spot<'_>)
-    ensures { out.new ≡ out.old ++ spot_line spot.entry }
+/// Adds where a fault is, what stands there, and why.
+fn push_spot(out: &mut Draft, spot: Spot<'_>, line: &[u8])
+    ensures { out.new ≡ out.old ++ spot_line spot.entry line.now }
 {
     out.push_str("  ");
     push_place(out, spot.place);
     push_within(out, spot.within);
+    push_line(out, line);
     push_cause(out, spot.cause);
     out.push_str("\n");
 }
@@ -242,6 +245,17 @@ fn push_entry(out: &mut Draft, entry: Entry)
             out.push_number(u64::from(number));
         }
     }
+}
+
+/// Adds what a line of a list says, if anything is known of it.
+fn push_line(out: &mut Draft, line: &[u8])
+    ensures { out.new ≡ out.old ++ line_text line.now }
+{
+    if line.is_empty() {
+        return;
+    }
+    out.push_str(": ");
+    push_plain_bytes(out, line);
 }
 
 fn push_cause(out: &mut Draft, cause: Option<Cause>)

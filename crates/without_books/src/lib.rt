@@ -16,6 +16,7 @@ mod places;
 mod ports;
 mod printed_text;
 mod progress;
+mod refused_lines;
 mod served_lines;
 mod shown_paths;
 mod tariff_texts;

@@ -6,6 +6,7 @@ use crate::causes::{
 };
 use crate::command_fault::CommandFault;
 use crate::inputs::HostInputs;
+use crate::refused_lines::line_in_file;
 use crate::tariff_texts::tariff_text;
 use book_core::LedgerFault;
 use book_import::Stop;
@@ -36,12 +37,13 @@ pub(crate) enum Place<'a> {
     Output,
 }
 
-/// Where in a tariff file a fault is.
+/// Where in a tariff file or a list a fault is.
 #[derive(Clone, Copy)]
 pub(crate) enum Within {
-    /// The line at which it is no TOML document, counted from 1.
+    /// The line, counted from 1: where a tariff file is no TOML document, or what a list says there was
+    /// refused.
     Line(u64),
-    /// The entry that is no rule.
+    /// The entry of a tariff file that is no rule.
     Entry(Entry),
 }
 
@@ -49,7 +51,7 @@ pub(crate) enum Within {
 #[derive(Clone, Copy)]
 pub(crate) struct Spot<'a> {
     pub(crate) place: Place<'a>,
-    /// Where in a tariff file.
+    /// Where in a file.
     pub(crate) within: Option<Within>,
     /// None where the fault's own line says it.
     pub(crate) cause: Option<Cause>,
@@ -139,15 +141,36 @@ impl<'a> Places<'a> {
             CommandFault::Exists => self.in_the_way(rt),
             // Of an unsound copy nothing is left.
             CommandFault::Unsound => Spot::in_file(self.books),
-            CommandFault::ArgumentAt(_) | CommandFault::LedgerAt(_, _) | CommandFault::Torn => {
-                Spot::in_file(self.read)
-            }
+            CommandFault::ArgumentAt(line) | CommandFault::LedgerAt(_, line) => self.in_line(line),
+            CommandFault::Torn => Spot::in_file(self.read),
             CommandFault::Ledger(refused) => self.refused(rt, refused),
             CommandFault::Report(ReportFault::Ledger(refused)) => self.refused(rt, refused),
             CommandFault::Report(ReportFault::Write) => Some(output_failed()),
             CommandFault::Stopped(stop) => self.stopped(rt, stop),
             _ => None,
         }
+    }
+
+    /// The line of a list that was refused. Empty where none was, or a second look does not find it.
+    pub(crate) fn refused_line(self, rt: &HostRuntime, fault: CommandFault) -> Vec<u8> {
+        let Some(path) = self.read else {
+            return Vec::new(rt.alloc());
+        };
+        match fault {
+            CommandFault::ArgumentAt(line) | CommandFault::LedgerAt(_, line) => {
+                line_in_file(rt, path, line)
+            }
+            _ => Vec::new(rt.alloc()),
+        }
+    }
+
+    /// In a line of the file that is read.
+    fn in_line(self, line: usize) -> Option<Spot<'a>> {
+        Some(Spot {
+            place: Place::File(self.read?),
+            within: Some(Within::Line(line as u64)),
+            cause: None,
+        })
     }
 
     /// The books that another program has open: new ones are made under a second name.

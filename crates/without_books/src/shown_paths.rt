@@ -1,4 +1,4 @@
-//! Paths as a terminal shows them: no byte of one makes it do anything else.
+//! Paths and other bytes as a terminal shows them: none of them makes it do anything else.
 
 ghost use Rattle.std.specs.Prelude.{◌≡◌, ◌++◌};
 ghost use Rattle.std.specs.List.{list_any};
@@ -24,7 +24,7 @@ fn has_control(bytes: &[u8]) -> bool
     false
 }
 
-/// Appends a byte of a path that has such bytes.
+/// Appends a byte of those that are shown in ASCII alone.
 fn push_plain(out: &mut Draft, byte: u8)
     ensures { out.new ≡ out.old ++ spec.plain_byte byte }
 {
@@ -37,8 +37,9 @@ fn push_plain(out: &mut Draft, byte: u8)
     }
 }
 
+/// Appends bytes that may be no text.
 #[tactic(auto, using(std::proofs::lemmas::List::flat_map_more), unfolding(crate::specs::ShownPaths::plain_bytes))]
-fn push_plain_bytes(out: &mut Draft, bytes: &[u8])
+pub(crate) fn push_plain_bytes(out: &mut Draft, bytes: &[u8])
     ensures { out.new ≡ out.old ++ spec.plain_bytes bytes.now }
 {
     for byte in bytes {
