@@ -480,11 +480,11 @@ class Books:
         self.choices.append((name, self.open))
         return ["DONE"]
 
-    def choose_each(self, names):
+    def choose_each(self, listed):
         """One choice after the other, up to the first refusal: the answers to those before it, and the refusal with the
-        number of its line."""
+        number of its line. The names come with the numbers of their lines."""
         answers = []
-        for number, name in enumerate(names, 1):
+        for number, name in listed:
             [answer] = self.choose(name)
             if answer.startswith("chargectl"):
                 return answers + ["%s line %d" % (answer, number)]

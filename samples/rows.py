@@ -73,6 +73,16 @@ def days(day):
     return (day - office.EPOCH).days
 
 
+def said_by(line):
+    """What a line of a list says, of which nothing is passed over if it is too long. A carriage return before its end is a part
+    of that."""
+    line = line.removesuffix(b"\r")
+    if len(line) > MOST_LINE:
+        return line.decode("latin-1")
+    said = line.removeprefix(MARK).rstrip(BLANKS).decode("latin-1")
+    return said[1:-1] if len(said) > 1 and said[0] == said[-1] == QUOTE else said
+
+
 def day_of(word):
     """The day that a word names, if it does: exactly YYYY-MM-DD, of a year from 1900 to 2099."""
     try:
@@ -185,6 +195,9 @@ PATHS = {"statement": ("statement", "plain"), "statement-csv": ("table", "csv"),
 
 # What spells the name of a record.
 DIGITS = re.compile("[0-9A-Fa-f]{64}")
+
+# What a spreadsheet may write before the first line of a text, behind each line, and round a name; and how long a line may be.
+MARK, BLANKS, QUOTE, MOST_LINE = b"\xef\xbb\xbf", b" \t\x0c\r", '"', 128
 
 OF_PERIODS = "statement table adjustments adjustment_table".split()
 
@@ -630,14 +643,13 @@ class Rows:
             """One choice, or those of a file. What is no name in the file is a wrong word, before the first of them."""
             if "--from" not in given:
                 return self.ruled(office.ruling_of_choice(self.name_of(name)), is_tried)
-            # A carriage return is a part of a line's end, and ends no line alone.
-            *names, last = self.files[given["--from"]].decode("latin-1").split("\n")
-            names = [name.removesuffix("\r") for name in names] + [last] * (last != "")
-            for number, name in enumerate(names, 1):
+            said = [(number, said_by(line)) for number, line in enumerate(self.files[given["--from"]].split(b"\n"), 1)]
+            listed = [(number, name) for number, name in said if name != ""]
+            for number, name in listed:
                 if not DIGITS.fullmatch(name):
                     return ["chargectl: word line %d" % number]
             tried = copy.deepcopy(books) if is_tried else books
-            return tried.choose_each(name.lower() for name in names)
+            return tried.choose_each((number, name.lower()) for number, name in listed)
 
         return {"init": lambda: [],
                 "tariff": lambda file: self.ruled(office.ruling_of_tariff(self.file(file)), is_tried),
