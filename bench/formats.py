@@ -462,7 +462,7 @@ SOUND = "SOUND\n" + "".join(
 UNSOUND = r"UNSOUND [ -~]+: [ -~]+\n"
 RECEIPT = " ".join(word + " [0-9]+" for word in COUNTED)
 RECEIPT += r" STOP (END|FRAME [1-8]|READ|READLIMIT|LEDGER [0-9]+)\n"
-CLASSES = "HEADER|TRAILER|LOST|OTHER|CONTINUED|USAGE|DAMAGED [1-9]"
+CLASSES = "HEADER|TRAILER|LOST|OTHER|CONTINUED|USAGE(?: [0-9a-f]{64})?|DAMAGED [1-9]"
 CHECKED = (r"(?:[0-9]+ TYPE (?:[0-9]+|-) (?:%s)\n)*" % CLASSES
            + r"RECORDS [0-9]+ STOP (?:END|FRAME [1-8])\n")
 
@@ -561,9 +561,14 @@ LAYOUT, FAR, TORN = b"chargectl: layout\n", b"chargectl: far\n", b"chargectl: to
 LOG = b"chargectl: log\n"
 
 
+def own_lines(lines):
+    """What is said on standard error without the lines for people, which are set in."""
+    return b"".join(line for line in lines.splitlines(True) if not line.startswith(b"  "))
+
+
 def said_first(lines):
     """What is said on standard error before what is noticed."""
-    return lines.removesuffix(LOG).removesuffix(FAR).removesuffix(LAYOUT).removesuffix(TORN)
+    return own_lines(lines).removesuffix(LOG).removesuffix(FAR).removesuffix(LAYOUT).removesuffix(TORN)
 
 
 # What a close leaves of a log, and the header of one and that of a page.
@@ -602,10 +607,34 @@ def is_no_log(file):
     return len(file) < LOG_HEADER + PAGE_HEADER or not is_signed(file)
 
 
-def status_of(lines):
-    """The status that goes with what is said on standard error; None where that is no such line. A
-    change that went well has status 4 where it left a log."""
+def statuses_of(lines):
+    """The statuses that go with what is said on standard error, besides 0. A change that went well has
+    status 4 where it left a log. A day that had to be near, and a dump that had to be whole, are
+    refused with what is noticed of others; but what was read of such a dump is status 4."""
+    noticed = {LOG: (4,), FAR: (3,), TORN: (3, 4)}
     if not said_first(lines):
-        return 4 if lines.endswith(LOG) else None
+        return noticed.get(own_lines(lines), (4,) if own_lines(lines).endswith(LOG) else ())
     said = ERROR.fullmatch(said_first(lines))
-    return said and (1 if said[1] else 4 if said[2] else 5 if said[3] else 3)
+    return said and (1 if said[1] else 4 if said[2] else 5 if said[3] else 3,) or ()
+
+
+# The line of a list: how long it may be, what may stand before a name and behind it, and a name.
+MOST_LINE, MARK, BLANKS, NAMED = 128, b"\xef\xbb\xbf", b" \t\x0c\r", re.compile(rb"[0-9A-Fa-f]{64}")
+
+
+def said_by(line):
+    """What a line of a list says, without what a spreadsheet writes round it."""
+    if len(line) > MOST_LINE:
+        return line
+    said = line.removeprefix(MARK).rstrip(BLANKS)
+    return said[1:-1] if len(said) > 1 and said[:1] == said[-1:] == b'"' else said
+
+
+def listed(data):
+    """The names of a list, each with the number of its line; or the number of the first line that
+    says anything else."""
+    *ended, last = data.split(b"\n")
+    said = [said_by(line.removesuffix(b"\r")) for line in ended] + [said_by(last)]
+    names = [(number, name) for number, name in enumerate(said, 1) if name]
+    wrong = next((number for number, name in names if not NAMED.fullmatch(name)), None)
+    return (names, None) if wrong is None else (None, wrong)
