@@ -32,7 +32,7 @@ use Rattle.request_bursts.proofs.BurstLemmas.{more_none, sent_begun}
 use Rattle.chargectl.specs.ClientRequests.{AreAnsweredFrom, AreAsked, AreLed, AsksAll, AsksBehind}
 use Rattle.chargectl.specs.ClientRequests.{AsksOpen, ComesAll, EndsBy, EndsUnseen, FailsBefore}
 use Rattle.chargectl.specs.declared.client_requests.Attended.{Attended}
-use Rattle.chargectl.specs.ClientRequests.{ComesOpen, IsAnsweredFrom, IsReplied, IsSentOpen}
+use Rattle.chargectl.specs.ClientRequests.{IsAnsweredFrom, IsReplied, IsSentOpen}
 use Rattle.chargectl.specs.ClientRequests.{IsServedByReads}
 use Rattle.chargectl.specs.ClientRequests.{IsServedFrom, SendsAnswer, SendsOpen, all_behind, asks_books}
 use Rattle.chargectl.specs.ClientRequests.{LeavesLog, is_report, later_of, may_be_early, may_lead}
@@ -501,12 +501,8 @@ still_behind seen book old first (what ∷ before) served =
 -- ---- one client, and those behind it
 
 -- a list of some is not empty
-has_some : List Served → Bool
-has_some [] = false
-has_some (what ∷ before) = true
-
 some_are : (what : Served) (before : List Served) → what ∷ before ≡ [] → ⊥
-some_are what before none = true≢false (ap has_some none)
+some_are what before none = cc
 
 never_led : (told : Result Served Answer) (later : List Served)
     → AreLed (may_lead false told) later → later ≡ []

@@ -1,6 +1,6 @@
 -- Lists that are written while the books are open: the details of a period, the rulings and the
 -- disputes. They are never held whole.
-use Rattle.std.specs.Prelude.{◌≡◌, Bool, false, ℕ, List, ◌++◌, Option, Some, None, Result, Ok, Err}
+use Rattle.std.specs.Prelude.{◌≡◌, Bool, false, ℕ, List, Option, Some, None, Result, Ok, Err}
 use Rattle.std.specs.Prelude.{IfErr, OnErr, OnOk, option_and_then}
 use Rattle.std.proofs.Common.{sym, subst}
 use Rattle.book_model.specs.declared.fault.LedgerFault.{LedgerFault}

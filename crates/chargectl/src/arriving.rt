@@ -22,12 +22,11 @@ pub(crate) struct Arriving<'a> {
 impl Arrivals for Arriving<'_> {
     ghost left = { λ arriving. arriving.left };
 
-    fn is_over(&self) -> bool {
-        self.left == 0
-    }
-
     /// A client whose request is not there in time comes out unread, and is the next one.
     fn next_open<L: Ledger>(&mut self, routes: &mut Routes, books: &mut L) -> Option<Served> {
+        if self.left == 0 {
+            return None;
+        }
         let Some(seen) = self.waiting.seen_soon() else {
             return None;
         };

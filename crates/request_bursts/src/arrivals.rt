@@ -10,21 +10,16 @@ use std::alloc::AllocError;
 
 /// A given number of clients, one after the other.
 pub trait Arrivals {
-    ghost use Rattle.std.specs.Prelude.{ℕ, ◌≡◌, ◌<◌, ◌+◌, ◌==◌, MatchOption};
+    ghost use Rattle.std.specs.Prelude.{ℕ, ◌≡◌, ◌+◌, MatchOption};
     ghost use Rattle.book_core.specs.Transition.{IsTransition};
     ghost use Rattle.request_bursts.specs.Bursts.{AnswersOne, LooksOnly};
 
     /// How many are left to be answered.
     ghost left: { Self → ℕ };
 
-    /// None is left.
-    fn is_over(&self) -> bool
-        ensures { result ≡ (left self.now == 0) };
-
-    /// Answers the next one from open books, if it comes soon, what it asks is there by then, and
-    /// the answer is short. `None`: the books are to be closed, and all are left as they were.
+    /// Answers the next one from open books, if one is left and comes soon, what it asks is there by
+    /// then, and the answer is short. `None`: the books are to be closed, and all are left as they were.
     fn next_open<L: Ledger>(&mut self, routes: &mut Routes, books: &mut L) -> Option<Served>
-        requires { 0 < left self.old }
         ensures left { MatchOption result (left self.new ≡ left self.old)
             (λ _. left self.new + 1 ≡ left self.old) }
         ensures answered { MatchOption result
@@ -39,10 +34,6 @@ pub struct Nobody;
 
 impl Arrivals for Nobody {
     ghost left = { λ _. 0 };
-
-    fn is_over(&self) -> bool {
-        true
-    }
 
     fn next_open<L: Ledger>(&mut self, _routes: &mut Routes, _books: &mut L) -> Option<Served> {
         None
@@ -70,9 +61,6 @@ pub fn answer_more<A: Arrivals, L: Ledger>(
     // The room is taken first: whoever is answered is told of.
     let mut later = Vec::with_capacity(routes.alloc(), MOST_LATER)?;
     for _ in 0..MOST_LATER {
-        if arrivals.is_over() {
-            return Ok(later);
-        }
         match arrivals.next_open(routes, books) {
             Some(what) => later.push(what)?,
             None => return Ok(later),

@@ -129,14 +129,10 @@ struct Soon<'c, 'a> {
 impl Arrivals for Soon<'_, '_> {
     ghost left = { λ soon. length soon.left.now };
 
-    fn is_over(&self) -> bool {
-        self.left.is_empty()
-    }
-
     fn next_open<L: Ledger>(&mut self, routes: &mut Routes, books: &mut L) -> Option<Served> {
         let left = self.left;
         let [client, later @ ..] = left else {
-            unreachable!()
+            return None;
         };
         let peer = ScriptedPeer {
             client,

@@ -1,4 +1,4 @@
-use Rattle.std.proofs.Common.{◌∙◌, ◌+◌, ap, arith, length, reverse, subst, sym}
+use Rattle.std.proofs.Common.{◌∙◌, ap, arith, reverse, subst}
 use Rattle.streams.specs.Failures.{HasFailed}
 use Rattle.chargectl.specs.ClientRequests.{EndsBy}
 use Rattle.chargectl.proofs.ClientLemmas.{answered_from, begun_by, count_open, failed_open, led_open}

@@ -1,4 +1,4 @@
-use Rattle.std.proofs.Common.{◌+◌, arith}
+use Rattle.std.proofs.Common.{arith}
 use Rattle.chargectl.proofs.ClientLemmas.{none_count, settled_alone, settled_by}
 use Rattle.chargectl.proofs.client_requests.answer_request.Goals as goal
 

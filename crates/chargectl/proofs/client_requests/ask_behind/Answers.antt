@@ -1,7 +1,6 @@
-use Rattle.std.proofs.Common.{◌≡◌, ◌+◌, List, ap, arith, length, refl, reverse, subst, sym}
+use Rattle.std.proofs.Common.{◌≡◌, List, ap, arith, length, refl, reverse, subst, sym}
 use Rattle.std.proofs.lemmas.List.{length-reverse}
 use Rattle.book_http.specs.declared.served.Served.{Served}
-use Rattle.request_bursts.proofs.BurstLemmas.{more_none}
 use Rattle.chargectl.specs.ClientRequests.{AsksBehind}
 use Rattle.chargectl.proofs.ClientLemmas.{nobody_asked}
 use Rattle.chargectl.proofs.client_requests.ask_behind.Goals as goal

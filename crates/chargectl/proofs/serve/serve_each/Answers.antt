@@ -1,4 +1,4 @@
-use Rattle.std.proofs.Common.{◌+◌, arith, length, refl, subst, sym}
+use Rattle.std.proofs.Common.{arith, refl, subst, sym}
 use Rattle.without_books.specs.ServedLines.{seen_of}
 use Rattle.chargectl.specs.ClientRequests.{told_of}
 use Rattle.chargectl.specs.Serving.{CameInTurn}

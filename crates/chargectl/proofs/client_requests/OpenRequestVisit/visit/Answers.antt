@@ -1,8 +1,8 @@
-use Rattle.std.proofs.Common.{◌∙◌, ap, reverse, subst, sym}
+use Rattle.std.proofs.Common.{◌∙◌, ap, reverse, subst}
 use Rattle.streams.specs.Failures.{HasFailed}
 use Rattle.book_core.specs.Transition.{IsTransition}
 use Rattle.book_http.specs.Requested.{WholeRequest}
-use Rattle.chargectl.specs.ClientRequests.{AreLed, AsksBehind, AsksOpen, ComesOpen, is_report, may_lead}
+use Rattle.chargectl.specs.ClientRequests.{AreLed, AsksBehind, AsksOpen, ComesOpen, may_lead}
 use Rattle.chargectl.proofs.ClientLemmas.{all_asked, led_behind}
 use Rattle.chargectl.proofs.client_requests.OpenRequestVisit.visit.Goals as goal
 
