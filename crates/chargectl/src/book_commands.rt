@@ -19,7 +19,7 @@ use crate::dated_rulings::rule_on_day;
 use book_core::{Ledger, LedgerFault, Sink, Source};
 use command_line::{BookRequest, DumpFile, Ruling};
 use named_books::{Opened, Repository, RepositoryFault, Visit};
-use office::{Answer, Asked, ask, write_answer};
+use office::{Answer, Asked, Report, ask, write_answer};
 use program_output::is_receipt_torn;
 use std::alloc::Global;
 use std::io;
@@ -53,9 +53,14 @@ impl<R: Read + Drop> Visit for OfficeRequest<R> {
         once_answered naming request.asked (left_of R.remaining request.input)
         (response_by told) };
 
-    /// A report is. Imports, rulings and other prices go over many pages.
+    /// A report is, but for coverage, which looks each record up wherever it lies. Imports, rulings
+    /// and other prices go over many pages.
     fn is_brief(&self) -> bool {
-        matches!(self.asked, Asked::Report(_))
+        match &self.asked {
+            Asked::Report(Report::Coverage { .. }) => false,
+            Asked::Report(_) => true,
+            _ => false,
+        }
     }
 
     fn visit<L: Ledger>(&mut self, books: &mut L) -> Result<Answer, LedgerFault> {

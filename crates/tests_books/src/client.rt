@@ -1,6 +1,6 @@
 //! Clients of a script, and what goes over their connections.
 
-ghost use Rattle.std.specs.Prelude.{◌≡◌, ◌<◌, ◌+◌, length};
+ghost use Rattle.std.specs.Prelude.{◌≡◌, ◌<◌, ◌≤◌, ◌+◌, length};
 
 use book_core::Ledger;
 use book_http::{Routes, Served};
@@ -170,6 +170,15 @@ impl<'c, 'a> Queue<'c, 'a> {
         self.left = later;
         client
     }
+
+    /// Passes over so many, who were answered behind another.
+    fn pass(&mut self, count: usize)
+        requires { count ≤ length self.old.left.now }
+        ensures { length self.new.left.now + count ≡ length self.old.left.now }
+    {
+        let left = self.left;
+        self.left = &left[count..];
+    }
 }
 
 impl Connections for Queue<'_, '_> {
@@ -196,8 +205,8 @@ impl Connections for Queue<'_, '_> {
             is_drained: false,
         };
         let soon = Soon { left: self.left };
-        let (attended, _, soon) = answer_peer(&mut self.routes, peer, soon, repository, book);
-        self.left = soon.left;
+        let (attended, _, _) = answer_peer(&mut self.routes, peer, soon, repository, book);
+        self.pass(attended.later.len());
         Ok(attended)
     }
 }
