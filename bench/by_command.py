@@ -29,7 +29,7 @@ def named(ran):
         return "status 0, and words on standard error" if formats.said_first(ran.err) else None
     if ran.status == 2:
         return None if ran.err and not ran.out else "status 2, and other words than of usage"
-    return None if formats.status_of(ran.err) == ran.status else "status %d" % ran.status
+    return None if ran.status in formats.statuses_of(ran.err) else "status %d" % ran.status
 
 
 class Commands:
@@ -100,7 +100,8 @@ class Commands:
     def end_of(self, dump, layout, stop, out):
         noticed = formats.LAYOUT if formats.is_misread(dump, layout) else b""
         if stop == "END":
-            return Ran(0, out, noticed)
+            torn = formats.TORN if formats.is_torn(dump, layout) else b""
+            return Ran(0, out, noticed or torn)
         return Ran(3, out, b"chargectl: %s\n" % stop.lower().encode() + noticed)
 
     def dump(self, rng):
@@ -181,6 +182,30 @@ class Commands:
             self.fault("what-if: %r" % (ran,), file)
         if ran.status == 0 and (period == "3" or formats.is_no_tariff(file)):
             self.fault("what-if of no period, or by no tariff: %r" % (ran,), file)
+
+    def choose(self, rng):
+        """Choices by a list, or a dry run of them. Of names that no record has the first is refused."""
+        data, path = inputs.names(rng), self.folder / "names"
+        path.write_bytes(data)
+        before, tried = self.book.read_bytes(), rng.choice(((), ("--dry-run",)))
+        ran = self.run(data, "choose", self.book, "--from", path, *tried)
+        self.count("choose", ran)
+        names, wrong = formats.listed(data)
+        told = ran.out.splitlines(True)
+        if wrong:
+            is_right = ran == Ran(3, b"", b"chargectl: word line %d\n" % wrong)
+        elif not names:
+            is_right = ran == Ran(0, b"", b"")
+        elif names[0][1].lower() != formats.HELD_RECORD:
+            is_right = ran == Ran(3, b"", b"chargectl: ledger 12 line %d\n" % names[0][0])
+        else:
+            is_right = all(line in (b"DONE\n", b"ALREADY\n") for line in told) and (
+                ran.status == 0 and len(told) == len(names)
+                or ran.status == 3 and len(told) < len(names)
+                and ran.err.endswith(b" line %d\n" % names[len(told)][0]))
+        may_change = told and not tried
+        if not is_right or not may_change and self.book.read_bytes() != before:
+            self.fault("choose: %r" % (ran,), data)
 
     def words(self, rng):
         words = inputs.words(rng)
@@ -293,7 +318,7 @@ class Commands:
     def one(self, seed, index):
         self.index, rng = index, inputs.seeded(seed, index)
         ways = ((0.26, self.check), (0.42, self.trial), (0.58, self.import_dump),
-                (0.70, self.tariff), (0.88, self.damaged_books), (1, self.words))
+                (0.70, self.tariff), (0.76, self.choose), (0.90, self.damaged_books), (1, self.words))
         at = rng.random()
         next(way for most, way in ways if at < most)(rng)
 

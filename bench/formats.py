@@ -147,6 +147,13 @@ def check_list(dump, layout):
     return "".join(lines + ["RECORDS %d STOP %s\n" % (len(records), stop)]).encode(), stop
 
 
+def is_torn(dump, layout):
+    """A dump has no record, or fewer trailers than headers."""
+    *records, stop = framed(dump, layout)
+    classes = [class_of(record) for record in records]
+    return not records or classes.count("TRAILER") < classes.count("HEADER")
+
+
 COUNTED = "KEPT KNOWN UNPRICED OTHER HEADERS TRAILERS LOST CONTINUED DAMAGED".split()
 PLURALS = {"HEADER": "HEADERS", "TRAILER": "TRAILERS"}
 
@@ -265,7 +272,8 @@ def asked(request, last_period):
     if len(lengths) > 1 or lengths and not LENGTH.fullmatch(lengths[0]):
         return Asked(400)
     hosts = [value.strip(b" \t") for name, value in fields if name.lower() == b"host"]
-    if not all(map(HOST.fullmatch, hosts)):
+    sites = [value.strip(b" \t").lower() for name, value in fields if name.lower() == b"sec-fetch-site"]
+    if not all(map(HOST.fullmatch, hosts)) or b"cross-site" in sites:
         return Asked(403)
     path = PATH.fullmatch(head[2].split(b"?")[0])
     if not path or path["day"] and not is_day_text(path["day"]):
@@ -317,21 +325,23 @@ def answer(status, body=None, kind="plain", allow=None, charset="us-ascii"):
     """An answer as it is sent: without a body it gives its status alone."""
     phrase = "%d %s" % (status, PHRASES[status])
     body = (phrase + "\n").encode() if body is None else body
-    line = "Allow: %s\r\n" % allow.decode() if allow else PAGE_LINES if kind == "html" else ""
+    line = ("Allow: %s\r\n" % allow.decode() if allow else PAGE_LINES if kind == "html"
+            else NO_SNIFFING if charset == "utf-8" else "")
     return ("HTTP/1.1 %s\r\nContent-Type: text/%s; charset=%s\r\n%sContent-Length: %d\r\n"
             "Connection: close\r\n\r\n" % (phrase, kind, charset, line, len(body))).encode() + body
 
 
-# What stands in the head of a page.
-PAGE_LINES = ("Content-Security-Policy: default-src 'none'; style-src 'unsafe-inline'\r\n"
-              "X-Content-Type-Options: nosniff\r\n")
+# What stands in the head of a tariff file, and of a page.
+NO_SNIFFING = "X-Content-Type-Options: nosniff\r\n"
+PAGE_LINES = ("Content-Security-Policy: default-src 'none'; style-src 'unsafe-inline'; frame-ancestors 'none'\r\n"
+              + NO_SNIFFING)
 
 # The head of an answer of any status.
 STATUSES = "|".join("%d %s" % named for named in PHRASES.items())
 ANSWER = re.compile((
     "HTTP/1\\.1 (?:%s)\r\nContent-Type: text/(?:(?:plain|csv|html); charset=us-ascii|plain; charset=utf-8)\r\n"
-    "(?:Allow: (?:GET|POST)\r\n|Retry-After: 1\r\n|%s)?Content-Length: [0-9]+\r\nConnection: close\r\n\r\n"
-    % (STATUSES, re.escape(PAGE_LINES))).encode())
+    "(?:Allow: (?:GET|POST)\r\n|Retry-After: 1\r\n|%s|%s)?Content-Length: [0-9]+\r\nConnection: close\r\n\r\n"
+    % (STATUSES, re.escape(PAGE_LINES), NO_SNIFFING)).encode())
 
 # The forms of texts.
 SHOWN = r"(?:[ -\[\]-~]|\\[0-9A-F]{2})*"
@@ -452,7 +462,7 @@ SOUND = "SOUND\n" + "".join(
 UNSOUND = r"UNSOUND [ -~]+: [ -~]+\n"
 RECEIPT = " ".join(word + " [0-9]+" for word in COUNTED)
 RECEIPT += r" STOP (END|FRAME [1-8]|READ|READLIMIT|LEDGER [0-9]+)\n"
-CLASSES = "HEADER|TRAILER|LOST|OTHER|CONTINUED|USAGE|DAMAGED [1-9]"
+CLASSES = "HEADER|TRAILER|LOST|OTHER|CONTINUED|USAGE(?: [0-9a-f]{64})?|DAMAGED [1-9]"
 CHECKED = (r"(?:[0-9]+ TYPE (?:[0-9]+|-) (?:%s)\n)*" % CLASSES
            + r"RECORDS [0-9]+ STOP (?:END|FRAME [1-8])\n")
 
@@ -547,13 +557,18 @@ ERROR = re.compile(
 
 # What a command notices, after what it says; and the last line of one that leaves pages in the log of
 # books, or keeps a log that holds none.
-LAYOUT, FAR = b"chargectl: layout\n", b"chargectl: far\n"
+LAYOUT, FAR, TORN = b"chargectl: layout\n", b"chargectl: far\n", b"chargectl: torn\n"
 LOG = b"chargectl: log\n"
+
+
+def own_lines(lines):
+    """What is said on standard error without the lines for people, which are set in."""
+    return b"".join(line for line in lines.splitlines(True) if not line.startswith(b"  "))
 
 
 def said_first(lines):
     """What is said on standard error before what is noticed."""
-    return lines.removesuffix(LOG).removesuffix(FAR).removesuffix(LAYOUT)
+    return own_lines(lines).removesuffix(LOG).removesuffix(FAR).removesuffix(LAYOUT).removesuffix(TORN)
 
 
 # What a close leaves of a log, and the header of one and that of a page.
@@ -578,18 +593,48 @@ def is_signed(log):
     return struct.unpack_from(">2I", log, 24) == (first, second)
 
 
+def is_renewed(log):
+    """The header of a log is that of one of books which was begun anew, once its pages were moved."""
+    begins = bytes.fromhex("377F0682002DE21800001000")
+    return log[:12] == begins and is_signed(log) and log[12:16] not in (bytes(4), b"\xff" * 4)
+
+
 def is_no_log(file):
     """A file is longer than what a close leaves of a log, and is passed over as one: no page has
-    room in it, or its header is not signed."""
-    if len(file) <= CLOSED_LOG:
+    room in it, or its header is not signed. One that a command emptied is the program's own."""
+    if len(file) <= CLOSED_LOG or is_renewed(file):
         return False
     return len(file) < LOG_HEADER + PAGE_HEADER or not is_signed(file)
 
 
-def status_of(lines):
-    """The status that goes with what is said on standard error; None where that is no such line. A
-    change that went well has status 4 where it left a log."""
+def statuses_of(lines):
+    """The statuses that go with what is said on standard error, besides 0. A change that went well has
+    status 4 where it left a log. A day that had to be near, and a dump that had to be whole, are
+    refused with what is noticed of others; but what was read of such a dump is status 4."""
+    noticed = {LOG: (4,), FAR: (3,), TORN: (3, 4)}
     if not said_first(lines):
-        return 4 if lines.endswith(LOG) else None
+        return noticed.get(own_lines(lines), (4,) if own_lines(lines).endswith(LOG) else ())
     said = ERROR.fullmatch(said_first(lines))
-    return said and (1 if said[1] else 4 if said[2] else 5 if said[3] else 3)
+    return said and (1 if said[1] else 4 if said[2] else 5 if said[3] else 3,) or ()
+
+
+# The line of a list: how long it may be, what may stand before a name and behind it, and a name.
+MOST_LINE, MARK, BLANKS, NAMED = 128, b"\xef\xbb\xbf", b" \t\x0c\r", re.compile(rb"[0-9A-Fa-f]{64}")
+
+
+def said_by(line):
+    """What a line of a list says, without what a spreadsheet writes round it."""
+    if len(line) > MOST_LINE:
+        return line
+    said = line.removeprefix(MARK).rstrip(BLANKS)
+    return said[1:-1] if len(said) > 1 and said[:1] == said[-1:] == b'"' else said
+
+
+def listed(data):
+    """The names of a list, each with the number of its line; or the number of the first line that
+    says anything else."""
+    *ended, last = data.split(b"\n")
+    said = [said_by(line.removesuffix(b"\r")) for line in ended] + [said_by(last)]
+    names = [(number, name) for number, name in enumerate(said, 1) if name]
+    wrong = next((number for number, name in names if not NAMED.fullmatch(name)), None)
+    return (names, None) if wrong is None else (None, wrong)

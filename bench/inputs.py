@@ -225,9 +225,11 @@ VERSIONS += [b" HTTP/2.0", b" HTTP/1.2", b" http/1.1", b" HTTP/1.1 ", b"  HTTP/1
 ENDS = [b"\r\n"] * 20 + [b"\n"] * 3 + [b"\r", b"\r\r\n", b"\n\r", b"\0\r\n"]
 HOSTS = [b"Host: localhost"] * 6 + [b"Host: 127.0.0.1:8030", b"HOST: LocalHost:80", b"host:[::1]:65536", b"Host: localhost:"]
 FOREIGN_HOSTS = [b"Host: books", b"Host:", b"host: books.example.org:80", b"Host: localhost.example.org", b"Host: [::1",
-                 b"Host: 127.0.0.1:80x", b"Host: 127.0.0.2", b"Host: local\xffhost", b"HOST: localhost, localhost"]
+                 b"Host: 127.0.0.1:80x", b"Host: 127.0.0.2", b"Host: local\xffhost", b"HOST: localhost, localhost",
+                 b"Sec-Fetch-Site: cross-site", b"SEC-FETCH-SITE:Cross-Site"]
 OTHER_FIELDS = HOSTS[5:] + [b"Expect: 100-continue", b"Connection: keep-alive", b"Accept: */*",
-                b"X:", b"X: \t ", b"X-A: a\tb", b"X: \xff\xfe", b"Content_Length: 5", b"Origins: a"]
+                b"X:", b"X: \t ", b"X-A: a\tb", b"X: \xff\xfe", b"Content_Length: 5", b"Origins: a",
+                b"Sec-Fetch-Site: same-origin", b"Sec-Fetch-Site: none", b"Sec-Fetch-Site: cross-sites"]
 WRONG_FIELDS = [b" folded", b"\tfolded", b"no colon", b": no name", b"Host : books", b"A B: c",
                 b"X: a\0b", b"X: a\x7fb", b"X\xc3: a", b"X: a\rb", b"Content-Length : 5"]
 POST_FIELDS = [b"Origin: http://example.org", b"ORIGIN:", b"origin: null",
@@ -426,7 +428,7 @@ COMMANDS = ("init tariff import close choose adopt statement adjustments details
             "-V").split()
 WORDS = ("books nothing tariff dump . .. books/ books-wal 0 1 2 3 65535 65536 -1 1e3 0x1 ١ "
          "2024-01-31 2024-02-30 2024-02-29 2024-1-1 --layout --layout=bdw --layout=xyz rdw bdw "
-         "--quiet --quiet=1 --dry-run --csv --cpu --cpu=100000000 --cpu=100000001 --excp --record "
+         "--quiet --quiet=1 --whole --names --near --explain --dry-run --csv --cpu --cpu=100000000 --cpu=100000001 --excp --record "
          "--record=-1 -- - -q --help -h --port --requests --from --tariff "
          "--tariff=tariff --tariff=dump "
          "--centre --centre=LEDGER --wait --wait=0 --wait=3601 frame ledger tariff damaged").split()
@@ -450,7 +452,28 @@ PLACED = {
     "N": (HELD_RECORD.decode(), "0" * 64, "ab" * 32, "AB" * 32, "zz" * 32, "0" * 63, ""),
     "O": ("--csv", "--tariff=tariff", "--tariff=dump", "--tariff=nothing", "--centre=LEDGER"),
     "K": ("frame", "ledger", "tariff", "damaged", "io", "busy", "exists", "word", "unsound", "log",
-          "layout", "far", "other")}
+          "layout", "far", "torn", "other")}
+
+
+# Names of a list, what else may stand in its lines, and what may stand round either.
+LISTED = HELD_RECORD, HELD_RECORD, HELD_RECORD.upper(), b"0" * 64, b"AB" * 32, b""
+UNLISTED = b"zz" * 32, b"0" * 63, b"name", b"\x1b[2J", b"\xff\xfe0"
+MARK = b"\xef\xbb\xbf"
+ROUND = (b"%s",) * 4 + (MARK + b"%s", b'"%s"', b"%s ", b"%s\t\x0c \r", b"%s" + b" " * 64, MARK + b'"%s"  ')
+WRONGLY_ROUND = MARK + MARK + b"%s", b'"%s', b'%s"', b" %s", b'"%s "', b"%s" + b" " * 65, b"%s\x0b", b"%s,LEDGER", b"%s\0"
+
+
+def listed_line(rng):
+    if rng.random() < 0.9:
+        return rng.choice(ROUND) % rng.choice(LISTED)
+    return rng.choice(ROUND + WRONGLY_ROUND) % rng.choice(LISTED + UNLISTED)
+
+
+def names(rng):
+    """A list of names, as a spreadsheet, an editor or a hand may write it."""
+    lines = [listed_line(rng) for _ in range(rng.randrange(6))]
+    text = rng.choice((b"\n", b"\r\n")).join(lines) + rng.choice((b"", b"\n", b"\r\n", b"\r"))
+    return bytes_turned(rng, text) if rng.random() < 0.05 else text
 
 
 def words(rng):

@@ -1,6 +1,7 @@
 """Details of more than 16 MiB over HTTP, which are sent with the books open, for `serve`: a client that reads as fast as it is
 written to has the whole; one that reads slowly, or not at all, is cut off, and keeps no command from the books for long."""
 import shutil
+import signal
 import socket
 import subprocess
 import threading
@@ -20,8 +21,8 @@ HURRIED, MORE = 2, 3
 # How many bytes a slow client reads at once, and how long it rests then: it would have all after some minutes.
 PIECE, REST = 65_536, 0.25
 
-# How long one rests that reads the whole all the same: less than it may.
-SHORT_REST = 1
+# How long one rests that reads the whole all the same: less than it may. And for how long a server is stopped as it writes.
+SHORT_REST, STOPPED = 1, 0.3
 
 
 def said(*words):
@@ -92,6 +93,19 @@ def after_a_rest(server, text):
     return is_held
 
 
+def stopped_as_it_writes(server, text):
+    """The server is stopped as it waits for a client to read on, and goes on: the client gets the whole."""
+    client = Client(server, LIST)
+    for sent in (signal.SIGSTOP, signal.SIGCONT):
+        time.sleep(STOPPED)
+        server.process.send_signal(sent)
+    is_held = is_whole(client.read_all(), text)
+    server.expect("SERVED 200")
+    print("serve: %s of a server that was stopped as it wrote, and goes on: %s (%s)"
+          % (LIST, "whole" if is_held else "NOT WHOLE", held(is_held)), flush=True)
+    return is_held
+
+
 def alone(book, *words):
     """How long a command takes on a copy that nobody else has."""
     copy = book.with_name("alone")
@@ -145,9 +159,9 @@ def are_sent(folder):
     text, table = said("details", book, 1), said("details", book, 1, "--csv")
     if not len(table) <= MOST_GATHERED < len(text):
         raise SystemExit("serve: details of %d and %d bytes" % (len(text), len(table)))
-    server = Server(serving(book, 7))
+    server = Server(serving(book, 8))
     are_held = [at_full_speed(server, LIST, text), at_full_speed(server, TABLE, table), after_a_rest(server, text),
-                gathered(server, book, table),
+                stopped_as_it_writes(server, text), gathered(server, book, table),
                 beside(server, book, "a client that reads slowly", True, "close", 1, "2024-01-31"),
                 beside(server, book, "a client that reads nothing", False, "tariff", later)]
     are_held.append(at_full_speed(server, LIST, said("details", book, 1)))

@@ -42,8 +42,9 @@ MOST_COST = 4000000000000000000
 # The most bytes that a tariff file has.
 MOST_TARIFF = 1048576
 ACTIONS = {1: "PLUS", -1: "MINUS"}
-# A day is far after what books hold, where it is later than the newest day by more days than a leap year has.
-FAR_DAYS = 366
+# A day is far after what books hold, where it is later than the newest day by more days than a leap year has; the last day of a
+# period, where it is later than the newest record by more than a week.
+FAR_DAYS, NEAR_DAYS = 366, 7
 # How many bytes say whose work a record measures, by the first rule of identity and by the second.
 IDENTITY_LENGTHS = {1: 24, 2: 32}
 # The bytes of code page 037 that are shown as characters: printable ASCII without the backslash.
@@ -479,11 +480,11 @@ class Books:
         self.choices.append((name, self.open))
         return ["DONE"]
 
-    def choose_each(self, names):
+    def choose_each(self, listed):
         """One choice after the other, up to the first refusal: the answers to those before it, and the refusal with the
-        number of its line."""
+        number of its line. The names come with the numbers of their lines."""
         answers = []
-        for number, name in enumerate(names, 1):
+        for number, name in listed:
             [answer] = self.choose(name)
             if answer.startswith("chargectl"):
                 return answers + ["%s line %d" % (answer, number)]
@@ -592,15 +593,17 @@ class Books:
         return [self.title("WHAT-IF", period, centre), "TARIFF " + hashlib.sha256(file).hexdigest(), *row_lines(rows),
                 total_line("CHARGED", self.rows(period, centre))]
 
-    def is_far(self, day):
-        """A day is far after the newest one of the records that the open period counts; where it counts none, after the
-        last close. From books without either no day is far."""
-        newest = max([self.held[name].day for name in self.counted(self.open)] + self.closes[-1:], default=day)
-        return (day - newest).days > FAR_DAYS
+    def is_far(self, ruling):
+        """The day of a ruling is far after the newest one of the records that the open period counts; where it counts none, after
+        the last close. From books without either no day is far. (That of a close is also far if it is later than today, which no
+        sample has.)"""
+        days = [self.held[name].day for name in self.counted(self.open)]
+        most = NEAR_DAYS if days and ruling.words.startswith("CLOSE ") else FAR_DAYS
+        return (ruling.day - max(days or self.closes[-1:], default=ruling.day)).days > most
 
     def is_noticed(self, ruling, answer):
         """A ruling that would be in force by this answer is noticed, where its day is far."""
-        return answer == ["DONE"] and ruling.day is not None and self.is_far(ruling.day)
+        return answer == ["DONE"] and ruling.day is not None and self.is_far(ruling)
 
     def figures(self, period):
         """What a dry run shows of a period: what its statement comes to, what its adjustments come to, and how many
@@ -904,6 +907,13 @@ class Books:
                 yield comma_line(number, text(identity[:4]), text(identity[4:12]), clock(identity[12:20]),
                                  clock(one.identity[24:]), subtype, step, one.name, one.day, decimals(one.cpu, 2),
                                  one.blocks, decimals(one.amount, 4), one.code, one.job_id, one.program)
+
+
+def is_torn(line):
+    """A dump of which this is the receipt was read to its end, and has no record, or fewer trailers than headers."""
+    counts = {word: int(count) for word, count in re.findall(r"([A-Z]+) (\d+)", line)}
+    return line.startswith("KEPT ") and line.endswith(" STOP END") and (
+        not any(counts.values()) or counts["TRAILERS"] < counts["HEADERS"])
 
 
 def tried(file, dump):

@@ -73,6 +73,16 @@ def days(day):
     return (day - office.EPOCH).days
 
 
+def said_by(line):
+    """What a line of a list says, of which nothing is passed over if it is too long. A carriage return before its end is a part
+    of that."""
+    line = line.removesuffix(b"\r")
+    if len(line) > MOST_LINE:
+        return line.decode("latin-1")
+    said = line.removeprefix(MARK).rstrip(BLANKS).decode("latin-1")
+    return said[1:-1] if len(said) > 1 and said[0] == said[-1] == QUOTE else said
+
+
 def day_of(word):
     """The day that a word names, if it does: exactly YYYY-MM-DD, of a year from 1900 to 2099."""
     try:
@@ -186,6 +196,9 @@ PATHS = {"statement": ("statement", "plain"), "statement-csv": ("table", "csv"),
 # What spells the name of a record.
 DIGITS = re.compile("[0-9A-Fa-f]{64}")
 
+# What a spreadsheet may write before the first line of a text, behind each line, and round a name; and how long a line may be.
+MARK, BLANKS, QUOTE, MOST_LINE = b"\xef\xbb\xbf", b" \t\x0c\r", '"', 128
+
 OF_PERIODS = "statement table adjustments adjustment_table".split()
 
 # A period in a path.
@@ -200,7 +213,8 @@ PAGE_PATH = re.compile("/(?:period/([1-9][0-9]{0,3}))?")
 PHRASES = {200: "OK", 400: "Bad Request", 404: "Not Found", 503: "Service Unavailable"}
 
 # Of a page, which works by its style alone.
-PAGE_LINES = ["Content-Security-Policy: default-src 'none'; style-src 'unsafe-inline'", "X-Content-Type-Options: nosniff"]
+NO_SNIFFING = ["X-Content-Type-Options: nosniff"]
+PAGE_LINES = ["Content-Security-Policy: default-src 'none'; style-src 'unsafe-inline'; frame-ancestors 'none'", *NO_SNIFFING]
 
 
 def bytes_of(text):
@@ -221,7 +235,7 @@ def served(status, text, form="plain", charset="us-ascii"):
     first = "%d %s" % (status, PHRASES[status])
     body = text if isinstance(text, bytes) else bytes_of(text or [first])
     head = ["HTTP/1.1 " + first, "Content-Type: text/%s; charset=%s" % (form, charset), *PAGE_LINES * (form == "html"),
-            "Content-Length: %d" % len(body), "Connection: close", ""]
+            *NO_SNIFFING * (charset == "utf-8"), "Content-Length: %d" % len(body), "Connection: close", ""]
     return [line + "\\r" for line in head] + shown_bytes(body) + ["SERVED %d" % status]
 
 
@@ -567,6 +581,12 @@ class Rows:
         notices = ["! " + line for line in self.notices]
         return output_shown(verb, words[:at + 1], output) + notices + refusal
 
+    def dumped(self, lines):
+        """What a command writes of a dump: and whether the dump is torn."""
+        if lines and office.is_torn(lines[0]):
+            self.notices.append("chargectl: torn")
+        return lines
+
     def ruled(self, ruling, is_tried):
         """What a command writes of a ruling, or of its dry run: and whether its day is noticed."""
         books, after = self.books, copy.deepcopy(self.books)
@@ -577,7 +597,7 @@ class Rows:
     def output(self, words):
         """What a command writes: bytes, or lines, of which the last may be that of a refusal."""
         if words[0] == "trial":
-            return office.tried(self.files[dict(options(words[1:]))["--tariff"]], self.input)
+            return self.dumped(office.tried(self.files[dict(options(words[1:]))["--tariff"]], self.input))
         # How long a command waits for books changes nothing that it says of them.
         words = [word for word, before in zip(words, [""] + words) if "--wait" not in (word, before)]
         is_tried = "--dry-run" in words
@@ -623,20 +643,20 @@ class Rows:
             """One choice, or those of a file. What is no name in the file is a wrong word, before the first of them."""
             if "--from" not in given:
                 return self.ruled(office.ruling_of_choice(self.name_of(name)), is_tried)
-            # A carriage return is a part of a line's end, and ends no line alone.
-            *names, last = self.files[given["--from"]].decode("latin-1").split("\n")
-            names = [name.removesuffix("\r") for name in names] + [last] * (last != "")
-            for number, name in enumerate(names, 1):
+            said = [(number, said_by(line)) for number, line in enumerate(self.files[given["--from"]].split(b"\n"), 1)]
+            listed = [(number, name) for number, name in said if name != ""]
+            for number, name in listed:
                 if not DIGITS.fullmatch(name):
                     return ["chargectl: word line %d" % number]
-            return books.choose_each(name.lower() for name in names)
+            tried = copy.deepcopy(books) if is_tried else books
+            return tried.choose_each((number, name.lower()) for number, name in listed)
 
         return {"init": lambda: [],
                 "tariff": lambda file: self.ruled(office.ruling_of_tariff(self.file(file)), is_tried),
                 "close": close,
                 "tariff-text": tariff_text,
                 "record": record,
-                "import": lambda file: books.take(self.file(file)),
+                "import": lambda file: self.dumped(books.take(self.file(file))),
                 "choose": choose,
                 "adopt": lambda: self.ruled(office.ruling_of_adoption(), is_tried),
                 "rulings": lambda: list(books.rulings()),

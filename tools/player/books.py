@@ -23,8 +23,9 @@ from commands import lines_of, ran, status_by
 from scripts import Unread
 from sessions import Session
 
-# A day is far after what books hold, where it is later by more days than this (FORMATS).
-FAR_DAYS = 366
+# A day is far after what books hold, where it is later by more days than this; a close is so after their records by fewer
+# (FORMATS).
+FAR_DAYS, NEAR_DAYS = 366, 7
 
 # The command of a report of a period.
 REPORTS = {"statement": ["statement"], "table": ["statement", "--csv"], "adjustments": ["adjustments"],
@@ -91,31 +92,46 @@ class Books(Session):
 
     # ---- What is due on standard error
 
-    def is_far(self, periods, day):
-        """A day is far after the newest one in the statements of some periods or, where they are empty, after the last close."""
+    def is_far(self, periods, day, most):
+        """A day is far after the newest one in the statements of some periods, by more days than these, or, where they are empty,
+        after the last close."""
         if not (self.has_records or self.closes):
             return False
         lines = [line for period in periods for line in self.told(["statement", "@books", str(period)])]
         days = [line[:10] for line in lines if re.match(r"\d{4}-\d\d-\d\d ", line)]
         newest = max(days or self.closes[-1:], default=day)
-        return (date(day) - date(newest)).days > FAR_DAYS
+        return (date(day) - date(newest)).days > (most if days else FAR_DAYS)
 
     def due_to_tariff(self, text, answer):
         day = re.search(r'^ *effective *= *"([0-9-]+)"', text, re.M)
-        is_far = answer == ["DONE"] and self.is_far([len(self.closes) + 1], day[1])
+        is_far = answer == ["DONE"] and self.is_far([len(self.closes) + 1], day[1], FAR_DAYS)
         return ["chargectl: far"] * is_far
 
     def due_to_close(self, day, answer):
         """What a period has of later days is in the next one, once it is closed."""
-        is_far = answer == ["DONE"] and self.is_far([len(self.closes) + 1, len(self.closes) + 2], day)
+        periods = [len(self.closes) + 1, len(self.closes) + 2]
+        today = datetime.datetime.now(datetime.timezone.utc).date()
+        is_far = answer == ["DONE"] and (date(day) > today or self.is_far(periods, day, NEAR_DAYS))
         self.closes += [day] * (answer == ["DONE"])
         return ["chargectl: far"] * is_far
+
+    def due_to_dump(self, answer):
+        """A dump that was read to its end is torn that has no record, or fewer trailers than headers."""
+        receipt = dict(re.findall(r"([A-Z]+) (\d+)", answer[0])) if answer and answer[0].startswith("KEPT") else None
+        if receipt and answer[0].endswith(" STOP END"):
+            is_torn = not any(map(int, receipt.values())) or int(receipt["TRAILERS"]) < int(receipt["HEADERS"])
+        elif not receipt and answer and re.fullmatch(r"RECORDS \d+ STOP END", answer[-1]):
+            headers, trailers = (sum(line.endswith(mark) for line in answer) for mark in (" HEADER", " TRAILER"))
+            is_torn = len(answer) == 1 or trailers < headers
+        else:
+            is_torn = False
+        return ["chargectl: torn"] * is_torn
 
     def due_to_import(self, answer):
         """A fault that stopped an import has its line."""
         self.has_records = True
         stop = re.search(r" STOP (FRAME|LEDGER) (\d+)$", answer[0] if answer else "")
-        return ["chargectl: %s %s" % (stop[1].lower(), stop[2])] if stop else []
+        return ["chargectl: %s %s" % (stop[1].lower(), stop[2])] if stop else self.due_to_dump(answer)
 
     def said(self, names, verb, words, body):
         """The answer to a line that is a command for short."""
@@ -126,7 +142,8 @@ class Books(Session):
             return self.told(given, due=lambda answer: self.due_to_close(words[1], answer))
         if verb == "import":
             return self.told(given, due=self.due_to_import)
-        return self.told(given, names.dump(words[3:]) if verb == "trial" else b"")
+        due = self.due_to_dump if verb in DUMPS else lambda answer: []
+        return self.told(given, names.dump(words[3:]) if verb == "trial" else b"", due)
 
     # ---- Lines
 

@@ -12,10 +12,11 @@ from scripts import Unread, number_of
 #
 #     reads     it sends no more, and reads its answer, of which the first line and the last one are shown
 #     reads-all the same, and the whole answer is shown
+#     refused   it reads its answer as well, which turns it away: it does not count among the requests of the server
 #     ends      it sends no more, and gets no answer
 #     waits     it keeps the server waiting
 #     leaves    it is gone before it is answered
-PARTINGS = "reads", "reads-all", "ends", "waits", "leaves"
+PARTINGS = "reads", "reads-all", "refused", "ends", "waits", "leaves"
 
 # What becomes of the books: another program opens them, and closes them; their file is put elsewhere, and put back.
 BETWEEN = "taken", "free", "away", "back"
@@ -49,7 +50,7 @@ def free_port():
 
 
 class Server:
-    """`serve` of the books of a session, for a number of connections. It is killed where it does not end in time."""
+    """`serve` of the books of a session, for a number of requests. It is killed where it does not end in time."""
 
     def __init__(self, session, book, connections):
         self.port, self.errors = free_port(), session.streams.scratch()
@@ -121,7 +122,7 @@ def seen(session, names, book, body):
     for step in steps:
         if not step or step[0] not in PARTINGS + BETWEEN:
             raise Unread("no client: %s" % " ".join(step))
-    clients = sum(step[0] in PARTINGS for step in steps)
+    clients = sum(step[0] in PARTINGS and step[0] != "refused" for step in steps)
     with contextlib.closing(server_of(session, book, clients)) as server:
         told = server.first
         for verb, *words in steps if told else []:

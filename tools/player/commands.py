@@ -184,7 +184,7 @@ def shown(stream, mark="", most=None):
 
 def status_by(errors):
     """The status with which a command ends that says such lines on standard error (FORMATS)."""
-    if not errors or errors[0] in ("chargectl: far", "chargectl: layout"):
+    if not errors or errors[0] in ("chargectl: far", "chargectl: layout", "chargectl: torn"):
         return 0
     if not errors[0].startswith("chargectl: "):
         return 2

@@ -23,14 +23,16 @@ use book_model::LedgerFault;
 use sqlite_trees::store::Store;
 use std::alloc::Global;
 
-/// Reads all trees. What is in `bytes` is lost.
+/// Reads all trees of a file that says it has this form. What is in `bytes` is lost.
 fn read_trees<S: Store, W: Watch>(
     alloc: Global,
     trees: &mut Trees<S>,
     walk: &mut Walk,
     bytes: &mut Vec<u8>,
+    form: u32,
     watch: &mut W,
 ) -> Result<Counts, Stop>
+    ensures form { IfOk result (λ counts. counts.form ≡ form) }
     ensures sound { Tells result trees.old trees.new AreSound }
     ensures book { Tells result trees.old trees.new (AreOfBook sha_names) }
     ensures same { OnOk result (OnlyLooks S.Store trees.old.store trees.new.store) }
@@ -43,6 +45,7 @@ fn read_trees<S: Store, W: Watch>(
     let rows = check_rows(alloc, trees, walk, &rulings, places, watch)?;
     check_details(alloc, trees, walk, bytes, &rulings, watch)?;
     Ok(Counts {
+        form,
         records: held.records,
         tariffs: rulings.tariffs.len() as u64,
         closes: rulings.closes.len() as u64,
@@ -68,10 +71,11 @@ pub fn audit_trees<S: Store, W: Watch>(
         → IsUnchanged (S.Store.view store) (S.Store.view result.1)) }
     ensures quiet { CommitsNothing S.Store store result.1 }
 {
+    let form = store.version();
     let mut trees = Trees::over(alloc, store);
     let mut walk = Walk::new(alloc);
     let mut bytes = Vec::new(alloc);
-    let audited = match read_trees(alloc, &mut trees, &mut walk, &mut bytes, watch) {
+    let audited = match read_trees(alloc, &mut trees, &mut walk, &mut bytes, form, watch) {
         Ok(counts) => Ok(Audited::Sound(counts)),
         Err(Stop::Unsound(finding)) => Ok(Audited::Unsound(finding)),
         Err(Stop::Fault(fault)) => Err(fault),

@@ -1,8 +1,10 @@
 use crate::finding::Finding;
 
-/// How many rows sound books have.
+/// How many rows sound books have, and their form.
 #[derive(Clone, Copy)]
 pub struct Counts {
+    /// The form that their file says it has.
+    pub form: u32,
     pub records: u64,
     pub tariffs: u64,
     pub closes: u64,

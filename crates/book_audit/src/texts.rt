@@ -12,7 +12,7 @@ use crate::finding::{DetailKey, Finding, Place, Wrong};
 use book_model::RowKey;
 use smf_text::{FIRST_DAY, LAST_DAY, day_text};
 use std::alloc::{AllocError, Global};
-use tree_tables::{DayKey, THIS_FORM};
+use tree_tables::DayKey;
 
 /// What is wrong, in words.
 #[tactic(auto, unfolding(crate::specs::Findings::wrong_text))]
@@ -220,7 +220,7 @@ fn push_counts(out: &mut String, counts: &Counts) -> Result<(), AllocError>
     ensures { OnOk result (string_bytes out.new ≡ string_bytes out.old ++ sound_text counts.now) }
 {
     out.push_str("SOUND\n")?;
-    push_count(out, "FORM", u64::from(THIS_FORM))?;
+    push_count(out, "FORM", u64::from(counts.form))?;
     push_count(out, "RECORDS", counts.records)?;
     push_count(out, "TARIFFS", counts.tariffs)?;
     push_count(out, "CLOSES", counts.closes)?;

@@ -7,7 +7,7 @@ ghost use Rattle.book_files.specs.Logs.{IsOfNoUse};
 
 use crate::faults::of_file;
 use crate::paths::{beside, is_there, may_be_books, open_folder, sync_folder};
-use crate::seen_logs::is_of_no_use;
+use crate::seen_logs::{is_of_no_use, was_emptied};
 use book_sessions::refused;
 use book_trees::{lock_at, needs_no_log};
 use named_books::RepositoryFault;
@@ -58,7 +58,8 @@ impl<'a> Log<'a> {
 
     /// Gives a log that was there another name, where recovery would write over it: it is somebody's,
     /// or damaged, or a stopped command's. By `is_unused` the file alone holds the same books. The
-    /// two are locked meanwhile: it is not the log of a command that runs.
+    /// two are locked meanwhile: it is not the log of a command that runs. One that a command emptied
+    /// and could not cut off has nothing to be kept: it is written over.
     pub(crate) fn keep_unused(&mut self, book: &str) -> Result<(), RepositoryFault> {
         if !self.was_there {
             return Ok(());
@@ -74,6 +75,9 @@ impl<'a> Log<'a> {
     fn keep_if_unused<D: Disk>(&mut self, log: &mut D) -> Result<(), RepositoryFault>
         requires { IsTrue (D.Disk.is_usable log.old) }
     {
+        if was_emptied(log) {
+            return Ok(());
+        }
         let is_unused = match is_of_no_use(self.rt.alloc(), log) {
             Ok(is_unused) => is_unused,
             Err(fault) => return Err(refused(fault)),
@@ -82,6 +86,17 @@ impl<'a> Log<'a> {
             return self.keep(log);
         }
         Ok(())
+    }
+
+    /// Sees that no other program has the books, and leaves nothing beside them.
+    pub(crate) fn expect_free(&self, book: &str) -> Result<(), RepositoryFault> {
+        match lock_at(self.rt, book, Unknown) {
+            Ok(files) => {
+                self.leave(Some(files));
+                Ok(())
+            }
+            Err(fault) => Err(refused(fault)),
+        }
     }
 
     /// Renames a log that is of no use to books, to a name that nothing has. No other place renames

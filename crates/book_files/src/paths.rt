@@ -40,7 +40,7 @@ pub(crate) fn beside(rt: &HostRuntime, path: &str, what: &str) -> io::Result<Str
 }
 
 /// Whether something has the name, or that of a log or a journal beside it.
-fn has_traces(rt: &HostRuntime, path: &str) -> Result<bool, RepositoryFault> {
+pub(crate) fn has_traces(rt: &HostRuntime, path: &str) -> Result<bool, RepositoryFault> {
     let log = of_file(beside(rt, path, "wal"))?;
     let journal = of_file(beside(rt, path, "journal"))?;
     Ok(is_there(rt, path)? || is_there(rt, log.as_str())? || is_there(rt, journal.as_str())?)

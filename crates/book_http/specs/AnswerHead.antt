@@ -20,13 +20,16 @@ media_type Csv = codes "text/csv; charset=us-ascii"
 media_type Page = codes "text/html; charset=us-ascii"
 media_type TariffFile = codes "text/plain; charset=utf-8"
 
--- What a browser may do with a page: it runs no script and fetches nothing, and takes its style from the
--- page itself (Content Security Policy Level 3). It takes the page for nothing but HTML (Fetch
+-- What a browser may do with a page: it runs no script and fetches nothing, takes its style from the page
+-- itself, and shows it inside no other page (Content Security Policy Level 3). It takes the page for
+-- nothing but HTML, and a tariff file, whose bytes somebody else wrote, for nothing but a text (Fetch
 -- Standard, X-Content-Type-Options).
 abbrev pub limit_lines : BodyKind → List ℕ
 limit_lines Page =
-    codes "Content-Security-Policy: " ++ codes "default-src 'none'; style-src 'unsafe-inline'\r\n"
+    codes "Content-Security-Policy: default-src 'none'; "
+    ++ codes "style-src 'unsafe-inline'; frame-ancestors 'none'\r\n"
     ++ codes "X-Content-Type-Options: nosniff\r\n"
+limit_lines TariffFile = codes "X-Content-Type-Options: nosniff\r\n"
 limit_lines kind = []
 
 -- the line that names the method of a path

@@ -95,7 +95,7 @@ asked_by place thing method origin body =
     if bytes_eq method (method_text (method_of place)) then asked_on place thing origin body
     else asks.Settled (OtherMethod (method_of place))
 
--- nothing is asked for by the name of another machine, or where a path leads nowhere
+-- nothing is asked for by the name of another machine or from another site, or where a path leads nowhere
 abbrev pub asked_here : Bool → Option (Endpoint × About) → List ℕ → Bool → Framing → Asked ℕ
 asked_here true found method origin body = asks.Settled (Refusal Forbidden)
 asked_here false None method origin body = asks.Settled (Refusal NotFound)

@@ -1,6 +1,7 @@
 -- Whom a request is for, as its head says (RFC 9110, section 7.2). A page from elsewhere can make a name
 -- of its own stand for this machine, and so read what is asked for by that name. So nothing is, but by
--- this machine's own names (the office's rule).
+-- this machine's own names (the office's rule). Nor is anything that a page of another site makes a
+-- browser ask, as the browser says (Fetch Metadata Request Headers, section 2.4).
 use Rattle.std.specs.Prelude.{ℕ, Bool, true, not, ◌&&◌, ◌||◌, ◌==◌, nat_le, List, [], ◌∷◌, length}
 use Rattle.std.specs.Prelude.{take, drop, map, codes}
 use Rattle.std.specs.Char.{is_ascii_digit}
@@ -27,12 +28,20 @@ is_local host =
     || is_host_named (codes "[::1]") host
 
 -- a field gives another host; a field is its name and its value
+abbrev pub is_other_host : List ℕ × List ℕ → Bool
+is_other_host field = is_field_named (codes "host") field.0 && not (is_local field.1)
+
+-- it says that a page of another site makes a browser ask
+abbrev pub is_other_site : List ℕ × List ℕ → Bool
+is_other_site field =
+    is_field_named (codes "sec-fetch-site") field.0 && is_field_named (codes "cross-site") field.1
+
 abbrev pub is_foreign_field : List ℕ × List ℕ → Bool
-is_foreign_field field = is_field_named (codes "host") field.0 && not (is_local field.1)
+is_foreign_field field = is_other_host field || is_other_site field
 
 unfoldable pub has_foreign_field : List (List ℕ × List ℕ) → Bool
 has_foreign_field fields = list_any is_foreign_field fields
 
--- a head is for another host, by one of its fields
+-- a head is for another host, or from another site, by one of its fields
 abbrev pub is_foreign : RequestHead → Bool
 is_foreign h = has_foreign_field (map name_and_value h.fields)

@@ -42,19 +42,21 @@ fn push_status(text: &mut AnswerText, status: Status)
 }
 
 /// Appends the lines that tell a browser what it may do with a page: it runs no script, fetches
-/// nothing, and takes the page for nothing but HTML.
+/// nothing, shows the page inside no other, and takes it for nothing but HTML. A tariff file it takes
+/// for nothing but a text.
 fn push_limits(text: &mut AnswerText, kind: BodyKind)
-    requires { array_string_len text.old + 105 ≤ 512 }
+    requires { array_string_len text.old + 129 ≤ 512 }
     ensures bytes { text.new.bytes ≡ text.old.bytes ++ limit_lines kind }
-    ensures bound { array_string_len text.new ≤ array_string_len text.old + 105 }
+    ensures bound { array_string_len text.new ≤ array_string_len text.old + 129 }
 {
     match kind {
         BodyKind::Page => {
-            text.push_str("Content-Security-Policy: ");
-            text.push_str("default-src 'none'; style-src 'unsafe-inline'\r\n");
+            text.push_str("Content-Security-Policy: default-src 'none'; ");
+            text.push_str("style-src 'unsafe-inline'; frame-ancestors 'none'\r\n");
             text.push_str("X-Content-Type-Options: nosniff\r\n");
         }
-        BodyKind::Text | BodyKind::Csv | BodyKind::TariffFile => {}
+        BodyKind::TariffFile => text.push_str("X-Content-Type-Options: nosniff\r\n"),
+        BodyKind::Text | BodyKind::Csv => {}
     }
 }
 

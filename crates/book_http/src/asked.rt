@@ -167,8 +167,8 @@ fn asked_by(
     }
 }
 
-/// What is asked where a path leads, if it leads anywhere. A head may name another machine: by such
-/// a name nothing is asked for.
+/// What is asked where a path leads, if it leads anywhere. A head may name another machine, or come
+/// from a page elsewhere: by such a head nothing is asked for.
 fn asked_here(
     is_foreign: bool,
     found: Option<(Endpoint, About)>,

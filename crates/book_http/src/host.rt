@@ -1,4 +1,4 @@
-//! Whom a request is for: this machine, by its own names, or another host.
+//! Whom a request is for, and who sent it: this machine, by its own names, or another host or site.
 
 ghost use Rattle.std.specs.Prelude.{◌≡◌, All, length, map};
 ghost use Rattle.std.specs.Char.{is_ascii_digit};
@@ -11,6 +11,12 @@ use httparse::spans::HeaderSpan;
 
 /// The name of the field that gives the host.
 const HOST: &str = "host";
+
+/// The name of the field in which a browser says how near the page is that makes it ask, and the
+/// value of one elsewhere.
+const FETCH_SITE: &str = "sec-fetch-site";
+
+const CROSS_SITE: &str = "cross-site";
 
 /// Each byte is a digit.
 fn are_digits(bytes: &[u8]) -> bool
@@ -48,13 +54,27 @@ fn is_local(host: &[u8]) -> bool
 }
 
 /// The field gives another host.
-fn is_foreign_field(name: &[u8], value: &[u8]) -> bool
-    ensures { result ≡ spec.is_foreign_field (name.now, value.now) }
+fn is_other_host(name: &[u8], value: &[u8]) -> bool
+    ensures { result ≡ spec.is_other_host (name.now, value.now) }
 {
     is_field_named(name, HOST) && !is_local(value)
 }
 
-/// A head is for another host, by one of its fields.
+/// The field says that a page of another site makes a browser ask.
+fn is_other_site(name: &[u8], value: &[u8]) -> bool
+    ensures { result ≡ spec.is_other_site (name.now, value.now) }
+{
+    is_field_named(name, FETCH_SITE) && is_field_named(value, CROSS_SITE)
+}
+
+/// The field gives another host, or another site.
+fn is_foreign_field(name: &[u8], value: &[u8]) -> bool
+    ensures { result ≡ spec.is_foreign_field (name.now, value.now) }
+{
+    is_other_host(name, value) || is_other_site(name, value)
+}
+
+/// A head is for another host, or from another site, by one of its fields.
 pub fn is_foreign(bytes: &[u8], fields: &[HeaderSpan]) -> bool
     requires { All (IsHeaderWithin (length bytes.now)) fields.now }
     ensures { result ≡ spec.has_foreign_field (map (header_bytes bytes.now) fields.now) }

@@ -21,7 +21,7 @@ pub struct Request<'a> {
     pub target: &'a [u8],
     /// What is said of the length of the body.
     pub framing: Framing,
-    /// It gives a host that is not this machine.
+    /// It gives a host that is not this machine, or says that a page of another site sends it.
     pub is_foreign: bool,
     /// It gives the origin of the page that sends it.
     pub has_origin: bool,

@@ -1,6 +1,9 @@
 -- Lists of a check: of which type and class each record is, and how many there are.
-use Rattle.std.specs.Prelude.{ℕ, ◌+◌, if◌then◌else◌, nat_lt, List, [], ◌∷◌, ◌++◌, length, codes}
+use Rattle.std.specs.Prelude.{ℕ, ◌+◌, if◌then◌else◌, nat_lt, Bool, true, false, List, [], ◌∷◌, ◌++◌, length}
+use Rattle.std.specs.Prelude.{codes}
 use Rattle.std.specs.Fmt.{decimal}
+use Rattle.hex.specs.Hex.{encode_lower}
+use Rattle.sha2.specs.Sha256.{sha256}
 use Rattle.smf_frames.specs.Header.{header_len}
 use Rattle.smf_type30.specs.declared.record_class.Class.{Class}
 use Rattle.smf_type30.specs.declared.record_class.Class.TheVariants.{DumpHeader, DumpTrailer, DataLost}
@@ -25,17 +28,32 @@ class_text Continuation = codes "CONTINUED"
 class_text Usage = codes "USAGE"
 class_text (Damaged damage) = fault_text (codes "DAMAGED") (damage_number damage)
 
+-- the name under which books keep a record
+abbrev pub digest_text : List ℕ → List ℕ
+digest_text bytes = codes " " ++ encode_lower (sha256 bytes)
+
+-- the same, where names are asked for
+abbrev pub asked_text : Bool → List ℕ → List ℕ
+asked_text true bytes = digest_text bytes
+asked_text false bytes = []
+
+-- so it is of a record that could be kept, and of no other
+abbrev pub name_text : Class → Bool → List ℕ → List ℕ
+name_text Usage names bytes = asked_text names bytes
+name_text class names bytes = []
+
 -- the line of the record with that number
-unfoldable pub record_line : ℕ → List ℕ → List ℕ
-record_line number bytes =
+unfoldable pub record_line : Bool → ℕ → List ℕ → List ℕ
+record_line names number bytes =
     decimal number
     ++ codes " TYPE " ++ type_text bytes
-    ++ codes " " ++ class_text (class_of bytes) ++ newline
+    ++ codes " " ++ class_text (class_of bytes) ++ name_text (class_of bytes) names bytes ++ newline
 
 -- the lines of records, where the first has that number
-abbrev pub record_lines : ℕ → List (List ℕ) → List ℕ
-record_lines number [] = []
-record_lines number (bytes ∷ rest) = record_line number bytes ++ record_lines (number + 1) rest
+abbrev pub record_lines : Bool → ℕ → List (List ℕ) → List ℕ
+record_lines names number [] = []
+record_lines names number (bytes ∷ rest) =
+    record_line names number bytes ++ record_lines names (number + 1) rest
 
 -- how many records there are, and why there are no more
 abbrev pub last_line : ℕ → Stop → List ℕ
@@ -43,5 +61,5 @@ last_line count stop =
     codes "RECORDS " ++ decimal count ++ codes " STOP " ++ stop_text stop ++ newline
 
 -- the lines of the records, numbered from 1, and the last line
-abbrev pub check_list_text : List (List ℕ) → Stop → List ℕ
-check_list_text records stop = record_lines 1 records ++ last_line (length records) stop
+abbrev pub check_list_text : Bool → List (List ℕ) → Stop → List ℕ
+check_list_text names records stop = record_lines names 1 records ++ last_line (length records) stop

@@ -25,6 +25,10 @@ use sqlite_store::{FileStore, OpenError, Unopened};
 use std::alloc::Global;
 use synced_disk::{BookFile, open};
 
+/// How many rows the list of tables and indexes may have where all pages are looked through. The store
+/// compares each name there with all before it, and somebody may have added any number of views.
+const MOST_LISTED: usize = 1_000;
+
 /// Why files were not looked through, or what was found.
 #[derive(Clone, Copy, Drop)]
 pub enum LookFault {
@@ -73,6 +77,9 @@ fn look_through_all<D: Disk>(files: Unopened<D>) -> Result<FileStore<D>, (LookFa
     };
     if !lists_books(listed.as_slice()) {
         return Err((LookFault::Open(unlisted_fault(listed.as_slice())), files));
+    }
+    if listed.len() > MOST_LISTED {
+        return Err((LookFault::Open(OpenFault::Store), files));
     }
     match files.open() {
         Ok(store) => Ok(store),

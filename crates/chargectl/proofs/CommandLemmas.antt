@@ -13,8 +13,9 @@ use Rattle.named_books.proofs.ShelfLemmas.{untouched}
 use Rattle.command_line.specs.declared.request.BookRequest.{BookRequest}
 use Rattle.program_output.specs.Names.{name_in}
 use Rattle.without_books.specs.Inputs.{Files}
+use Rattle.without_books.specs.Reading.{IsUnfit}
 use Rattle.chargectl.specs.declared.answered.Answered.{Answered}
-use Rattle.chargectl.specs.Commands.{AsksNothing, AsksOnceBy, ComesOf, IsFileFault, IsShelfFault}
+use Rattle.chargectl.specs.Commands.{AsksNothing, AsksOnceBy, ComesOf, IsShelfFault}
 use Rattle.chargectl.specs.Commands.{IsTariffFault, IsTextFault, IsWordFault, report_of, what_if_of}
 use Rattle.chargectl.proofs.Words.{Keeps, LedgerFault, work_as, ReportFault, RepositoryFault}
 use Rattle.chargectl.proofs.Words.{Answer, Asked, response_by, Shelf, CommandFault}
@@ -59,9 +60,10 @@ module _ (One Other : RepositoryFault → Type 0)
 
   pub nothing_as : (files : Files) (request : BookRequest) (why : CommandFault)
       → AsksNothing files request One why → AsksNothing files request Other why
-  nothing_as files (to_books.Import dump) why it = either_as (IsFileFault why) why it
+  nothing_as files (to_books.Import dump) why it =
+      either_as (IsUnfit (files.holds dump.file.now) dump.layout dump.whole why) why it
   nothing_as files (to_books.Rule (ruling.Tariff file)) why it =
-      either_as (IsTextFault (files file.now) why) why it
+      either_as (IsTextFault (files.holds file.now) why) why it
   nothing_as files (to_books.Rule (ruling.Close period date)) why it =
       word_as (day_of_text_of date.now) (IsShelfFault One) (IsShelfFault Other) why (shelf_as why)
       it
@@ -70,7 +72,7 @@ module _ (One Other : RepositoryFault → Type 0)
   nothing_as files (to_books.Report said) why it =
       word_as (report_of said) (IsShelfFault One) (IsShelfFault Other) why (shelf_as why) it
   nothing_as files (to_books.WhatIf form period file) why it =
-      let had = files file.now in
+      let had = files.holds file.now in
       word_as (what_if_of form period) (IsTariffFault had One) (IsTariffFault had Other) why
       (either_as (IsTextFault had why) why) it
   nothing_as files request why it = shelf_as why it

@@ -2,7 +2,7 @@
 -- of work.
 use Rattle.std.proofs.Common.{◌≡◌, ◌∙◌, ◌⊎◌, ℕ, Bool, false, true≢false, List, [], ◌++◌, append-nil}
 use Rattle.std.proofs.Common.{Option, None, Some, Result, Ok, Err, ap, inl, inr, refl, subst, sym}
-use Rattle.std.proofs.Common.{IfOk, IsErr, IsErrAnd, Vec, string_bytes, Global}
+use Rattle.std.proofs.Common.{IfOk, IsErr, IsErrAnd, Vec, string_bytes, Global, ℤ}
 use Rattle.book_model.specs.declared.answer.Ruled.{Ruled}
 use Rattle.book_model.specs.declared.fault.LedgerFault.TheVariants.{Memory}
 use Rattle.book_model.specs.Words.{Book, Event, Naming, Outcome, adopt_outcome, after_all}
@@ -67,14 +67,16 @@ none_asked files request Refuses (Err fault) found bad is why =
     subst (AsksNothing files request Refuses) (sym is) why
 
 -- the fault that `?` hands on: of a refusal nothing is noticed
-pub handed_on : {old new : Seen} {naming : Naming} {asked : Asked} {fault : LedgerFault}
+pub handed_on : {old new : Seen} {naming : Naming} {today : Option ℤ} {asked : Asked}
+    {fault : LedgerFault}
     (result : Result (Vec ℕ Global × Option Notice) LedgerFault)
     → IsErrAnd result (λ given. given ≡ fault)
-    → IsTransition old new (TriesOnce naming asked (Err fault) None)
-    → IsTransition old new (TriesOnceBy naming asked (dated_by result))
+    → IsTransition old new (TriesOnce naming today asked (Err fault) None)
+    → IsTransition old new (TriesOnceBy naming today asked (dated_by result))
 handed_on (Ok shown) is work = absurd is
-handed_on {old = old} {new = new} {naming = naming} {asked = asked} (Err given) is work =
-    subst (λ fault. IsTransition old new (TriesOnce naming asked (Err fault) None)) (sym is) work
+handed_on {old = old} {new = new} {naming = naming} {today = today} {asked = asked} (Err given) is
+    work =
+    subst (λ fault. IsTransition old new (TriesOnce naming today asked (Err fault) None)) (sym is) work
 
 -- what a visit to a copy told is a text or a fault
 pub form_told : (Same : Type 0) (told : Result DatedAnswer RepositoryFault)
@@ -83,7 +85,7 @@ form_told Same (Ok dated) form = form
 form_told Same (Err why) same = tt
 
 -- what was read first is so of the book before it, and left the books as they were
-read_first : {V A : Type 0} {view : V → A} {outcome : Book → Outcome A} {value : V}
+pub read_first : {V A : Type 0} {view : V → A} {outcome : Book → Outcome A} {value : V}
     {Next : Transition} (Other : Transition) → IsReading outcome
     → (was : Bool) (before : Book) (events : List Event) (is : Bool)
     → ((outcome before).answer ≡ Ok (view value) → Next was before events is
@@ -100,7 +102,7 @@ read_first {value = value} {Next = Next} Other none was before events is later b
     (subst (λ early. Next both.between (after_all early before) both.late is) early both.next)))
 
 -- A call failed on open books where neither memory nor the store hindered it: it was refused.
-refused_only : {A : Type 0} {outcome : Outcome A} {fault : LedgerFault} {was is : Bool}
+pub refused_only : {A : Type 0} {outcome : Outcome A} {fault : LedgerFault} {was is : Bool}
     {events : List Event} → Fails outcome fault was events is → was ≡ false
     → is_hindered (Err fault) ≡ false → outcome.answer ≡ Err fault
 refused_only (wanting want none same) fresh free =
@@ -123,17 +125,18 @@ none_made {view = view} {outcome = outcome} {result = result} {before = before} 
 
 module _ (naming : Naming) where
   -- a text that is no tariff
-  unnamed_shows : (asked : Asked) (book : Book) (fault : LedgerFault) → IsUnnamed asked fault
-      → ShowsDry naming asked book (Err fault) None
-  unnamed_shows (asks.Rule (owned.Tariff text)) book fault why =
+  unnamed_shows : (today : Option ℤ) (asked : Asked) (book : Book) (fault : LedgerFault)
+      → IsUnnamed asked fault
+      → ShowsDry naming today asked book (Err fault) None
+  unnamed_shows today (asks.Rule (owned.Tariff text)) book fault why =
       let bytes = string_bytes text in
       record {
         told_so = ap Err why.2
             ∙ sym (ap (λ said. shown_by Text (tariff_tried naming bytes said book)) why.1);
-        notice = sym (ap (λ said. notice_by (is_far_asked (asks.Rule (owned.Tariff text)) book)
+        notice = sym (ap (λ said. notice_by (is_far_asked today (asks.Rule (owned.Tariff text)) book)
             (shown_by office.Ruling (tariff_answer book bytes said))) why.1);
       }
-  unnamed_shows asked book fault why = absurd why
+  unnamed_shows today asked book fault why = absurd why
 
   -- what a ruling was answered by open books is what the definitions say
   told_by : (asked : Asked) (answer : Result Answer LedgerFault) (was : Bool) (book : Book)
@@ -283,13 +286,13 @@ not_hindered memory free = true≢false (subst (λ fault. is_hindered (Err fault
 
 -- a reading that is never refused: it failed by memory or by the store, and nothing was done
 pub reading_failed : {V A : Type 0} {view : V → A} {outcome : Book → Outcome A} {old new : Seen}
-    {fault : LedgerFault} (asked : Asked) → IsReading outcome
+    {fault : LedgerFault} {today : Option ℤ} (asked : Asked) → IsReading outcome
     → ((book : Book) → (outcome book).answer ≡ Err fault → ⊥)
     → IsCall view old new (Err fault) outcome
-    → IsTransition old new (TriesOnce old.naming asked (Err fault) None)
-reading_failed {view = view} {outcome = outcome} {old = old} {new = new} {fault = fault} asked none
-    never call =
-    work_as old new (Calls view outcome (Err fault)) (TriesOnce old.naming asked (Err fault) None)
+    → IsTransition old new (TriesOnce old.naming today asked (Err fault) None)
+reading_failed {view = view} {outcome = outcome} {old = old} {new = new} {fault = fault}
+    {today = today} asked none never call =
+    work_as old new (Calls view outcome (Err fault)) (TriesOnce old.naming today asked (Err fault) None)
     (λ was book events is called. record {
       shows = λ fresh free.
           absurd (never book (refused_only (fails view outcome fault was book events is called) fresh
@@ -299,50 +302,50 @@ reading_failed {view = view} {outcome = outcome} {old = old} {new = new} {fault 
 
 -- what was tried after a reading was tried on the same books
 pub after_reading : {V A : Type 0} {view : V → A} {outcome : Book → Outcome A} {one two end : Seen}
-    {value : V} {asked : Asked} {told : Result Response LedgerFault} {noticed : Option Notice}
-    → IsReading outcome → IsCall view one two (Ok value) outcome
-    → IsTransition two end (TriesOnce two.naming asked told noticed)
-    → IsTransition one end (TriesOnce one.naming asked told noticed)
+    {value : V} {today : Option ℤ} {asked : Asked} {told : Result Response LedgerFault}
+    {noticed : Option Notice} → IsReading outcome → IsCall view one two (Ok value) outcome
+    → IsTransition two end (TriesOnce two.naming today asked told noticed)
+    → IsTransition one end (TriesOnce one.naming today asked told noticed)
 after_reading {view = view} {outcome = outcome} {one = one} {two = two} {end = end} {value = value}
-    {asked = asked} {told = told} {noticed = noticed} none call work =
+    {today = today} {asked = asked} {told = told} {noticed = noticed} none call work =
     work_as one end
-    (Then (Calls view outcome (Ok value)) (TriesOnce one.naming asked told noticed))
-    (TriesOnce one.naming asked told noticed)
+    (Then (Calls view outcome (Ok value)) (TriesOnce one.naming today asked told noticed))
+    (TriesOnce one.naming today asked told noticed)
     (λ was book events is.
-    read_first (TriesOnce one.naming asked told noticed) none was book events is (λ said tries. tries))
-    (work_then one two end (Calls view outcome (Ok value)) (TriesOnce one.naming asked told noticed)
+    read_first (TriesOnce one.naming today asked told noticed) none was book events is (λ said tries. tries))
+    (work_then one two end (Calls view outcome (Ok value)) (TriesOnce one.naming today asked told noticed)
     call.work
-    (subst (λ naming. IsTransition two end (TriesOnce naming asked told noticed)) call.work.naming work))
+    (subst (λ naming. IsTransition two end (TriesOnce naming today asked told noticed)) call.work.naming work))
 
 -- the ruling has no name
 pub name_failed : {V A : Type 0} {view : V → A} {outcome : Book → Outcome A} {old new : Seen}
-    {value : V} {fault : LedgerFault} (asked : Asked) → IsReading outcome
+    {value : V} {fault : LedgerFault} {today : Option ℤ} (asked : Asked) → IsReading outcome
     → IsCall view old new (Ok value) outcome → (fault ≡ Memory) ⊎ IsUnnamed asked fault
-    → IsTransition old new (TriesOnce old.naming asked (Err fault) None)
+    → IsTransition old new (TriesOnce old.naming today asked (Err fault) None)
 name_failed {view = view} {outcome = outcome} {old = old} {new = new} {value = value} {fault = fault}
-    asked none call why =
-    work_as old new (Calls view outcome (Ok value)) (TriesOnce old.naming asked (Err fault) None)
+    {today = today} asked none call why =
+    work_as old new (Calls view outcome (Ok value)) (TriesOnce old.naming today asked (Err fault) None)
     (λ was book events is called. record {
       shows = λ fresh free. elim why [
         | inl memory ↦ absurd (not_hindered memory free)
-        | inr unnamed ↦ unnamed_shows old.naming asked book fault unnamed
+        | inr unnamed ↦ unnamed_shows old.naming today asked book fault unnamed
       ];
       made = inl (none_made none called);
     }) call.work
 
 -- the ruling was refused
-pub ruling_failed : {old new : Seen} {fault : LedgerFault} (asked : Asked) (ruling : TriedRuling)
-    → IsNamedBy asked ruling
+pub ruling_failed : {old new : Seen} {fault : LedgerFault} {today : Option ℤ} (asked : Asked)
+    (ruling : TriedRuling) → IsNamedBy asked ruling
     → IsTransition old new (AsksWithoutReader old.naming asked (Err fault))
-    → IsTransition old new (TriesOnce old.naming asked (Err fault) None)
-ruling_failed {old = old} {new = new} {fault = fault} asked ruling named work =
+    → IsTransition old new (TriesOnce old.naming today asked (Err fault) None)
+ruling_failed {old = old} {new = new} {fault = fault} {today = today} asked ruling named work =
     work_as old new (AsksWithoutReader old.naming asked (Err fault))
-    (TriesOnce old.naming asked (Err fault) None)
+    (TriesOnce old.naming today asked (Err fault) None)
     (λ was book events is called. record {
       shows = λ fresh free. record {
         told_so = refused_tells old.naming asked ruling fault was book events is named called fresh free;
-        notice = sym (ap (notice_by (is_far_asked asked book)) (told_by old.naming asked (Err fault) was book
-            events is called fresh free));
+        notice = sym (ap (notice_by (is_far_asked today asked book)) (told_by old.naming asked
+            (Err fault) was book events is called fresh free));
       };
       made = inr (record { answer = Err fault; left = is; made = called });
     }) work
@@ -361,17 +364,18 @@ read_after {old = old} {mid = mid} {new = new} {result = result} asked answer ru
     (Calls (λ figures. figures) (figures_outcome naming ruling period) result)) work.naming last.work)
 
 -- the figures after the ruling were not read
-pub later_failed : {old mid new : Seen} {fault : LedgerFault} (asked : Asked) (answer : Answer)
+pub later_failed : {old mid new : Seen} {fault : LedgerFault} {today : Option ℤ} (asked : Asked)
+    (answer : Answer)
     (ruling : TriedRuling) (period : ℕ) → IsAskableRuling asked
     → IsTransition old mid (AsksWithoutReader old.naming asked (Ok answer))
     → IsCall (λ figures. figures) mid new (Err fault) (figures_outcome mid.naming ruling period)
-    → IsTransition old new (TriesOnce old.naming asked (Err fault) None)
-later_failed {old = old} {mid = mid} {new = new} {fault = fault} asked answer ruling period may work
-    last =
+    → IsTransition old new (TriesOnce old.naming today asked (Err fault) None)
+later_failed {old = old} {mid = mid} {new = new} {fault = fault} {today = today} asked answer ruling
+    period may work last =
     work_as old new
     (Then (AsksWithoutReader old.naming asked (Ok answer))
     (Calls (λ figures. figures) (figures_outcome old.naming ruling period) (Err fault)))
-    (TriesOnce old.naming asked (Err fault) None)
+    (TriesOnce old.naming today asked (Err fault) None)
     (λ was book events is both. record {
       shows = λ fresh free.
           let found =
@@ -384,16 +388,17 @@ later_failed {old = old} {mid = mid} {new = new} {fault = fault} asked answer ru
     (read_after asked answer ruling period work last)
 
 -- what was read before the ruling and after it is what is shown
-module _ {naming : Naming} {asked : Asked} (ruling : TriedRuling) (answer : Answer) {period : ℕ}
+module _ {naming : Naming} {today : Option ℤ} {asked : Asked} (ruling : TriedRuling)
+    (answer : Answer) {period : ℕ}
     {before after : Figures} {far : Bool} (may : IsAskableRuling asked) (named : IsNamedBy asked ruling)
-    {was is : Bool} {book : Book} {events : List Event} (is_far : is_far_asked asked book ≡ far)
+    {was is : Bool} {book : Book} {events : List Event} (is_far : is_far_asked today asked book ≡ far)
     (number : period_open book ≡ period) (read : figures naming ruling period book ≡ before)
     (both : Then (AsksWithoutReader naming asked (Ok answer))
     (Calls (λ figures. figures) (figures_outcome naming ruling period) (Ok after)) was book events is)
   where
     shown_dry : (shown : Vec ℕ Global × Option Notice)
         → IsShown ruling period before after far answer (Ok shown) → was ≡ false
-        → ShowsDry naming asked book (Ok (Text shown.0.items)) shown.1
+        → ShowsDry naming today asked book (Ok (Text shown.0.items)) shown.1
     shown_dry shown is_shown fresh =
         let found = answers_ruling naming asked answer was book both.early both.between may both.first in
         let ruled = found.ruled in
@@ -405,7 +410,7 @@ module _ {naming : Naming} {asked : Asked} (ruling : TriedRuling) (answer : Answ
         ap (λ number. dry_run_text ruling ruled number (figures naming ruling number book)
         (figures naming ruling number later)) number
         ∙ (λ i. dry_run_text ruling ruled period (read i) (same_value both.next.makes.0 i)) in
-        let told : far_notice asked book (ruled_told naming asked book)
+        let told : far_notice today asked book (ruled_told naming asked book)
         ≡ notice_by far (Ok (office.Ruling ruled)) =
         λ i. notice_by (is_far i) (told_by naming asked (Ok (answers.Ruled ruled)) was book both.early
         both.between first fresh refl i) in
@@ -420,7 +425,7 @@ module _ {naming : Naming} {asked : Asked} (ruling : TriedRuling) (answer : Answ
 
     shown_so : (result : Result (Vec ℕ Global × Option Notice) LedgerFault)
         → IsShown ruling period before after far answer result
-        → TriesOnceBy naming asked (dated_by result) was book events is
+        → TriesOnceBy naming today asked (dated_by result) was book events is
     shown_so (Ok shown) is_shown = record {
       shows = λ fresh free. shown_dry shown is_shown fresh;
       made = inr (ruled_then answer (λ book. refl) both);
@@ -433,10 +438,11 @@ module _ {naming : Naming} {asked : Asked} (ruling : TriedRuling) (answer : Answ
 -- All was read, and the ruling answered: a ledger as it was opened, after its day was looked at, after the
 -- number of its open period was read, after the figures, after the ruling, and at the end.
 pub all_shown : {one two three four five six : Seen} {far : Bool} {period : OpenPeriod}
-    {before after : Figures} (asked : Asked) (ruling : TriedRuling) (answer : Answer)
-    (result : Result (Vec ℕ Global × Option Notice) LedgerFault) → IsAskableRuling asked
+    {before after : Figures} {today : Option ℤ} (asked : Asked) (ruling : TriedRuling)
+    (answer : Answer) (result : Result (Vec ℕ Global × Option Notice) LedgerFault)
+    → IsAskableRuling asked
     → IsNamedBy asked ruling
-    → IsCall (λ far. far) one two (Ok far) (far_outcome asked)
+    → IsCall (λ far. far) one two (Ok far) (far_outcome today asked)
     → IsCall (λ found. found) two three (Ok period) open_outcome
     → IsCall (λ figures. figures) three four (Ok before)
     (figures_outcome three.naming ruling period.number)
@@ -444,19 +450,19 @@ pub all_shown : {one two three four five six : Seen} {far : Bool} {period : Open
     → IsCall (λ figures. figures) five six (Ok after)
     (figures_outcome five.naming ruling period.number)
     → IsShown ruling period.number before after far answer result
-    → IsTransition one six (TriesOnceBy one.naming asked (dated_by result))
+    → IsTransition one six (TriesOnceBy one.naming today asked (dated_by result))
 all_shown {one = one} {two = two} {three = three} {four = four} {six = six} {far = far} {period = period}
-    {before = before} {after = after} asked ruling answer result may named looked opened read work last
-    text =
+    {before = before} {after = after} {today = today} asked ruling answer result may named looked opened
+    read work last text =
     let names : four.naming ≡ one.naming =
     read.work.naming ∙ opened.work.naming ∙ looked.work.naming in
-    let first : Transition = Calls (λ far. far) (far_outcome asked) (Ok far) in
+    let first : Transition = Calls (λ far. far) (far_outcome today asked) (Ok far) in
     let second : Transition = Calls (λ found. found) open_outcome (Ok period) in
     let third : Naming → Transition =
     λ naming. Calls (λ figures. figures) (figures_outcome naming ruling period.number) (Ok before) in
     let rest : Naming → Transition = λ naming. Then (AsksWithoutReader naming asked (Ok answer))
     (Calls (λ figures. figures) (figures_outcome naming ruling period.number) (Ok after)) in
-    let all : Transition = TriesOnceBy one.naming asked (dated_by result) in
+    let all : Transition = TriesOnceBy one.naming today asked (dated_by result) in
     work_as one six (Then first (Then second (Then (third one.naming) (rest one.naming)))) all
     (λ was book events is. read_first all (λ book. refl) was book events is (λ is_far later.
     read_first all (λ book. refl) was book events is (λ number later.

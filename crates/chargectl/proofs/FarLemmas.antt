@@ -16,6 +16,7 @@ use Rattle.office.specs.declared.request.Asked.TheVariants.{Rule}
 use Rattle.office.specs.Requests.{Asks, Gives, IsAskableRuling, IsAskableUnread, no_dump}
 use Rattle.named_books.specs.Shelves.{IsThere}
 use Rattle.chargectl.specs.declared.dated_rulings.DatedAnswer.{DatedAnswer}
+use Rattle.chargectl.specs.declared.far.RulingDay.{RulingDay}
 use Rattle.chargectl.specs.Commands.{AsksDated, AsksDatedBy, AsksOnceBy, answer_told}
 use Rattle.chargectl.specs.Far.{day_asked, far_on_outcome, far_outcome, is_far_asked, is_far_on}
 use Rattle.chargectl.specs.Far.{notice_by}
@@ -41,36 +42,38 @@ memory_gone result fault is memory none no_other call =
     (read_as none no_other (record { reopen = refl; store = refl }) (λ book said. tt) call)
 
 -- the day is far from the book whose open period was read
-far_at : (asked : Asked) (day : Option ℤ) (period : OpenPeriod) (book : Book)
-    → day ≡ day_asked asked → (open_outcome book).answer ≡ Ok period
-    → is_far_on period day book ≡ is_far_asked asked book
-far_at asked day period book is early =
+far_at : (today : Option ℤ) (asked : Asked) (day : Option RulingDay) (period : OpenPeriod)
+    (book : Book) → day ≡ day_asked today asked → (open_outcome book).answer ≡ Ok period
+    → is_far_on period day book ≡ is_far_asked today asked book
+far_at today asked day period book is early =
     ap (λ day. is_far_on period day book) is
-    ∙ ap (λ period. is_far_on period (day_asked asked) book) (sym (same_value early))
+    ∙ ap (λ period. is_far_on period (day_asked today asked) book) (sym (same_value early))
 
 -- the open period was read, and then its rows
-pub far_read : {old mid new : Seen} (asked : Asked) (day : Option ℤ) (period : OpenPeriod)
-    (result : Result Bool LedgerFault) → day ≡ day_asked asked
+pub far_read : {old mid new : Seen} (today : Option ℤ) (asked : Asked) (day : Option RulingDay)
+    (period : OpenPeriod) (result : Result Bool LedgerFault) → day ≡ day_asked today asked
     → IsCall (λ (found : OpenPeriod). found) old mid (Ok period) open_outcome
     → IsCall (λ (far : Bool). far) mid new result (far_on_outcome period day)
-    → IsCall (λ (far : Bool). far) old new result (far_outcome asked)
-far_read asked day period result is one next =
+    → IsCall (λ (far : Bool). far) old new result (far_outcome today asked)
+far_read today asked day period result is one next =
     read_then (λ book. refl) (λ book. refl) (λ book. refl) (record { reopen = refl; store = refl })
     (λ book early. subst (Tells (λ (far : Bool). far) result)
-    (ap Ok (far_at asked day period book is early))) one next
+    (ap Ok (far_at today asked day period book is early))) one next
 
 -- ---- what is asked for
 
 -- the newest day was read, which is no event, and then the ruling was asked for
-dated_of : (naming : Naming) (asked : Asked) (far : Bool) (told : Result Answer LedgerFault)
+dated_of : (naming : Naming) (today : Option ℤ) (asked : Asked) (far : Bool)
+    (told : Result Answer LedgerFault)
     (was : Bool) (before : Book) (events : List Event) (is : Bool)
-    → Then (Calls (λ (far : Bool). far) (far_outcome asked) (Ok far))
+    → Then (Calls (λ (far : Bool). far) (far_outcome today asked) (Ok far))
     (AsksOnceBy naming asked (Some []) told) was before events is
-    → AsksDated naming asked (response_by told) (notice_by far (response_by told)) was before events is
-dated_of naming asked far told was before events is both =
+    → AsksDated naming today asked (response_by told) (notice_by far (response_by told)) was before
+    events is
+dated_of naming today asked far told was before events is both =
     let early : both.early ≡ [] = both.first.makes.1 in
     let open_still : both.between ≡ was = goes_on far was both.between both.first.reopens in
-    let same : is_far_asked asked before ≡ far = same_value both.first.makes.0 in
+    let same : is_far_asked today asked before ≡ far = same_value both.first.makes.0 in
     let all : events ≡ both.late = both.all ∙ ap (λ early. both.late ++ early) early
     ∙ append-nil both.late in
     let next : AsksOnceBy naming asked (Some []) told was before both.late is =
@@ -83,32 +86,43 @@ dated_of naming asked far told was before events is both =
       notice = ap (λ far. notice_by far (response_by told)) (sym same);
     }
 
-pub asked_dated : (old mid new : Seen) (asked : Asked) (far : Bool) (told : Result Answer LedgerFault)
-    → IsCall (λ (far : Bool). far) old mid (Ok far) (far_outcome asked)
+-- what was read, and then asked for, as one piece of work
+pub looked_first : (old mid new : Seen) (today : Option ℤ) (asked : Asked) (far : Bool)
+    (told : Result Answer LedgerFault)
+    → IsCall (λ (far : Bool). far) old mid (Ok far) (far_outcome today asked)
     → IsTransition mid new (AsksOnceBy mid.naming asked (Some []) told)
-    → IsTransition old new
-    (AsksDated old.naming asked (response_by told) (notice_by far (response_by told)))
-asked_dated old mid new asked far told one next =
-    work_as old new
-    (Then (Calls (λ (far : Bool). far) (far_outcome asked) (Ok far))
+    → IsTransition old new (Then (Calls (λ (far : Bool). far) (far_outcome today asked) (Ok far))
     (AsksOnceBy old.naming asked (Some []) told))
-    (AsksDated old.naming asked (response_by told) (notice_by far (response_by told)))
-    (dated_of old.naming asked far told)
-    (work_then old mid new (Calls (λ (far : Bool). far) (far_outcome asked) (Ok far))
+looked_first old mid new today asked far told one next =
+    (work_then old mid new (Calls (λ (far : Bool). far) (far_outcome today asked) (Ok far))
     (AsksOnceBy old.naming asked (Some []) told) one.work
     (subst (λ naming. IsTransition mid new (AsksOnceBy naming asked (Some []) told)) one.work.naming
     next))
 
+pub asked_dated : (old mid new : Seen) (today : Option ℤ) (asked : Asked) (far : Bool)
+    (told : Result Answer LedgerFault)
+    → IsCall (λ (far : Bool). far) old mid (Ok far) (far_outcome today asked)
+    → IsTransition mid new (AsksOnceBy mid.naming asked (Some []) told)
+    → IsTransition old new
+    (AsksDated old.naming today asked (response_by told) (notice_by far (response_by told)))
+asked_dated old mid new today asked far told one next =
+    work_as old new
+    (Then (Calls (λ (far : Bool). far) (far_outcome today asked) (Ok far))
+    (AsksOnceBy old.naming asked (Some []) told))
+    (AsksDated old.naming today asked (response_by told) (notice_by far (response_by told)))
+    (dated_of old.naming today asked far told)
+    (looked_first old mid new today asked far told one next)
+
 -- where the newest day could not be read, no call of the ledger can be answered
-unread : {A : Type 0} (outcome : Book → Outcome A) (asked : Asked) (fault : LedgerFault) (was : Bool)
-    (before : Book) (events : List Event) (is : Bool)
-    → Calls (λ (far : Bool). far) (far_outcome asked) (Err fault) was before events is
+unread : {A : Type 0} (outcome : Book → Outcome A) (today : Option ℤ) (asked : Asked)
+    (fault : LedgerFault) (was : Bool) (before : Book) (events : List Event) (is : Bool)
+    → Calls (λ (far : Bool). far) (far_outcome today asked) (Err fault) was before events is
     → Calls (λ (told : A). told) outcome (Err fault) was before events is
-unread outcome asked Memory was before events is called = record {
+unread outcome today asked Memory was before events is called = record {
   makes = called.makes;
   reopens = record { reopen = called.reopens.reopen; store = called.reopens.store };
 }
-unread outcome asked Store was before events is called = record {
+unread outcome today asked Store was before events is called = record {
   makes = inl (either_way called.makes);
   reopens = record { reopen = called.reopens.reopen; store = called.reopens.store };
 }
@@ -116,11 +130,11 @@ unread outcome asked Store was before events is called = record {
     either_way : {events : List Event} → (events ≡ []) ⊎ (events ≡ []) → events ≡ []
     either_way (inl is) = is
     either_way (inr is) = is
-unread outcome asked Reopen was before events is called = record {
+unread outcome today asked Reopen was before events is called = record {
   makes = called.makes;
   reopens = record { reopen = called.reopens.reopen; store = called.reopens.store };
 }
-unread outcome asked fault was before events is called = cc called.makes.0
+unread outcome today asked fault was before events is called = cc called.makes.0
 
 -- a reader that nobody asks
 abbrev no_reader : ReaderSeen
@@ -130,37 +144,41 @@ abbrev no_input : Input
 no_input = record { old = no_reader; new = no_reader }
 
 -- nothing was asked for, since the newest day could not be read
-not_asked_for : (naming : Naming) (asked : Asked) (fault : LedgerFault) (was : Bool) (before : Book)
-    (events : List Event) (is : Bool) → Gives asked no_dump (Err fault) no_input
+not_asked_for : (naming : Naming) (today : Option ℤ) (asked : Asked) (fault : LedgerFault)
+    (was : Bool) (before : Book) (events : List Event) (is : Bool)
+    → Gives asked no_dump (Err fault) no_input
     → Asks naming asked no_dump (Err fault) was before events is
-    → AsksDated naming asked (Err fault) None was before events is
-not_asked_for naming asked fault was before events is given made = record {
+    → AsksDated naming today asked (Err fault) None was before events is
+not_asked_for naming today asked fault was before events is given made = record {
   once = record { dump = no_dump; input = no_input; begun = refl; given = given; made = made };
   notice = refl;
 }
 
-failed_of : (naming : Naming) (asked : Asked) (fault : LedgerFault) → IsAskableRuling asked
-    → (was : Bool) (before : Book) (events : List Event) (is : Bool)
-    → Calls (λ (far : Bool). far) (far_outcome asked) (Err fault) was before events is
-    → AsksDated naming asked (Err fault) None was before events is
-failed_of naming (Rule ruling) fault may was before events is called =
-    not_asked_for naming (Rule ruling) fault was before events is (record { is = refl; same = refl })
-    (unread _ (Rule ruling) fault was before events is called)
-failed_of naming asked fault may was before events is called = absurd may
+pub failed_of : (naming : Naming) (today : Option ℤ) (asked : Asked) (fault : LedgerFault)
+    → IsAskableRuling asked → (was : Bool) (before : Book) (events : List Event) (is : Bool)
+    → Calls (λ (far : Bool). far) (far_outcome today asked) (Err fault) was before events is
+    → AsksDated naming today asked (Err fault) None was before events is
+failed_of naming today (Rule ruling) fault may was before events is called =
+    not_asked_for naming today (Rule ruling) fault was before events is
+    (record { is = refl; same = refl })
+    (unread _ today (Rule ruling) fault was before events is called)
+failed_of naming today asked fault may was before events is called = absurd may
 
-pub failed_dated : (old new : Seen) (asked : Asked) (fault : LedgerFault) → IsAskableRuling asked
-    → IsCall (λ (far : Bool). far) old new (Err fault) (far_outcome asked)
-    → IsTransition old new (AsksDated old.naming asked (Err fault) None)
-failed_dated old new asked fault may call =
-    work_as old new (Calls (λ (far : Bool). far) (far_outcome asked) (Err fault))
-    (AsksDated old.naming asked (Err fault) None) (failed_of old.naming asked fault may) call.work
+pub failed_dated : (old new : Seen) (today : Option ℤ) (asked : Asked) (fault : LedgerFault)
+    → IsAskableRuling asked
+    → IsCall (λ (far : Bool). far) old new (Err fault) (far_outcome today asked)
+    → IsTransition old new (AsksDated old.naming today asked (Err fault) None)
+failed_dated old new today asked fault may call =
+    work_as old new (Calls (λ (far : Bool). far) (far_outcome today asked) (Err fault))
+    (AsksDated old.naming today asked (Err fault) None) (failed_of old.naming today asked fault may)
+    call.work
 
 -- what was done to books to ask for a ruling of a day is that it was asked for
-once_done : (asked : Asked) (book : List ℕ) (old new : Shelf) (dated : DatedAnswer)
-    → IsDoneTo book (AsksDatedBy old.naming asked dated) old new
+once_done : (today : Option ℤ) (asked : Asked) (book : List ℕ) (old new : Shelf)
+    (dated : DatedAnswer) → IsDoneTo book (AsksDatedBy old.naming today asked dated) old new
     → IsDoneTo book (AsksOnceBy old.naming asked (Some []) dated.answer) old new
-once_done asked book old new dated done =
-    done_as book (AsksDatedBy old.naming asked dated)
+once_done today asked book old new dated done =
+    done_as book (AsksDatedBy old.naming today asked dated)
     (AsksOnceBy old.naming asked (Some []) dated.answer) old new (λ before events is made. made.once)
     done
 
@@ -171,12 +189,12 @@ there_told book old new (Ok dated) there = there
 there_told book old new (Err fault) there = there
 
 -- books that were opened for a ruling of a day were opened to ask for it
-pub once_opened : (asked : Asked) (book : List ℕ) (old new : Shelf)
+pub once_opened : (today : Option ℤ) (asked : Asked) (book : List ℕ) (old new : Shelf)
     (told : Result DatedAnswer RepositoryFault)
-    → IsOpened (AsksDatedBy old.naming asked) book old new told
+    → IsOpened (AsksDatedBy old.naming today asked) book old new told
     → IsOpened (AsksOnceBy old.naming asked (Some [])) book old new (answer_told told)
-once_opened asked book old new (Ok dated) done = once_done asked book old new dated done
-once_opened asked book old new (Err Unseen) (refused, inl seen) =
-    (refused, inl (seen.0.answer, once_done asked book old new seen.0 seen.1))
-once_opened asked book old new (Err Unseen) (refused, inr none) = (refused, inr none)
-once_opened asked book old new (Err fault) none = none
+once_opened today asked book old new (Ok dated) done = once_done today asked book old new dated done
+once_opened today asked book old new (Err Unseen) (refused, inl seen) =
+    (refused, inl (seen.0.answer, once_done today asked book old new seen.0 seen.1))
+once_opened today asked book old new (Err Unseen) (refused, inr none) = (refused, inr none)
+once_opened today asked book old new (Err fault) none = none

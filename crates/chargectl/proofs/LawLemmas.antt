@@ -1,7 +1,7 @@
 -- Commands, one after the other, and the history that they make.
 use Rattle.std.proofs.Common.{◌≡◌, ◌≢◌, ◌∙◌, ◌⊎◌, Bool, true, false, true≢false, ℕ, List, [], ◌∷◌}
 use Rattle.std.proofs.Common.{◌++◌, Option, Some, None, Result, Ok, Err, ap, inl, inr, refl, subst}
-use Rattle.std.proofs.Common.{sym, IfErr, IfOk}
+use Rattle.std.proofs.Common.{sym, IfErr, IfOk, ℤ}
 use Rattle.std.specs.declared.alloc.AllocError.{AllocError}
 use Rattle.book_model.proofs.Std.{bytes_decides}
 use Rattle.book_model.specs.Words.{same_bytes, Book, Event, IsMadeByCalls, Naming, Outcome}
@@ -32,6 +32,8 @@ use Rattle.without_books.specs.Inputs.{Files}
 use Rattle.chargectl.specs.declared.choices.ListAnswered.{ListAnswered}
 use Rattle.chargectl.specs.declared.dated_rulings.DatedAnswer.{DatedAnswer}
 use Rattle.chargectl.specs.declared.answered.Answered.{Answered}
+use Rattle.chargectl.specs.declared.near_rulings.NearAnswer.{NearAnswer}
+use Rattle.chargectl.specs.declared.near_rulings.NearAnswer.TheVariants as nears
 use Rattle.chargectl.specs.declared.streamed_lists.StreamedList.{StreamedList}
 use Rattle.chargectl.specs.Choices.{ChoosesBy, ChoosesListed, ComesOfList, IsListFault, front_of}
 use Rattle.chargectl.specs.Choices.{list_answered}
@@ -41,10 +43,14 @@ use Rattle.chargectl.specs.Audits.{AuditsBooks, BacksUp}
 use Rattle.chargectl.specs.CommandLaws.{AreCommanded, AskedBy, AsksOfHistory, AuditsHistoryBy}
 use Rattle.chargectl.specs.CommandLaws.{AuditsOf, Commanded, ChoicesFollow, CommandsFollowHistory}
 use Rattle.chargectl.specs.CommandLaws.{DoesToHistory, Follows, IsListed, LeaveHistory, ListBy}
-use Rattle.chargectl.specs.CommandLaws.{ListOfHistory, ListsHistoryBy, ListsAskedOfHistory}
+use Rattle.chargectl.specs.CommandLaws.{NearBy, NearFollows, NearOfHistory}
+use Rattle.chargectl.specs.CommandLaws.{ListOfHistory, ListTriedBy, ListTriedOfHistory}
+use Rattle.chargectl.specs.CommandLaws.{ListsHistoryBy, ListsAskedOfHistory}
 use Rattle.chargectl.specs.CommandLaws.{ListsOfHistory, OpenedSo, RunsOn, ServesEach}
 use Rattle.chargectl.specs.CommandLaws.{ServesHistoryBy, TriedBy, TriesOfHistory, place_after}
 use Rattle.chargectl.specs.DryRuns.{ComesOfDryRun, ShowsDry, TriesAndTells, TriesOnceBy}
+use Rattle.chargectl.specs.Far.{is_far_asked}
+use Rattle.chargectl.specs.NearRulings.{AsksNear, ComesNear, RulesNear, near_answered}
 use Rattle.chargectl.specs.Requests.{Answering, Does, DoesOrRefuses, IsServiceFault, ServesBy}
 use Rattle.chargectl.specs.Requests.{SettlesBy}
 use Rattle.chargectl.specs.StreamedLists.{ListsAsked, ListsBy, WritesSomeOf, list_answer, list_of}
@@ -198,39 +204,64 @@ module _ (naming : Naming) (history : List Event) (name : List ℕ) (old new : S
       step_as (λ made so. in_any_case book name (λ same. (so.0 same).made_so.none) so.1)
       (work_on book NoEvent (none_answered naming) done)
 
+  -- what the office answered once follows the history
+  followed : (asked : Asked) (had : Option (List ℕ)) (told : Result Answer LedgerFault)
+      (made : List Event) → Makes (AsksOnceBy naming asked had told) history made
+      → Follows naming history asked had told made
+  followed asked had told made it =
+      let once = it.made_so in
+      let work = subst
+      (λ book. Asks naming asked once.dump (response_by told) false book made it.is)
+      (books_follow_history history) once.made in
+      record {
+        dump = once.dump;
+        input = once.input;
+        begun = once.begun;
+        given = once.given;
+        left = it.is;
+        work = work;
+        unmade = λ fault same apart.
+            asked_unmade naming asked once.dump fault (book_of history) made it.is
+            (subst (λ told. Asks naming asked once.dump (response_by told) false (book_of history) made
+            it.is) same work)
+            apart;
+        reads = λ read.
+            asked_reads naming asked once.dump (response_by told) (book_of history) made it.is work
+            read;
+        is = asks_done naming asked once.dump (response_by told) (book_of history) made it.is work;
+      }
+
   -- the office was asked once
   asked_on : (book : List ℕ) (asked : Asked) (had : Option (List ℕ)) (told : Result Answer LedgerFault)
       → IsDoneTo book (AsksOnceBy naming asked had told) old new
       → Step naming history name old new (Where book name (Follows naming history asked had told))
   asked_on book asked had told done =
-      step_where follows_of
+      step_where (followed asked had told)
       (work_on book (AsksOnceBy naming asked had told)
       (once_answered naming asked had (response_by told)) done)
-    where
-      follows_of : (made : List Event) → Makes (AsksOnceBy naming asked had told) history made
-          → Follows naming history asked had told made
-      follows_of made it =
-          let once = it.made_so in
-          let work = subst
-          (λ book. Asks naming asked once.dump (response_by told) false book made it.is)
-          (books_follow_history history) once.made in
-          record {
-            dump = once.dump;
-            input = once.input;
-            begun = once.begun;
-            given = once.given;
-            left = it.is;
-            work = work;
-            unmade = λ fault same apart.
-                asked_unmade naming asked once.dump fault (book_of history) made it.is
-                (subst (λ told. Asks naming asked once.dump (response_by told) false (book_of history) made
-                it.is) same work)
-                apart;
-            reads = λ read.
-                asked_reads naming asked once.dump (response_by told) (book_of history) made it.is work
-                read;
-            is = asks_done naming asked once.dump (response_by told) (book_of history) made it.is work;
-          }
+
+  -- it was asked for a ruling whose day had to be near, or not
+  near_on : (book : List ℕ) (today : Option ℤ) (asked : Asked) (near : NearAnswer)
+      → IsDoneTo book (AsksNear naming today asked near) old new
+      → Step naming history name old new (Where book name (NearFollows naming today history asked near))
+  near_on book today asked (nears.Told told) done =
+      step_where
+      (λ made it. (
+        followed asked (Some []) told made (record { is = it.is; made_so = it.made_so.once }),
+        λ free. subst (λ book. is_far_asked today asked book ≡ false) (books_follow_history history)
+            (it.made_so.near refl free),
+      ))
+      (work_on book (AsksNear naming today asked (nears.Told told))
+      (near_answered naming today asked (nears.Told told)) done)
+  near_on book today asked nears.Far done =
+      step_where
+      (λ made it. (
+        it.made_so.none.none,
+        subst (λ book. is_far_asked today asked book ≡ true) (books_follow_history history)
+            it.made_so.far,
+      ))
+      (work_on book (AsksNear naming today asked nears.Far)
+      (near_answered naming today asked nears.Far) done)
 
   -- a list was written
   listed_on : (answer : Naming → Book → Result (List ℕ) LedgerFault) (book : List ℕ)
@@ -247,28 +278,28 @@ module _ (naming : Naming) (history : List Event) (name : List ℕ) (old new : S
       (work_on book (WritesAnswerUntil answer naming held_bytes holds told)
       (listing_answered answer naming held_bytes holds told) done)
 
+  -- what chose records follows the history
+  choices_followed : (names : List (List ℕ)) (told : Result Chosen AllocError) (made : List Event)
+      → Makes (ChoosesBy naming names told) history made
+      → ChoicesFollow naming history names told made
+  choices_followed names (Ok chosen) made it =
+      let work = subst (λ book. ChoosesBy naming names (Ok chosen) false book made it.is)
+      (books_follow_history history) it.made_so in
+      record {
+        left = it.is;
+        work = work;
+        is = choices_done naming names chosen.answers.items chosen.refusal (book_of history) made it.is
+            work;
+      }
+  choices_followed names (Err none) made it = it.made_so.none
+
   -- records were chosen, one after the other
   chosen_on : (book : List ℕ) (names : List (List ℕ)) (told : Result Chosen AllocError)
       → IsDoneTo book (ChoosesBy naming names told) old new
       → Step naming history name old new (Where book name (ChoicesFollow naming history names told))
-  chosen_on book names (Ok chosen) done =
-      step_where follows_of
-      (work_on book (ChoosesBy naming names (Ok chosen)) (list_answered naming names (Ok chosen)) done)
-    where
-      follows_of : (made : List Event) → Makes (ChoosesBy naming names (Ok chosen)) history made
-          → ChoicesFollow naming history names (Ok chosen) made
-      follows_of made it =
-          let work = subst (λ book. ChoosesBy naming names (Ok chosen) false book made it.is)
-          (books_follow_history history) it.made_so in
-          record {
-            left = it.is;
-            work = work;
-            is = choices_done naming names chosen.answers.items chosen.refusal (book_of history) made it.is
-                work;
-          }
-  chosen_on book names (Err none) done =
-      step_as (λ made so. (λ same. (so.0 same).made_so.none, so.1))
-      (work_on book NoEvent (none_answered naming) done)
+  chosen_on book names told done =
+      step_where (choices_followed names told)
+      (work_on book (ChoosesBy naming names told) (list_answered naming names told) done)
 
   -- or the place refused them, for such a reason
   opened_on : {A : Type 0} (book : List ℕ) (Refuses : RepositoryFault → Type 0)
@@ -334,16 +365,50 @@ module _ (history : List Event) (name : List ℕ) (old new : Shelf)
       step_where (λ made so. record { came = it.answered; asked = so; tells = it.tells })
       (comes_on files book request it.answered it.comes)
 
+  -- a ruling whose day had to be near
+  near_comes_on : (files : Files) (book : List ℕ) (request : BookRequest)
+      (came : Result Answered CommandFault) → ComesNear files request book old new came
+      → Step old.naming history name old new
+      (Where book name (NearBy files old.naming history (Refuses book) request came))
+  near_comes_on files book request (Ok told) comes =
+      step_where (λ made follows. record {
+        asked = comes.asked;
+        words = comes.words;
+        told = comes.came.told;
+        follows = follows;
+        says = comes.came.says;
+      })
+      (opened_on old.naming history name old new answered held book (Refuses book) (follow book)
+      (AsksNear old.naming files.today comes.asked)
+      (NearFollows old.naming files.today history comes.asked)
+      (near_on old.naming history name old new answered held book files.today comes.asked)
+      comes.came.told comes.came.done)
+  near_comes_on files book request (Err why) comes =
+      step_as (λ made is. (λ _. (nothing files book request why comes.0, is), λ _. is))
+      (none_on old.naming history name old new answered held book comes.1)
+
+  near_rules_on : (files : Files) (book : List ℕ) (ruling : Ruling) (has holds : Option (List ℕ))
+      (Failed : Type 0) (ended : Ended) → RulesNear files ruling book old new has holds Failed ended
+      → Step old.naming history name old new
+      (Where book name
+      (NearOfHistory files old.naming history (Refuses book) ruling has holds Failed ended))
+  near_rules_on files book ruling has holds Failed ended it =
+      step_where (λ made so. record { came = it.answered; near = so; tells = it.tells })
+      (near_comes_on files book (asks.Rule ruling) it.answered it.comes)
+
   -- a list of choices
   list_comes_on : (had : Option (List ℕ)) (book : List ℕ) (came : Result ListAnswered CommandFault)
-      → ComesOfList had book old new came
+      → ComesOfList false had book old new came
       → Step old.naming history name old new
       (Where book name (ListBy had old.naming history (Refuses book) came))
   list_comes_on had book (Ok told) comes =
       step_where (λ made follows. record {
         names = comes.names;
+        lines = comes.lines;
         listed = comes.listed;
         all = comes.all;
+        placed = comes.placed;
+        numbered = comes.numbered;
         told = comes.came.told;
         follows = follows;
         says = comes.came.says;
@@ -364,12 +429,82 @@ module _ (history : List Event) (name : List ℕ) (old new : Shelf)
       (none_on old.naming history name old new answered held book comes.1)
 
   list_on : (had : Option (List ℕ)) (book : List ℕ) (has holds : Option (List ℕ)) (Failed : Type 0)
-      (ended : Ended) → ChoosesListed had book old new has holds Failed ended
+      (ended : Ended) → ChoosesListed false had book old new has holds Failed ended
       → Step old.naming history name old new
       (Where book name (ListOfHistory had old.naming history (Refuses book) has holds Failed ended))
   list_on had book has holds Failed ended it =
       step_where (λ made so. record { came = it.answered; listed = so; tells = it.tells })
       (list_comes_on had book it.answered it.comes)
+
+  -- or they were tried
+  names_tried : (book : List ℕ) (names : List (List ℕ))
+      (told : Result (Result Chosen AllocError) RepositoryFault)
+      → IsTried (ChoosesBy old.naming names) book old new told
+      → Step old.naming history name old new (λ made. (book ≡ name
+      → IfOk told (λ chosen. (events : List Event)
+      × ChoicesFollow old.naming history names chosen events))
+      × IfErr told (Refuses book) × (made ≡ []))
+  names_tried book names (Ok chosen) tried =
+      step_as (λ made is. (λ same. follows same, tt, is))
+      (none_on old.naming history name old new answered held book tried.0)
+    where
+      follows : book ≡ name
+          → (events : List Event) × ChoicesFollow old.naming history names chosen events
+      follows same =
+          let found = tried.1 history (subst (λ name. old.holds name history) (sym same) held) in (
+            found.0,
+            choices_followed old.naming history name old new answered held names chosen found.0
+                (record { is = found.1; made_so = found.2 }),
+          )
+  names_tried book names (Err fault) tried =
+      step_as (λ made is. (λ _. tt, follow book fault tried.0, is))
+      (none_on old.naming history name old new answered held book tried.1)
+
+  list_tried : (had : Option (List ℕ)) (book : List ℕ) (has holds : Option (List ℕ)) (Failed : Type 0)
+      (ended : Ended) → ChoosesListed true had book old new has holds Failed ended
+      → Step old.naming history name old new
+      (Where book name
+      (ListTriedOfHistory had old.naming history (Refuses book) has holds Failed ended))
+  list_tried had book has holds Failed ended it =
+      step_as (λ made so. (
+        λ same. record {
+          came = it.answered;
+          tried = so.0 same;
+          tells = it.tells;
+          none = so.1;
+        },
+        λ _. so.1,
+      ))
+      (by_came it.answered it.comes)
+    where
+      by_came : (came : Result ListAnswered CommandFault) → ComesOfList true had book old new came
+          → Step old.naming history name old new
+          (λ made. (book ≡ name
+          → ListTriedBy had old.naming history (Refuses book) came) × (made ≡ []))
+      by_came (Ok listed) comes =
+          step_as (λ made so. (
+            λ same. record {
+              names = comes.names;
+              lines = comes.lines;
+              listed = comes.listed;
+              all = comes.all;
+              placed = comes.placed;
+              numbered = comes.numbered;
+              told = comes.came.told;
+              follows = so.0 same;
+              refused = so.1;
+              says = comes.came.says;
+            },
+            so.2,
+          ))
+          (names_tried book comes.names comes.came.told comes.came.tried)
+      by_came (Err why) comes =
+          step_as (λ made is. (
+            λ _. either_as (old.refuses book) (Refuses book) (follow book)
+                (IsListFault (front_of had) why) why comes.0,
+            is,
+          ))
+          (none_on old.naming history name old new answered held book comes.1)
 
   -- books that are untouched, whatever else a command does
   still_on : (book touched : List ℕ) → IsUntouched touched old new
@@ -458,23 +593,24 @@ module _ (history : List Event) (name : List ℕ) (old new : Shelf)
       (none_on old.naming history name old new answered held book does.does.1)
 
   -- a ruling that was tried
-  tried_on : (book : List ℕ) (asked : Asked) (told : Result DatedAnswer RepositoryFault)
-      → IsTried (TriesOnceBy old.naming asked) book old new told
+  tried_on : (book : List ℕ) (today : Option ℤ) (asked : Asked)
+      (told : Result DatedAnswer RepositoryFault)
+      → IsTried (TriesOnceBy old.naming today asked) book old new told
       → Step old.naming history name old new (λ made. (book ≡ name
       → IfOk told (λ dated. is_hindered (response_by dated.answer) ≡ false
-      → ShowsDry old.naming asked (book_of history) (response_by dated.answer) dated.notice))
+      → ShowsDry old.naming today asked (book_of history) (response_by dated.answer) dated.notice))
       × IfErr told (Refuses book) × (made ≡ []))
-  tried_on book asked (Ok dated) tried =
+  tried_on book today asked (Ok dated) tried =
       step_as (λ made is. (λ same. follows same, tt, is))
       (none_on old.naming history name old new answered held book tried.0)
     where
       follows : book ≡ name → is_hindered (response_by dated.answer) ≡ false
-          → ShowsDry old.naming asked (book_of history) (response_by dated.answer) dated.notice
+          → ShowsDry old.naming today asked (book_of history) (response_by dated.answer) dated.notice
       follows same free =
           let found = tried.1 history (subst (λ name. old.holds name history) (sym same) held) in
-          subst (λ book. ShowsDry old.naming asked book (response_by dated.answer) dated.notice)
+          subst (λ book. ShowsDry old.naming today asked book (response_by dated.answer) dated.notice)
           (books_follow_history history) (found.2.shows refl free)
-  tried_on book asked (Err fault) tried =
+  tried_on book today asked (Err fault) tried =
       step_as (λ made is. (λ _. tt, follow book fault tried.0, is))
       (none_on old.naming history name old new answered held book tried.1)
 
@@ -513,7 +649,7 @@ module _ (history : List Event) (name : List ℕ) (old new : Shelf)
             },
             so.2,
           ))
-          (tried_on book comes.asked comes.came.told comes.came.tried)
+          (tried_on book files.today comes.asked comes.came.told comes.came.tried)
       by_came (Err why) comes =
           step_as (λ made is. (λ _. nothing files book (asks.Rule ruling) why comes.0, is))
           (none_on old.naming history name old new answered held book comes.1)
@@ -626,11 +762,17 @@ module _ {S : Type 0} (shelf : S → Shelf) (history : List Event) (name : List 
       list_asked history name (shelf before) (shelf after) answered held Refuses follow (list_of asked)
       book has holds Failed ended does
   does_on files book (asks.ChooseListed file) has holds Failed ended does =
-      list_on history name (shelf before) (shelf after) answered held Refuses follow (files file.now)
+      list_on history name (shelf before) (shelf after) answered held Refuses follow (files.holds file.now)
       book has holds Failed ended does
+  does_on files book (asks.TryListed file) has holds Failed ended does =
+      list_tried history name (shelf before) (shelf after) answered held Refuses follow
+      (files.holds file.now) book has holds Failed ended does
   does_on files book (asks.DryRun ruling) has holds Failed ended does =
       tries_on history name (shelf before) (shelf after) answered held Refuses follow files book ruling
       has holds Failed ended does
+  does_on files book (asks.RuleNear ruling) has holds Failed ended does =
+      near_rules_on history name (shelf before) (shelf after) answered held Refuses follow files book
+      ruling has holds Failed ended does
   does_on files book request has holds Failed ended does =
       asks_on history name (shelf before) (shelf after) answered held Refuses follow files book request
       has holds Failed ended does
@@ -667,16 +809,16 @@ runs_on files shelf waits history name old new answered held (Ok (request.OfBook
     (Where book.now name
     (DoesToHistory files naming history ((shelf old).refuses book.now) asked has holds Failed done.0))) same
     (step_from same step))
-runs_on files shelf waits history name old new answered held (Ok (request.Trial layout cpu excp fee)) had has
-    holds Failed Says status done =
+runs_on files shelf waits history name old new answered held
+    (Ok (request.Trial layout cpu excp fee whole)) had has holds Failed Says status done =
     same_place shelf history name old new answered held done.1.0
-runs_on files shelf waits history name old new answered held (Ok (request.TrialUnder layout file)) had has
-    holds Failed Says status done =
+runs_on files shelf waits history name old new answered held
+    (Ok (request.TrialUnder layout file whole)) had has holds Failed Says status done =
     same_place shelf history name old new answered held done.1.0
 runs_on files shelf waits history name old new answered held (Ok (request.Unclear why)) had has holds Failed
     Says status done =
     same_place shelf history name old new answered held done.1.0
-runs_on files shelf waits history name old new answered held (Ok (request.Check dump)) had has holds Failed
+runs_on files shelf waits history name old new answered held (Ok (request.Check dump names)) had has holds Failed
     Says status done =
     same_place shelf history name old new answered held done.1.0
 runs_on files shelf waits history name old new answered held (Ok (request.Explain kind number)) had has

@@ -1,7 +1,7 @@
 -- Lists of names that a reader gives, and choices by them.
 use Rattle.std.proofs.Common.{◌≡◌, ◌∙◌, List, [], ◌∷◌, ◌++◌, ℕ, Option, Some, None, Result, Ok, Err}
 use Rattle.std.proofs.Common.{ap, append_assoc, append-nil, inl, inr, refl, subst, sym, take}
-use Rattle.std.proofs.Common.{true≢false, option_map, ◌==◌, if◌then◌else◌, IfOk, IfSome, IsErr}
+use Rattle.std.proofs.Common.{Bool, true≢false, option_map, ◌==◌, if◌then◌else◌, IfOk, IfSome, IsErr}
 use Rattle.std.proofs.Common.{IsErrAnd, OnErr}
 use Rattle.std.proofs.KnownBytes.{Consumes-trans}
 use Rattle.std.specs.Io.Buffered.{reader_buffer, reader_capacity, reader_inner, reader_remaining}
@@ -108,10 +108,10 @@ choices_made seen old new names (Err fault) made none =
     subst (λ now. IsTransition (seen old) (seen now) NoEvent) (sym none) (no_work (seen old))
 
 -- nothing was chosen, and this is why
-pub not_listed : (had : Option (List ℕ)) (book : List ℕ) (shelf : Shelf)
+pub not_listed : (tried : Bool) (had : Option (List ℕ)) (book : List ℕ) (shelf : Shelf)
     (result : Result ListAnswered CommandFault) (found : CommandFault) → IsErr result
     → IsErrAnd result (λ why. why ≡ found) → ChoosesNothing had (shelf.refuses book) found
-    → ComesOfList had book shelf shelf result
-not_listed had book shelf (Ok answered) found bad is why = absurd (true≢false (sym bad))
-not_listed had book shelf (Err fault) found bad is why =
+    → ComesOfList tried had book shelf shelf result
+not_listed tried had book shelf (Ok answered) found bad is why = absurd (true≢false (sym bad))
+not_listed tried had book shelf (Err fault) found bad is why =
     (subst (ChoosesNothing had (shelf.refuses book)) (sym is) why, untouched book shelf)

@@ -1,10 +1,10 @@
 -- How connections are served.
 use Rattle.std.proofs.Common.{◌≡◌, ◌∙◌, ◌<◌, Bool, true, false, List, [], ◌∷◌, ◌++◌, ℕ, ◌+◌, refl, sym}
-use Rattle.std.proofs.Common.{ap, append-nil, append_assoc, get_or, length, length-append, reverse}
+use Rattle.std.proofs.Common.{ap, append-nil, append_assoc, get_or, length, length-append, reverse, suc}
 use Rattle.std.proofs.Common.{take, Option, Some, None, Result, Ok, Err, arith, inl, inr, subst}
 use Rattle.std.proofs.Common.{unwrap_or, IfErr}
 use Rattle.std.specs.Prelude.{⊤}
-use Rattle.std.proofs.lemmas.List.{reverse-append, take_more}
+use Rattle.std.proofs.lemmas.List.{length-reverse, reverse-append, take_more}
 use Rattle.streams.specs.InputOutput.{WriterSeen}
 use Rattle.book_model.specs.Words.{AreMadeOf, Book, Event, Naming}
 use Rattle.book_core.specs.Words.{MakesAnswered, Transition, NoEvent}
@@ -21,9 +21,11 @@ use Rattle.chargectl.specs.declared.client_requests.Attended.{Attended}
 use Rattle.chargectl.specs.ClientRequests.{LeavesLog, all_behind, later_of, told_behind, told_of}
 use Rattle.chargectl.specs.CommandLaws.{AnswersOrNot, OpenedSo, ServesAny, ServesEach}
 use Rattle.chargectl.specs.Requests.{IsServiceFault, Serves, WritesEarly, WritesLines}
-use Rattle.chargectl.specs.Serving.{AnswersSome, Attends, CameInTurn, CameTogether, Coming, IsServing}
-use Rattle.chargectl.specs.Serving.{IsToldOf, Replies, ServesBehind, ServesInTurn, ServesOne, line_of}
-use Rattle.chargectl.specs.Serving.{lines_of, ready, service_end}
+use Rattle.chargectl.specs.Serving.{AllCame, AnswersSome, Attends, CameInTurn, CameTogether, Coming}
+use Rattle.chargectl.specs.Serving.{IsServing, IsToldOf, Replies, ServesBehind, ServesInTurn, ServesOne}
+use Rattle.chargectl.specs.Serving.{due_after, due_from, first_due, line_of, lines_of, most_beside}
+use Rattle.chargectl.specs.Serving.{ready, service_end}
+use Rattle.chargectl.specs.declared.due.Due.{Due}
 use Rattle.chargectl.proofs.CommandLemmas.{either_as}
 use Rattle.chargectl.proofs.Words.{RepositoryFault, Unseen, Shelf, IsDoneTo, IsOpened, done_as}
 use Rattle.chargectl.proofs.Words.{CommandFault}
@@ -315,6 +317,95 @@ lines_behind held has holds first later line lines =
     subst (λ (lines : List ℕ). Gains held holds lines) (sym (lines_then later (first ∷ [])))
     (gains_then held has holds (line_of first) (lines_of later) line lines)
 
+-- those behind a client are as many as were answered behind it
+behind_count : (first : Served) (told : List Served) → length (all_behind first told) ≡ length told
+behind_count first [] = refl
+behind_count first (what ∷ before) = ap suc (behind_count first before)
+
+pub later_count : (attended : Attended) → length (later_of attended) ≡ length attended.later.items
+later_count attended =
+    behind_count attended.served (reverse attended.later.items)
+    ∙ length-reverse attended.later.items
+
+-- one more of them
+pub one_more : (items : List Served) (count : ℕ) → count < length items
+    → length (take (count + 1) items) ≡ length (take count items) + 1
+one_more items count within =
+    let what = get_or items count served.Closed in
+    ap length (take_more items count served.Closed within)
+    ∙ length-append (take count items) (what ∷ [])
+
+-- ---- how many are due
+
+-- what is due after connections that came in turn, each of which was due
+pub due_in_turn : {S C : Type 0} (shelf : S → Shelf) (sent : C → Option (List ℕ)) (due : C → Due)
+    (book : List ℕ) (first last : C) (old new : S) (told : List Served)
+    → CameInTurn shelf sent (λ before what after. due after ≡ due_after what (due before)) book first
+    last old new told
+    → due last ≡ due_from (due first) told
+due_in_turn shelf sent due book first last old new [] it = ap due it.0
+due_in_turn shelf sent due book first last old new (what ∷ before)
+    (middle, between, earlier, came, served) =
+    came
+    ∙ ap (due_after what)
+    (due_in_turn shelf sent due book first middle old between before earlier)
+
+-- what is due after one more of those behind a client
+pub due_more : (start due next : Due) (first said : Served) (items : List Served) (count : ℕ)
+    (other : Served) → count < length items
+    → due ≡ due_from start (all_behind first (reverse (take count items)) ++ first ∷ [])
+    → said ≡ told_behind first (get_or items count other) → next ≡ due_after said due
+    → next ≡ due_from start (all_behind first (reverse (take (count + 1) items)) ++ first ∷ [])
+due_more start due next first said items count other short before is counted =
+    let what = get_or items count other in
+    subst (λ (told : List Served). next ≡ due_from start (all_behind first told ++ first ∷ []))
+    (sym (ap reverse (take_more items count other short)
+    ∙ reverse-append (take count items) (what ∷ [])))
+    (counted ∙ ap (λ (said : Served). due_after said due) is
+    ∙ ap (due_after (told_behind first what)) before)
+
+-- connections of which nothing is known but how many are due may come together, whatever they send
+pub due_together : {S C : Type 0} (shelf : S → Shelf) (due : C → Due) (at : Due → C)
+    → ((left : Due) → due (at left) ≡ left) → (book : List ℕ) (first last : C) (old between new : S)
+    (what : Served) (later : List Served)
+    → ServesOne book None what (shelf old) (shelf between) → ServesBehind shelf book between new later
+    → due last ≡ due_from (due first) (later ++ what ∷ [])
+    → CameTogether shelf (λ (one : C). None)
+    (λ (before : C) (so : Served) (after : C). due after ≡ due_after so (due before)) book first last old
+    new (later ++ what ∷ [])
+due_together shelf due at same book first last old between new what [] done still ends = (
+  first,
+  old,
+  (refl, refl),
+  ends,
+  subst (λ place. ServesOne book None what (shelf old) (shelf place)) (sym still) done,
+)
+due_together shelf due at same book first last old between new what (so ∷ before) done
+    (place, earlier, served) ends =
+    let left = due_from (due first) (before ++ what ∷ []) in (
+      at left,
+      place,
+      due_together shelf due at same book first (at left) old between place what before done earlier
+          (same left),
+      ends ∙ ap (due_after so) (sym (same left)),
+      served,
+    )
+
+-- where none is left of those that were due at first, all came
+pub all_came : (requests : ℕ) (told : List Served) (first last : Due) → first ≡ first_due requests
+    → last ≡ due_from first told → last.left ≡ 0
+    → (last.left + last.beside) + length told ≡ first.left + first.beside → AllCame requests told
+all_came requests told first last begun ends none count =
+    let at = first_due requests in
+    let same : last ≡ due_from at told = ends ∙ ap (λ due. due_from due told) begun in
+    let counted : (last.left + last.beside) + length told ≡ requests + most_beside =
+    subst (λ (due : Due). (last.left + last.beside) + length told ≡ due.left + due.beside) begun count in
+    let each : last.beside + length told ≡ requests + most_beside = omega (arith, counted, none) in
+    record {
+      none = ap (λ (due : Due). due.left) (sym same) ∙ none;
+      each = subst (λ (due : Due). due.beside + length told ≡ requests + most_beside) same each;
+    }
+
 -- a log is as the last client left it, or as it was before
 pub log_left : {S : Type 0} (shelf : S → Shelf) (book : List ℕ) (old new : S) (was : Bool)
     (left : Option Bool) → (shelf old).has_log book was → LeavesLog shelf book old new left
@@ -401,8 +492,9 @@ pub serves_all : {S C : Type 0} {sent : C → Option (List ℕ)} {may_come : Com
     {from to : C} (shelf : S → Shelf) (book : List ℕ) (old new : S) (requests : ℕ)
     (held holds : Option (List ℕ)) (Failed : Type 0) (first before after : WriterSeen)
     (failed : Bool) (ended : Ended) (has_log : Bool)
-    → first ≡ unfailed held → Gains first before ready → left from ≡ requests → left to ≡ 0
-    → IsServing shelf sent may_come left from to book old new before after
+    → first ≡ unfailed held → Gains first before ready
+    → (it : IsServing shelf sent may_come left from to book old new before after)
+    → AllCame requests it.told
     → holds ≡ after.holds → failed ≡ after.has_failed → (after.has_failed ≡ true → Failed)
     → ended ≡ record {
       came = service_end (Ok failed);
@@ -413,14 +505,14 @@ pub serves_all : {S C : Type 0} {sent : C → Option (List ℕ)} {may_come : Com
     → (shelf new).has_log book has_log
     → Serves shelf (λ _. ⊥) requests book old new held holds Failed ended
 serves_all shelf book old new requests held holds Failed first before after failed ended has_log begun
-    said all none it bytes flag lost is log =
+    said it all bytes flag lost is log =
     subst (λ ended. Serves shelf (λ _. ⊥) requests book old new held holds Failed ended) (sym is)
     (record {
       told = it.told;
       turn = turn_of shelf book old new before after it;
       served = Ok failed;
       all = (
-        (let counted = it.count in omega (arith, counted, all, none)),
+        all,
         subst (λ failed. WritesLines it.told held holds failed) (sym flag)
             (lines_written held holds first before after it.told begun said it.lines bytes),
         λ told. lost (sym flag ∙ told),

@@ -1,7 +1,7 @@
 -- Commands, one after the other, on books that are kept by their names: each tells what the definitions
 -- give for the whole history before it.
 use Rattle.std.specs.Prelude.{◌≡◌, ◌≢◌, ⊤, Bool, false, ℕ, List, [], ◌∷◌, ◌++◌, Option, None, Some}
-use Rattle.std.specs.Prelude.{IfErr, IfOk, OnErr, OnOk, Result, Ok, Err, String, length, true}
+use Rattle.std.specs.Prelude.{IfErr, IfOk, OnErr, OnOk, Result, Ok, Err, String, true, ℤ}
 use Rattle.std.specs.Global.{Global}
 use Rattle.std.specs.declared.alloc.AllocError.{AllocError}
 use Rattle.streams.specs.Failures.{HasFailed}
@@ -45,14 +45,18 @@ use Rattle.chargectl.specs.declared.dated_rulings.DatedAnswer.{DatedAnswer}
 use Rattle.chargectl.specs.declared.answered.Answered.{Answered}
 use Rattle.chargectl.specs.declared.streamed_lists.StreamedList.{StreamedList}
 use Rattle.chargectl.specs.Audits.{EndsAudit}
-use Rattle.chargectl.specs.Choices.{AreAllOf, AreListed, ChoosesNothing, TellsList, chosen_of}
-use Rattle.chargectl.specs.Choices.{front_of}
+use Rattle.chargectl.specs.Choices.{AreAllOf, AreLinesOf, AreListed, ChoosesNothing, TellsList}
+use Rattle.chargectl.specs.Choices.{chosen_of, front_of}
 use Rattle.chargectl.specs.Commands.{AsksNothing, HasDump, IsAskedBy, IsShelfFault, Tells, answer_of}
 use Rattle.chargectl.specs.Commands.{answer_told, first_fault, may_change, notice_of}
+use Rattle.chargectl.specs.declared.near_rulings.NearAnswer.{NearAnswer}
+use Rattle.chargectl.specs.declared.near_rulings.NearAnswer.TheVariants as nears
 use Rattle.chargectl.specs.DryRuns.{ShowsDry}
+use Rattle.chargectl.specs.Far.{is_far_asked}
+use Rattle.chargectl.specs.NearRulings.{near_answer_of}
 use Rattle.chargectl.specs.Requests.{Answering, CommandsBy, IsServiceFault, WritesEarly, WritesLines}
 use Rattle.chargectl.specs.StreamedLists.{WritesSomeOf, list_answer, list_end, list_of}
-use Rattle.chargectl.specs.Serving.{AnswersSome, IsToldOf, service_end}
+use Rattle.chargectl.specs.Serving.{AllCame, AnswersSome, IsToldOf, service_end}
 
 -- a command: its words, its input, its output and standard error before and after it, its status, and
 -- the place of the books after it; and what the files that it may read held
@@ -144,7 +148,7 @@ pub record TriedOn (files : Files) (naming : Naming) (history : List Event)
   pub words : IsAskedBy files request asked
   pub told : Result DatedAnswer RepositoryFault
   pub follows : IfOk told (λ dated. is_hindered (response_by dated.answer) ≡ false
-      → ShowsDry naming asked (book_of history) (response_by dated.answer) dated.notice)
+      → ShowsDry naming files.today asked (book_of history) (response_by dated.answer) dated.notice)
   pub refused : IfErr told Refuses
   pub says : answered.answer ≡ answer_of (answer_told told)
   pub notice : answered.notice ≡ notice_of told
@@ -164,6 +168,42 @@ pub record TriesOfHistory (files : Files) (naming : Naming) (history : List Even
   pub tried : TriedBy files naming history Refuses (book.Rule ruling) came
   pub tells : Tells came held holds Failed ended
   pub none : made ≡ []
+
+-- After a history a ruling was asked for whose day had to be near, and so it was told, as any ruling: its
+-- day is not far from the history, unless a lack of memory or the store hindered it. Or it is far, and
+-- nothing was made.
+abbrev pub NearFollows : Naming → Option ℤ → List Event → Asked → NearAnswer → List Event → Type 0
+NearFollows naming today history asked (nears.Told told) made =
+    Follows naming history asked (Some []) told made
+    × (is_hindered (response_by told) ≡ false → is_far_asked today asked (book_of history) ≡ false)
+NearFollows naming today history asked nears.Far made =
+    (made ≡ []) × (is_far_asked today asked (book_of history) ≡ true)
+
+-- what the words ask was asked for so
+pub record NearOn (files : Files) (naming : Naming) (history : List Event)
+    (Refuses : RepositoryFault → Type 0) (request : BookRequest) (answered : Answered)
+    (made : List Event) : Type 0 where
+  pub asked : Asked
+  pub words : IsAskedBy files request asked
+  pub told : Result NearAnswer RepositoryFault
+  pub follows : OpenedSo Refuses (NearFollows naming files.today history asked) told made
+  pub says : answered.answer ≡ near_answer_of told
+
+-- or nothing was
+abbrev pub NearBy : Files → Naming → List Event → (RepositoryFault → Type 0) → BookRequest
+    → Result Answered CommandFault → List Event → Type 0
+NearBy files naming history Refuses request (Ok answered) made =
+    NearOn files naming history Refuses request answered made
+NearBy files naming history Refuses request (Err why) made =
+    AsksNothing files request Refuses why × (made ≡ [])
+
+-- and that was written
+pub record NearOfHistory (files : Files) (naming : Naming) (history : List Event)
+    (Refuses : RepositoryFault → Type 0) (ruling : Ruling) (held holds : Option (List ℕ))
+    (Failed : Type 0) (ended : Ended) (made : List Event) : Type 0 where
+  pub came : Result Answered CommandFault
+  pub near : NearBy files naming history Refuses (book.Rule ruling) came made
+  pub tells : Tells came held holds Failed ended
 
 -- After a history the records of these names were chosen, one after the other, which made these events:
 -- those of the choices that were answered, and of one that a fault of the store hindered maybe its own.
@@ -191,8 +231,11 @@ ChoicesFollow naming history names (Err none) made = made ≡ []
 pub record ListOf (had : Option (List ℕ)) (naming : Naming) (history : List Event)
     (Refuses : RepositoryFault → Type 0) (answered : ListAnswered) (made : List Event) : Type 0 where
   pub names : List (List ℕ)
-  pub listed : AreListed names
+  pub lines : List ℕ
+  pub listed : AreListed names lines
   pub all : AreAllOf (front_of had) names
+  pub placed : AreLinesOf (front_of had) lines
+  pub numbered : answered.lines.items ≡ lines
   pub told : Result (Result Chosen AllocError) RepositoryFault
   pub follows : OpenedSo Refuses (ChoicesFollow naming history names) told made
   pub says : answered.chosen ≡ chosen_of told
@@ -211,6 +254,37 @@ pub record ListOfHistory (had : Option (List ℕ)) (naming : Naming) (history : 
   pub came : Result ListAnswered CommandFault
   pub listed : ListBy had naming history Refuses came made
   pub tells : TellsList came held holds Failed ended
+
+-- The names of a list, in a file that had these bytes, were chosen on a copy of the books of a history, and so
+-- it was told: as if they had been chosen.
+pub record ListTriedOf (had : Option (List ℕ)) (naming : Naming) (history : List Event)
+    (Refuses : RepositoryFault → Type 0) (answered : ListAnswered) : Type 0 where
+  pub names : List (List ℕ)
+  pub lines : List ℕ
+  pub listed : AreListed names lines
+  pub all : AreAllOf (front_of had) names
+  pub placed : AreLinesOf (front_of had) lines
+  pub numbered : answered.lines.items ≡ lines
+  pub told : Result (Result Chosen AllocError) RepositoryFault
+  pub follows : IfOk told (λ chosen. (events : List Event)
+      × ChoicesFollow naming history names chosen events)
+  pub refused : IfErr told Refuses
+  pub says : answered.chosen ≡ chosen_of told
+
+-- or none were
+abbrev pub ListTriedBy : Option (List ℕ) → Naming → List Event → (RepositoryFault → Type 0)
+    → Result ListAnswered CommandFault → Type 0
+ListTriedBy had naming history Refuses (Ok answered) = ListTriedOf had naming history Refuses answered
+ListTriedBy had naming history Refuses (Err why) = ChoosesNothing had Refuses why
+
+-- that was written, and no event was made
+pub record ListTriedOfHistory (had : Option (List ℕ)) (naming : Naming) (history : List Event)
+    (Refuses : RepositoryFault → Type 0) (held holds : Option (List ℕ)) (Failed : Type 0)
+    (ended : Ended) (made : List Event) : Type 0 where
+  pub came : Result ListAnswered CommandFault
+  pub tried : ListTriedBy had naming history Refuses came
+  pub tells : TellsList came held holds Failed ended
+  pub none : made ≡ []
 
 -- One client was replied to, and these events were made; or the place refused the books, for any reason.
 pub record AnswersOrNot (naming : Naming) (what : Served) (was : Bool) (before : Book)
@@ -241,7 +315,7 @@ pub record ServesHistory (naming : Naming) (history : List Event)
   pub is : Bool
   pub made_so : ServesEach naming told false (book_after history) made is
   pub served : Result Bool CommandFault
-  pub all : IfOk served (λ failed. (length told ≡ requests) × WritesLines told held holds failed
+  pub all : IfOk served (λ failed. AllCame requests told × WritesLines told held holds failed
       × (failed ≡ true → Failed))
   pub early : OnErr served (WritesEarly told held holds)
   pub cause : IfErr served (IsServiceFault Refuses)
@@ -353,9 +427,13 @@ DoesToHistory files naming history Refuses (book.Serve port requests) held holds
 DoesToHistory files naming history Refuses (book.List asked) held holds Failed ended made =
     ListsAskedOfHistory (list_of asked) naming history Refuses held holds ended made
 DoesToHistory files naming history Refuses (book.ChooseListed file) held holds Failed ended made =
-    ListOfHistory (files file.now) naming history Refuses held holds Failed ended made
+    ListOfHistory (files.holds file.now) naming history Refuses held holds Failed ended made
+DoesToHistory files naming history Refuses (book.TryListed file) held holds Failed ended made =
+    ListTriedOfHistory (files.holds file.now) naming history Refuses held holds Failed ended made
 DoesToHistory files naming history Refuses (book.DryRun ruling) held holds Failed ended made =
     TriesOfHistory files naming history Refuses ruling held holds Failed ended made
+DoesToHistory files naming history Refuses (book.RuleNear ruling) held holds Failed ended made =
+    NearOfHistory files naming history Refuses ruling held holds Failed ended made
 DoesToHistory files naming history Refuses asked held holds Failed ended made =
     AsksOfHistory files naming history Refuses asked held holds Failed ended made
 

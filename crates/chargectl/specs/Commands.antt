@@ -1,6 +1,6 @@
 -- What each command on books asks of the office, what is written, and how it ends.
 use Rattle.std.specs.Prelude.{◌≡◌, ◌⊎◌, ⊤, Bool, true, false, ℕ, List, [], Option, Some, None}
-use Rattle.std.specs.Prelude.{Result, Ok, Err, IfSome, string_bytes, option_and_then, option_map}
+use Rattle.std.specs.Prelude.{Result, Ok, Err, IfSome, string_bytes, option_and_then, option_map, ℤ}
 use Rattle.std.specs.Borrow.{Bor}
 use Rattle.std.specs.Io.KnownBytes.{Keeps}
 use Rattle.streams.specs.InputOutput.{Input}
@@ -25,13 +25,16 @@ use Rattle.command_line.specs.declared.request.Ruling.{Ruling}
 use Rattle.command_line.specs.declared.request.Words.{Words}
 use Rattle.report_rows.specs.ReportRows.{report_about}
 use Rattle.report_rows.specs.declared.about.About.{About}
+use Rattle.program_output.specs.Marks.{is_receipt_torn}
 use Rattle.program_output.specs.Names.{name_in}
 use Rattle.without_books.specs.declared.command_fault.CommandFault.{CommandFault}
 use Rattle.without_books.specs.declared.ended.Ended.{Ended}
 use Rattle.without_books.specs.declared.notice.Notice.{Notice}
 use Rattle.without_books.specs.Faults.{end_of, shelf_fault, without_log}
-use Rattle.without_books.specs.FirstBytes.{IsLookedAt, layout_notice}
+use Rattle.without_books.specs.DumpEnds.{dump_notice}
+use Rattle.without_books.specs.FirstBytes.{IsLookedAt}
 use Rattle.without_books.specs.Inputs.{Files}
+use Rattle.without_books.specs.Reading.{IsUnfit}
 use Rattle.chargectl.specs.declared.dated_rulings.DatedAnswer.{DatedAnswer}
 use Rattle.chargectl.specs.declared.answered.Answered.{Answered}
 use Rattle.chargectl.specs.Far.{far_notice}
@@ -75,7 +78,7 @@ what_if_of form period = option_map (what_if_for form period.number) (asked_cent
 abbrev pub IsAskedBy : Files → BookRequest → Asked → Type 0
 IsAskedBy files (book.Import dump) (asks.Import layout) = layout ≡ dump.layout
 IsAskedBy files (book.Rule (ruling.Tariff file)) (asks.Rule (owned.Tariff text)) =
-    IfSome (files file.now) (λ held. string_bytes text ≡ held)
+    IfSome (files.holds file.now) (λ held. string_bytes text ≡ held)
 IsAskedBy files (book.Rule (ruling.Close period date)) (asks.Rule (owned.Close number through)) =
     (number ≡ period) × (day_of_text_of date.now ≡ Some through)
 IsAskedBy files (book.Rule (ruling.Choose name)) (asks.Rule (owned.Choose chosen)) =
@@ -83,7 +86,8 @@ IsAskedBy files (book.Rule (ruling.Choose name)) (asks.Rule (owned.Choose chosen
 IsAskedBy files (book.Rule ruling.Adopt) (asks.Rule (owned.Adopt rule)) = rule ≡ 2
 IsAskedBy files (book.Report said) (asks.Report printed) = report_of said ≡ Some printed
 IsAskedBy files (book.WhatIf form period file) (asks.WhatIf report text) =
-    (what_if_of form period ≡ Some report) × IfSome (files file.now) (λ held. string_bytes text ≡ held)
+    (what_if_of form period ≡ Some report)
+    × IfSome (files.holds file.now) (λ held. string_bytes text ≡ held)
 IsAskedBy files request asked = ⊥
 
 -- it may change the books: a report may not, by whatever prices it is
@@ -113,22 +117,22 @@ abbrev pub AsksOnceBy : Naming → Asked → Option (List ℕ) → Result Answer
 AsksOnceBy naming asked had told = AsksOnce naming asked had (response_by told)
 
 -- The office was asked for a ruling once, which has no dump, and answered this; and this was noticed of
--- its day, by the book before it.
-pub record AsksDated (naming : Naming) (asked : Asked) (told : Result Response LedgerFault)
-    (noticed : Option Notice) (was : Bool) (before : Book) (events : List Event) (is : Bool) : Type 0
-  where
-    pub once : AsksOnce naming asked (Some []) told was before events is
-    pub notice : noticed ≡ far_notice asked before told
+-- its day, as it is seen today, by the book before it.
+pub record AsksDated (naming : Naming) (today : Option ℤ) (asked : Asked)
+    (told : Result Response LedgerFault) (noticed : Option Notice) (was : Bool) (before : Book)
+    (events : List Event) (is : Bool) : Type 0 where
+  pub once : AsksOnce naming asked (Some []) told was before events is
+  pub notice : noticed ≡ far_notice today asked before told
 
 -- what a visit to the books did that asked for it, by what came of it
-abbrev pub AsksDatedBy : Naming → Asked → DatedAnswer → Transition
-AsksDatedBy naming asked dated =
-    AsksDated naming asked (response_by dated.answer) dated.notice
+abbrev pub AsksDatedBy : Naming → Option ℤ → Asked → DatedAnswer → Transition
+AsksDatedBy naming today asked dated =
+    AsksDated naming today asked (response_by dated.answer) dated.notice
 
 -- it makes events that the books answered
-pub dated_answered : (naming : Naming) (asked : Asked) (dated : DatedAnswer)
-    → MakesAnswered naming (AsksDatedBy naming asked dated)
-dated_answered naming asked dated book was events is made =
+pub dated_answered : (naming : Naming) (today : Option ℤ) (asked : Asked) (dated : DatedAnswer)
+    → MakesAnswered naming (AsksDatedBy naming today asked dated)
+dated_answered naming today asked dated book was events is made =
     once_answered naming asked (Some []) (response_by dated.answer) book was events is made.once
 
 -- the answer to a ruling of a day
@@ -181,9 +185,10 @@ IsWordFault (Some read) IsLater why = IsLater why
 
 -- why a command asks nothing, of books that are refused for these reasons
 abbrev pub AsksNothing : Files → BookRequest → (RepositoryFault → Type 0) → CommandFault → Type 0
-AsksNothing files (book.Import dump) Refuses why = IsShelfFault Refuses why ⊎ IsFileFault why
+AsksNothing files (book.Import dump) Refuses why =
+    IsShelfFault Refuses why ⊎ IsUnfit (files.holds dump.file.now) dump.layout dump.whole why
 AsksNothing files (book.Rule (ruling.Tariff file)) Refuses why =
-    IsTariffFault (files file.now) Refuses why
+    IsTariffFault (files.holds file.now) Refuses why
 AsksNothing files (book.Rule (ruling.Close period date)) Refuses why =
     IsWordFault (day_of_text_of date.now) (IsShelfFault Refuses) why
 AsksNothing files (book.Rule (ruling.Choose name)) Refuses why =
@@ -191,38 +196,39 @@ AsksNothing files (book.Rule (ruling.Choose name)) Refuses why =
 AsksNothing files (book.Report said) Refuses why =
     IsWordFault (report_of said) (IsShelfFault Refuses) why
 AsksNothing files (book.WhatIf form period file) Refuses why =
-    IsWordFault (what_if_of form period) (IsTariffFault (files file.now) Refuses) why
+    IsWordFault (what_if_of form period) (IsTariffFault (files.holds file.now) Refuses) why
 AsksNothing files request Refuses why = IsShelfFault Refuses why
 
--- what an import notices of a dump that looked misread or not
-abbrev pub answer_notice : Bool → Result Answer CommandFault → Option Notice
-answer_notice looked (Ok (answers.Receipt receipt)) = layout_notice looked receipt.stop
-answer_notice looked told = None
+-- what an import notices of a dump that had to be whole or not, and looked misread or not
+abbrev pub answer_notice : Bool → Bool → Result Answer CommandFault → Option Notice
+answer_notice whole looked (Ok (answers.Receipt receipt)) =
+    dump_notice whole looked (is_receipt_torn receipt) receipt.stop
+answer_notice whole looked told = None
 
 -- The books of a name were opened and the office was asked for a ruling of a day, and this was answered
 -- and noticed.
-pub record IsDated (asked : Asked) (book : List ℕ) (old new : Shelf) (answered : Answered) : Type 0
-  where
-    pub told : Result DatedAnswer RepositoryFault
-    pub done : IsOpened (AsksDatedBy old.naming asked) book old new told
-    pub says : answered.answer ≡ answer_of (answer_told told)
-    pub notice : answered.notice ≡ notice_of told
+pub record IsDated (today : Option ℤ) (asked : Asked) (book : List ℕ) (old new : Shelf)
+    (answered : Answered) : Type 0 where
+  pub told : Result DatedAnswer RepositoryFault
+  pub done : IsOpened (AsksDatedBy old.naming today asked) book old new told
+  pub says : answered.answer ≡ answer_of (answer_told told)
+  pub notice : answered.notice ≡ notice_of told
 
 -- What a command noticed beside its answer: of a tariff and a close whether the day is far, of an import
--- the layout, of others nothing.
+-- whether the dump looked misread or is torn, of others nothing.
 abbrev pub IsNoticedBy : Files → BookRequest → Asked → List ℕ → Shelf → Shelf → Answered → Type 0
 IsNoticedBy files (book.Rule (ruling.Tariff file)) asked name old new answered =
-    IsDated asked name old new answered
+    IsDated files.today asked name old new answered
 IsNoticedBy files (book.Rule (ruling.Close period date)) asked name old new answered =
-    IsDated asked name old new answered
+    IsDated files.today asked name old new answered
 IsNoticedBy files (book.Import dump) asked name old new answered =
-    (looked : Bool) × IsLookedAt dump.layout (files dump.file.now) looked
-    × (answered.notice ≡ answer_notice looked answered.answer)
+    (looked : Bool) × IsLookedAt dump.layout (files.holds dump.file.now) looked
+    × (answered.notice ≡ answer_notice dump.whole looked answered.answer)
 IsNoticedBy files request asked name old new answered = answered.notice ≡ None
 
 -- what the reader of a request had: of an import, what the file of its dump holds
 abbrev pub HasDump : Files → BookRequest → Option (List ℕ) → Type 0
-HasDump files (book.Import dump) had = Keeps (files dump.file.now) had
+HasDump files (book.Import dump) had = Keeps (files.holds dump.file.now) had
 HasDump files request had = ⊤
 
 -- a ruling has a day, which may be far from the records

@@ -1,6 +1,6 @@
 -- Dry runs: a ruling is tried on a copy of the books. What is answered by the books as they are, what
 -- is done to the copy, and what is told of it.
-use Rattle.std.specs.Prelude.{◌≡◌, ◌⊎◌, Bool, false, ℕ, List, [], Option, None}
+use Rattle.std.specs.Prelude.{◌≡◌, ◌⊎◌, Bool, false, ℕ, ℤ, List, [], Option, None}
 use Rattle.std.specs.Prelude.{Result, Ok, Err, IfOk, Vec, string_bytes}
 use Rattle.std.specs.Global.{Global}
 use Rattle.std.proofs.Common.{inl, inr, sym, subst}
@@ -101,10 +101,10 @@ abbrev pub ruled_told : Naming → Asked → Book → Result Response LedgerFaul
 ruled_told naming asked book = (asked_outcome naming asked (dump_here asked) book).told
 
 -- that is told, and the day of the ruling is noticed as if it were in force
-pub record ShowsDry (naming : Naming) (asked : Asked) (book : Book) (told : Result Response LedgerFault)
-    (noticed : Option Notice) : Type 0 where
+pub record ShowsDry (naming : Naming) (today : Option ℤ) (asked : Asked) (book : Book)
+    (told : Result Response LedgerFault) (noticed : Option Notice) : Type 0 where
   pub told_so : TellsDry naming asked book told
-  pub notice : noticed ≡ far_notice asked book (ruled_told naming asked book)
+  pub notice : noticed ≡ far_notice today asked book (ruled_told naming asked book)
 
 -- the ruling was asked for, whatever it was answered
 pub record IsRuled (naming : Naming) (asked : Asked) (was : Bool) (before : Book) (events : List Event)
@@ -125,21 +125,21 @@ IsDryAnswer dated = IsTextOrFault dated.answer dated.notice
 
 -- A ruling was tried once on open books, and this was told and noticed, unless a lack of memory or the
 -- store hindered it. Of the books it made what the ruling makes, or nothing.
-pub record TriesOnce (naming : Naming) (asked : Asked) (told : Result Response LedgerFault)
-    (noticed : Option Notice) (was : Bool) (before : Book) (events : List Event) (is : Bool) : Type 0
-  where
-    pub shows : was ≡ false → is_hindered told ≡ false → ShowsDry naming asked before told noticed
-    pub made : (events ≡ []) ⊎ IsRuled naming asked was before events
+pub record TriesOnce (naming : Naming) (today : Option ℤ) (asked : Asked)
+    (told : Result Response LedgerFault) (noticed : Option Notice) (was : Bool) (before : Book)
+    (events : List Event) (is : Bool) : Type 0 where
+  pub shows : was ≡ false → is_hindered told ≡ false → ShowsDry naming today asked before told noticed
+  pub made : (events ≡ []) ⊎ IsRuled naming asked was before events
 
 -- what a visit to the copy did that tried this once, by what came of it
-abbrev pub TriesOnceBy : Naming → Asked → DatedAnswer → Transition
-TriesOnceBy naming asked dated =
-    TriesOnce naming asked (response_by dated.answer) dated.notice
+abbrev pub TriesOnceBy : Naming → Option ℤ → Asked → DatedAnswer → Transition
+TriesOnceBy naming today asked dated =
+    TriesOnce naming today asked (response_by dated.answer) dated.notice
 
 -- it makes events that the books answered
-pub tried_answered : (naming : Naming) (asked : Asked) (dated : DatedAnswer)
-    → MakesAnswered naming (TriesOnceBy naming asked dated)
-tried_answered naming asked dated book was events is once = made_answered once.made
+pub tried_answered : (naming : Naming) (today : Option ℤ) (asked : Asked) (dated : DatedAnswer)
+    → MakesAnswered naming (TriesOnceBy naming today asked dated)
+tried_answered naming today asked dated book was events is once = made_answered once.made
   where
     made_answered : (events ≡ []) ⊎ IsRuled naming asked was book events
         → AreMadeOf naming book events
@@ -149,23 +149,23 @@ tried_answered naming asked dated book was events is once = made_answered once.m
         ruled.left ruled.made
 
 -- The books of a name were visited as a copy, and this was tried on it once: they are as they were.
-pub record IsTriedOnce (asked : Asked) (book : List ℕ) (old new : Shelf) (answered : Answered) : Type 0
-  where
-    pub told : Result DatedAnswer RepositoryFault
-    pub tried : IsTried (TriesOnceBy old.naming asked) book old new told
-    pub form : IfOk told IsDryAnswer
-    pub there : IsThere book old new told
-    pub says : answered.answer ≡ answer_of (answer_told told)
-    pub notice : answered.notice ≡ notice_of told
-    pub log : new.has_log book answered.has_log
-    pub change : answered.is_change ≡ false
+pub record IsTriedOnce (today : Option ℤ) (asked : Asked) (book : List ℕ) (old new : Shelf)
+    (answered : Answered) : Type 0 where
+  pub told : Result DatedAnswer RepositoryFault
+  pub tried : IsTried (TriesOnceBy old.naming today asked) book old new told
+  pub form : IfOk told IsDryAnswer
+  pub there : IsThere book old new told
+  pub says : answered.answer ≡ answer_of (answer_told told)
+  pub notice : answered.notice ≡ notice_of told
+  pub log : new.has_log book answered.has_log
+  pub change : answered.is_change ≡ false
 
 -- a command tried what its words ask
 pub record Trying (files : Files) (request : BookRequest) (book : List ℕ) (old new : Shelf)
     (answered : Answered) : Type 0 where
   pub asked : Asked
   pub words : IsAskedBy files request asked
-  pub came : IsTriedOnce asked book old new answered
+  pub came : IsTriedOnce files.today asked book old new answered
 
 -- What came of a dry run: just what the words ask was tried, once; or there was a fault before, which
 -- the command without a dry run would have found.

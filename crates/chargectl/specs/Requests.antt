@@ -1,5 +1,5 @@
 -- What the program does: for each request, and for words that are none.
-use Rattle.std.specs.Prelude.{◌≡◌, ◌⊎◌, Bool, true, ℕ, List, [], ◌∷◌, ◌++◌, length, Option, None}
+use Rattle.std.specs.Prelude.{◌≡◌, ◌⊎◌, Bool, true, false, ℕ, List, [], ◌∷◌, ◌++◌, Option, None}
 use Rattle.std.specs.Prelude.{IfErr, IfOk, OnErr, Result, Ok, Err, String, string_bytes}
 use Rattle.std.specs.Global.{Global}
 use Rattle.std.specs.declared.io.Error.{Error}
@@ -31,9 +31,10 @@ use Rattle.chargectl.specs.Audits.{AuditsBooks, BacksUp}
 use Rattle.chargectl.specs.Choices.{ChoosesListed}
 use Rattle.chargectl.specs.Commands.{AsksAndTells, IsRefusedBy, IsShelfFault}
 use Rattle.chargectl.specs.DryRuns.{TriesAndTells}
+use Rattle.chargectl.specs.NearRulings.{RulesNear}
 use Rattle.chargectl.specs.StreamedLists.{ListsAsked, list_of}
 use Rattle.chargectl.specs.Upgrades.{UpgradesBy}
-use Rattle.chargectl.specs.Serving.{ServesInTurn, lines_of, ready, service_end}
+use Rattle.chargectl.specs.Serving.{AllCame, ServesInTurn, lines_of, ready, service_end}
 
 -- new books were made, or not, and nothing was written
 pub record Makes (book : List ℕ) (old new : Shelf) (held holds : Option (List ℕ)) (ended : Ended)
@@ -67,7 +68,7 @@ pub record Serves {S : Type 0} (shelf : S → Shelf) (Refuses : RepositoryFault 
   pub told : List Served
   pub turn : ServesInTurn shelf book old new told
   pub served : Result Bool CommandFault
-  pub all : IfOk served (λ failed. (length told ≡ requests) × WritesLines told held holds failed
+  pub all : IfOk served (λ failed. AllCame requests told × WritesLines told held holds failed
       × (failed ≡ true → Failed))
   pub early : OnErr served (WritesEarly told held holds)
   pub cause : IfErr served (IsServiceFault Refuses)
@@ -106,9 +107,13 @@ Does files shelf (book.Serve port requests) name old new held holds Failed ended
 Does files shelf (book.List asked) name old new held holds Failed ended =
     SettlesBy (ListsAsked (list_of asked) name (shelf old) (shelf new) held holds Failed) ended
 Does files shelf (book.ChooseListed file) name old new held holds Failed ended =
-    ChoosesListed (files file.now) name (shelf old) (shelf new) held holds Failed ended
+    ChoosesListed false (files.holds file.now) name (shelf old) (shelf new) held holds Failed ended
+Does files shelf (book.TryListed file) name old new held holds Failed ended =
+    ChoosesListed true (files.holds file.now) name (shelf old) (shelf new) held holds Failed ended
 Does files shelf (book.DryRun ruling) name old new held holds Failed ended =
     TriesAndTells files ruling name (shelf old) (shelf new) held holds Failed ended
+Does files shelf (book.RuleNear ruling) name old new held holds Failed ended =
+    RulesNear files ruling name (shelf old) (shelf new) held holds Failed ended
 Does files shelf asked name old new held holds Failed ended =
     AsksAndTells files asked name (shelf old) (shelf new) held holds Failed ended
 
@@ -140,12 +145,13 @@ pub record WaitsAndDoes {S : Type 0} (files : Files) (shelf : S → Shelf) (wait
 -- The table of the commands.
 abbrev pub Runs : {S : Type 0} → Files → (S → Shelf) → (S → ℕ → Type 0) → S → S → Request
     → Option (List ℕ) → Option (List ℕ) → Option (List ℕ) → Type 0 → Ended → Type 0
-Runs files shelf waits old new (request.Trial layout cpu excp fee) had held holds Failed ended =
-    (new ≡ old) × TriesAt layout cpu excp fee had held holds Failed ended
-Runs files shelf waits old new (request.TrialUnder layout file) had held holds Failed ended =
-    (new ≡ old) × TriesUnder (files file.now) layout had held holds Failed ended
-Runs files shelf waits old new (request.Check dump) had held holds Failed ended =
-    (new ≡ old) × Checks (files dump.file.now) dump.layout held holds Failed ended
+Runs files shelf waits old new (request.Trial layout cpu excp fee whole) had held holds Failed ended =
+    (new ≡ old) × TriesAt layout whole cpu excp fee had held holds Failed ended
+Runs files shelf waits old new (request.TrialUnder layout file whole) had held holds Failed ended =
+    (new ≡ old) × TriesUnder (files.holds file.now) layout whole had held holds Failed ended
+Runs files shelf waits old new (request.Check dump names) had held holds Failed ended =
+    (new ≡ old)
+    × Checks (files.holds dump.file.now) dump.layout dump.whole names held holds Failed ended
 Runs files shelf waits old new (request.Explain kind number) had held holds Failed ended =
     (new ≡ old) × EndsAt (TellsOf (kind_of kind) number held holds Failed) ended
 Runs files shelf waits old new (request.OfBooks name wait asked) had held holds Failed ended =

@@ -1,15 +1,18 @@
 -- How connections are served: each in turn, with one line for each. A line that can't be written is
 -- lost, and so are those after it; the connections are served all the same.
-use Rattle.std.specs.Prelude.{◌≡◌, ◌+◌, Bool, true, false, ℕ, List, [], ◌∷◌, ◌++◌, codes, length}
-use Rattle.std.specs.Prelude.{Option, Result, Ok, Err, decimal}
+use Rattle.std.specs.Prelude.{◌≡◌, ◌+◌, ◌-◌, ◌==◌, ◌&&◌, nat_lt, if◌then◌else◌, Bool, true, false, ℕ}
+use Rattle.std.specs.Prelude.{List, [], ◌∷◌, ◌++◌, codes, length, Option, Result, Ok, Err, decimal}
 use Rattle.std.specs.declared.io.Error.{Error}
 use Rattle.streams.specs.InputOutput.{WriterSeen}
 use Rattle.book_http.specs.declared.served.Served.{Served}
+use Rattle.book_http.specs.Statuses.{status_code}
+use Rattle.book_http.specs.declared.status.Status.TheVariants.{Forbidden}
 use Rattle.book_lists.specs.declared.fault.ReportFault.TheVariants.{Write}
 use Rattle.named_books.specs.Shelves.{Shelf, IsUntouched}
 use Rattle.without_books.specs.declared.command_fault.CommandFault.{CommandFault}
 use Rattle.without_books.specs.ServedLines.{Gains}
 use Rattle.chargectl.specs.declared.client_requests.Attended.{Attended}
+use Rattle.chargectl.specs.declared.due.Due.{Due}
 use Rattle.chargectl.specs.ClientRequests.{LeavesLog, later_of}
 pub use Rattle.chargectl.specs.ServedClients.{AnswersSome, IsToldOf, Replies, ServesBehind}
 pub use Rattle.chargectl.specs.ServedClients.{ServesInTurn, ServesOne}
@@ -29,6 +32,37 @@ pub record Attends {S : Type 0} (shelf : S → Shelf) (book : List ℕ) (sent : 
 abbrev pub is_answered : Served → Bool
 is_answered (served.Answered status) = true
 is_answered what = false
+
+-- a client was turned away: it asked for another host, or a page elsewhere sent it
+abbrev pub is_turned_away : Served → Bool
+is_turned_away (served.Answered status) = status == status_code Forbidden
+is_turned_away what = false
+
+-- A client that is turned away is not counted among the requests, so that a page elsewhere can end no
+-- service; but for these many (the office's rule), since a service has to end.
+abbrev pub most_beside : ℕ
+most_beside = 1000000000
+
+-- what is due at first,
+abbrev pub first_due : ℕ → Due
+first_due requests = record { left = requests; beside = most_beside }
+
+-- what is due after a connection of which this became,
+abbrev pub due_after : Served → Due → Due
+due_after what due =
+    if is_turned_away what && nat_lt 0 due.beside then record due { beside = due.beside - 1 }
+    else record due { left = due.left - 1 }
+
+-- and after these, the newest first
+abbrev pub due_from : Due → List Served → Due
+due_from first [] = first
+due_from first (what ∷ before) = due_after what (due_from first before)
+
+-- As many connections as were requested came, and those beside them that were turned away: none is left,
+-- and each was one of those that were due.
+pub record AllCame (requests : ℕ) (told : List Served) : Type 0 where
+  pub none : (due_from (first_due requests) told).left ≡ 0
+  pub each : (due_from (first_due requests) told).beside + length told ≡ requests + most_beside
 
 -- the line of a connection
 abbrev pub line_of : Served → List ℕ

@@ -20,13 +20,14 @@ use book_core::{Ledger, LedgerFault, Sink, Source};
 use command_line::{BookRequest, DumpFile, Ruling};
 use named_books::{Opened, Repository, RepositoryFault, Visit};
 use office::{Answer, Asked, Report, ask, write_answer};
+use program_output::is_receipt_torn;
 use std::alloc::Global;
 use std::io;
 use std::io::{IsTerminal, Read};
 use streams::Writer;
 use without_books::{
-    CommandFault, Ended, Inputs, LookedAt, Notice, clear_line, end_of, layout_notice, let_out,
-    look_at, open_watched,
+    CommandFault, Ended, Inputs, LookedAt, Notice, clear_line, dump_notice, end_of, expect_whole,
+    let_out, look_at, open_watched,
 };
 
 /// A request to the office, with the reader of its dump.
@@ -238,7 +239,7 @@ pub(crate) fn rule<S: Repository, F: Inputs>(
 {
     let asked = asked_ruling(rt.alloc(), &*repository, inputs, book, ruling)?;
     if is_dated(ruling) {
-        Ok(rule_on_day(rt.alloc(), repository, book, asked))
+        Ok(rule_on_day(rt.alloc(), repository, inputs, book, asked))
     } else {
         Ok(ask_books(rt, repository, book, asked, io::empty()))
     }
@@ -256,22 +257,30 @@ pub(crate) fn import_dump<S: Repository, F: Inputs>(
         (S.shelf repository.old) (S.shelf repository.new) result }
 {
     repository.expect(book)?;
+    expect_whole(rt, inputs, dump)?;
     let asked = Asked::Import(dump.layout);
     let is_shown = !dump.quiet && rt.stderr().is_terminal();
     let input = open_watched(rt, inputs, dump.file, is_shown)?;
     let LookedAt { reader, is_misread } = look_at(rt.alloc(), dump.layout, input);
     let mut answered = ask_books(rt, repository, book, asked, reader);
     clear_line(rt, is_shown);
-    answered.notice = answer_notice(is_misread, &answered.answer);
+    answered.notice = answer_notice(dump.whole, is_misread, &answered.answer);
     Ok(answered)
 }
 
 /// What an import notices of its dump.
-fn answer_notice(is_misread: bool, answer: &Result<Answer, CommandFault>) -> Option<Notice>
-    ensures { result ≡ spec.answer_notice is_misread answer.now }
+fn answer_notice(
+    has_to_be_whole: bool,
+    is_misread: bool,
+    answer: &Result<Answer, CommandFault>,
+) -> Option<Notice>
+    ensures { result ≡ spec.answer_notice has_to_be_whole is_misread answer.now }
 {
     match answer {
-        Ok(Answer::Receipt(receipt)) => layout_notice(is_misread, receipt.stop),
+        Ok(Answer::Receipt(receipt)) => {
+            let is_torn = is_receipt_torn(receipt);
+            dump_notice(has_to_be_whole, is_misread, is_torn, receipt.stop)
+        }
         _ => None,
     }
 }

@@ -5,8 +5,9 @@ ghost use Rattle.std.specs.Prelude.{◌≡◌, IfErr, IfOk};
 ghost use Rattle.streams.specs.Failures.{HasFailed};
 ghost use Rattle.office.specs.Choices as choices;
 ghost use Rattle.chargectl.specs.Choices as spec;
-ghost use Rattle.chargectl.specs.Choices.{AreAllOf, AreListed, ChoosesBy, ChoosesListed};
-ghost use Rattle.chargectl.specs.Choices.{ComesOfList, EndsChoices, IsListAnswered, IsListFault};
+ghost use Rattle.chargectl.specs.Choices.{AreAllOf, AreLinesOf, AreListed, ChoosesBy, ChoosesListed};
+ghost use Rattle.chargectl.specs.Choices.{ComesOfList, EndsChoices, IsListAnswered, IsListBy};
+ghost use Rattle.chargectl.specs.Choices.{IsListFault, IsListTried};
 ghost use Rattle.chargectl.specs.Choices.{TellsChoices, TellsList, chosen_of, front_of};
 ghost use Rattle.chargectl.specs.Choices.{list_answered};
 ghost use Rattle.chargectl.specs.Commands.{IsPrinted};
@@ -15,15 +16,11 @@ use crate::book_commands::print;
 use book_core::{Ledger, LedgerFault, Ruled};
 use named_books::{Opened, Repository, RepositoryFault, Visit};
 use office::{Answer, Chosen, answer_lines, choose_each};
-use program_output::{MAX_NAMES, NameList};
+use program_output::{Listed, MAX_LIST, NameList};
 use std::alloc::{AllocError, Global};
 use std::io::{BufReader, Read};
 use streams::Writer;
 use without_books::{CommandFault, Ended, Inputs};
-
-/// How many bytes of a list are read: one more than a list has that is as long as it may be, for each
-/// name its digits and the two bytes after them. So many have a line that is no name, or one too many.
-const MOST_BYTES: u64 = 66 * MAX_NAMES as u64 + 1;
 
 /// The choices that the names of a list ask for.
 #[derive(Drop)]
@@ -52,25 +49,30 @@ impl Visit for ListedChoices {
 pub(crate) struct ListAnswered {
     /// The answers, or why there are none.
     pub(crate) chosen: Result<Chosen, CommandFault>,
+    /// The numbers of the lines of the names.
+    pub(crate) lines: Vec<usize>,
     /// The log beside the books holds a part of them.
     pub(crate) has_log: bool,
+    /// They may have changed the books.
+    pub(crate) is_change: bool,
 }
 
-/// Chooses the records that a list names, one after the other up to the first refusal, and writes
-/// the answers.
+/// Chooses the records that a list names, one after the other up to the first refusal, or tries that
+/// on a copy of the books, and writes the answers.
 pub(crate) fn choose_listed<S: Repository, F: Inputs, O: Writer + Drop>(
     alloc: Global,
     repository: &mut S,
     inputs: &F,
     book: &str,
     file: &str,
+    tried: bool,
     output: O,
 ) -> (Ended, O)
-    ensures { ChoosesListed (F.held inputs.now file.now) book.now (S.shelf repository.old)
+    ensures { ChoosesListed tried ((F.held inputs.now).holds file.now) book.now (S.shelf repository.old)
         (S.shelf repository.new) (O.contents output) (O.contents result.1)
         (∥ HasFailed O.may_answer result.1 ∥₁) result.0 }
 {
-    let answered = ask_listed(alloc, repository, inputs, book, file);
+    let answered = ask_listed(alloc, repository, inputs, book, file, tried);
     tell_list(alloc, answered, output)
 }
 
@@ -81,25 +83,24 @@ fn ask_listed<S: Repository, F: Inputs>(
     inputs: &F,
     book: &str,
     file: &str,
+    tried: bool,
 ) -> Result<ListAnswered, CommandFault>
-    ensures { ComesOfList (F.held inputs.now file.now) book.now (S.shelf repository.old)
+    ensures { ComesOfList tried ((F.held inputs.now).holds file.now) book.now (S.shelf repository.old)
         (S.shelf repository.new) result }
 {
     repository.expect(book)?;
-    let names = read_list(alloc, inputs, file)?;
-    Ok(choose_names(alloc, repository, book, names))
+    let listed = read_list(alloc, inputs, file)?;
+    Ok(answer_names(alloc, repository, book, listed, tried))
 }
 
 /// The names of a list in a file.
-fn read_list<F: Inputs>(
-    alloc: Global,
-    inputs: &F,
-    file: &str,
-) -> Result<Vec<[u8; 32]>, CommandFault>
-    ensures listed { IfOk result (λ names. AreListed names.items) }
-    ensures all { IfOk result (λ names. AreAllOf (front_of (F.held inputs.now file.now))
-        names.items) }
-    ensures refused { IfErr result (IsListFault (front_of (F.held inputs.now file.now))) }
+fn read_list<F: Inputs>(alloc: Global, inputs: &F, file: &str) -> Result<Listed, CommandFault>
+    ensures listed { IfOk result (λ listed. AreListed listed.names.items listed.lines.items) }
+    ensures all { IfOk result (λ listed.
+        AreAllOf (front_of ((F.held inputs.now).holds file.now)) listed.names.items) }
+    ensures placed { IfOk result (λ listed.
+        AreLinesOf (front_of ((F.held inputs.now).holds file.now)) listed.lines.items) }
+    ensures refused { IfErr result (IsListFault (front_of ((F.held inputs.now).holds file.now))) }
 {
     let input = inputs.open(file)?;
     read_front(alloc, input)
@@ -107,19 +108,23 @@ fn read_list<F: Inputs>(
 
 /// The names of a list that a reader gives, of which no more is read than a list may have. All its
 /// lines are looked at before a record is chosen.
-fn read_front<R: Read + Drop>(alloc: Global, reader: R) -> Result<Vec<[u8; 32]>, CommandFault>
-    ensures listed { IfOk result (λ names. AreListed names.items) }
-    ensures all { IfOk result (λ names. AreAllOf (front_of (R.remaining reader)) names.items) }
+fn read_front<R: Read + Drop>(alloc: Global, reader: R) -> Result<Listed, CommandFault>
+    ensures listed { IfOk result (λ listed. AreListed listed.names.items listed.lines.items) }
+    ensures all { IfOk result (λ listed.
+        AreAllOf (front_of (R.remaining reader)) listed.names.items) }
+    ensures placed { IfOk result (λ listed.
+        AreLinesOf (front_of (R.remaining reader)) listed.lines.items) }
     ensures refused { IfErr result (IsListFault (front_of (R.remaining reader))) }
 {
     let buffered = BufReader::new(alloc, reader)?;
-    read_names(alloc, buffered.take(MOST_BYTES))
+    read_names(alloc, buffered.take(MAX_LIST))
 }
 
 /// The names of a list that a reader gives, which is read to its end.
-fn read_names<R: Read + Drop>(alloc: Global, reader: R) -> Result<Vec<[u8; 32]>, CommandFault>
-    ensures listed { IfOk result (λ names. AreListed names.items) }
-    ensures all { IfOk result (λ names. AreAllOf (R.remaining reader) names.items) }
+fn read_names<R: Read + Drop>(alloc: Global, reader: R) -> Result<Listed, CommandFault>
+    ensures listed { IfOk result (λ listed. AreListed listed.names.items listed.lines.items) }
+    ensures all { IfOk result (λ listed. AreAllOf (R.remaining reader) listed.names.items) }
+    ensures placed { IfOk result (λ listed. AreLinesOf (R.remaining reader) listed.lines.items) }
     ensures refused { IfErr result (IsListFault (R.remaining reader)) }
 {
     let mut list = NameList::new(alloc);
@@ -129,21 +134,65 @@ fn read_names<R: Read + Drop>(alloc: Global, reader: R) -> Result<Vec<[u8; 32]>,
     Ok(list.end()?)
 }
 
+/// Chooses the records of these names, or tries that.
+fn answer_names<S: Repository>(
+    alloc: Global,
+    repository: &mut S,
+    book: &str,
+    listed: Listed,
+    tried: bool,
+) -> ListAnswered
+    ensures came { IsListBy tried listed.names.items book.now (S.shelf repository.old)
+        (S.shelf repository.new) result }
+    ensures lines { result.lines.items ≡ listed.lines.items }
+{
+    if tried {
+        return try_names(alloc, repository, book, listed);
+    }
+    choose_names(alloc, repository, book, listed)
+}
+
+/// Chooses the records of these names on a copy of the books, which is let go.
+fn try_names<S: Repository>(
+    alloc: Global,
+    repository: &mut S,
+    book: &str,
+    listed: Listed,
+) -> ListAnswered
+    ensures came { IsListTried listed.names.items book.now (S.shelf repository.old)
+        (S.shelf repository.new) result }
+    ensures lines { result.lines.items ≡ listed.lines.items }
+{
+    let Listed { names, lines } = listed;
+    let mut choices = ListedChoices { alloc, names };
+    let Opened { answer, has_log } = repository.try_out(book, &mut choices);
+    ListAnswered {
+        chosen: chosen_in(answer),
+        lines,
+        has_log,
+        is_change: false,
+    }
+}
+
 /// Opens the books, and chooses the records of these names.
 fn choose_names<S: Repository>(
     alloc: Global,
     repository: &mut S,
     book: &str,
-    names: Vec<[u8; 32]>,
+    listed: Listed,
 ) -> ListAnswered
-    ensures { IsListAnswered names.items book.now (S.shelf repository.old) (S.shelf repository.new)
-        result }
+    ensures came { IsListAnswered listed.names.items book.now (S.shelf repository.old)
+        (S.shelf repository.new) result }
+    ensures lines { result.lines.items ≡ listed.lines.items }
 {
+    let Listed { names, lines } = listed;
     let mut choices = ListedChoices { alloc, names };
     let Opened { answer, has_log } = repository.open(book, &mut choices);
     ListAnswered {
         chosen: chosen_in(answer),
+        lines,
         has_log,
+        is_change: true,
     }
 }
 
@@ -170,12 +219,19 @@ fn tell_list<O: Writer + Drop>(
         (∥ HasFailed O.may_answer result.1 ∥₁) result.0 }
 {
     match answered {
-        Ok(ListAnswered { chosen, has_log }) => {
-            let (came, output) = tell_choices(alloc, chosen, output);
+        Ok(
+            ListAnswered {
+                chosen,
+                lines,
+                has_log,
+                is_change,
+            },
+        ) => {
+            let (came, output) = tell_choices(alloc, chosen, &lines, output);
             let ended = Ended {
                 came,
                 has_log,
-                is_change: true,
+                is_change,
                 notice: None,
             };
             (ended, output)
@@ -187,13 +243,14 @@ fn tell_list<O: Writer + Drop>(
 fn tell_choices<O: Writer + Drop>(
     alloc: Global,
     chosen: Result<Chosen, CommandFault>,
+    lines: &[usize],
     output: O,
 ) -> (Result<(), CommandFault>, O)
-    ensures { TellsChoices chosen (O.contents output) (O.contents result.1)
+    ensures { TellsChoices chosen lines.now (O.contents output) (O.contents result.1)
         (∥ HasFailed O.may_answer result.1 ∥₁) result.0 }
 {
     match chosen {
-        Ok(chosen) => tell_chosen(alloc, &chosen, output),
+        Ok(chosen) => tell_chosen(alloc, &chosen, lines, output),
         Err(fault) => (Err(fault), output),
     }
 }
@@ -202,23 +259,35 @@ fn tell_choices<O: Writer + Drop>(
 fn tell_chosen<O: Writer + Drop>(
     alloc: Global,
     chosen: &Chosen,
+    lines: &[usize],
     output: O,
 ) -> (Result<(), CommandFault>, O)
-    ensures { EndsChoices chosen.now (O.contents output) (O.contents result.1)
+    ensures { EndsChoices chosen.now lines.now (O.contents output) (O.contents result.1)
         (∥ HasFailed O.may_answer result.1 ∥₁) result.0 }
 {
     let (written, output) = print_answers(alloc, &chosen.answers, output);
-    (chosen_end(chosen, written), output)
+    (chosen_end(chosen, lines, written), output)
 }
 
 /// How choices end, by whether their answers were written.
-fn chosen_end(chosen: &Chosen, written: Result<(), CommandFault>) -> Result<(), CommandFault>
-    ensures { result ≡ spec.choices_end chosen.now written }
+fn chosen_end(
+    chosen: &Chosen,
+    lines: &[usize],
+    written: Result<(), CommandFault>,
+) -> Result<(), CommandFault>
+    ensures { result ≡ spec.choices_end chosen.now lines.now written }
 {
     match chosen.refusal {
-        Some(fault) => Err(CommandFault::LedgerAt(fault, chosen.answers.len() + 1)),
+        Some(fault) => Err(CommandFault::LedgerAt(fault, line_of(lines, chosen.answers.len()))),
         None => written,
     }
+}
+
+/// The number of the line of a name, by its place among the names.
+fn line_of(lines: &[usize], place: usize) -> usize
+    ensures { result ≡ spec.line_of lines.now place }
+{
+    if place < lines.len() { lines[place] } else { 0 }
 }
 
 /// Writes a line for each answer, so that they have left the program.

@@ -27,6 +27,7 @@ use without_books::{CommandFault, Inputs, Notice};
 #[derive(Drop)]
 struct DryRun {
     alloc: Global,
+    today: Option<i32>,
     asked: Asked,
     ghost ruling: { IsAskableRuling asked } by { Prim.hlevel ruling_once },
 }
@@ -35,11 +36,11 @@ impl Visit for DryRun {
     /// The text of the dry run, or why there is none, and what was noticed.
     type Answer = DatedAnswer;
 
-    ghost work = { λ naming run _ dated. TriesOnceBy naming run.asked dated };
+    ghost work = { λ naming run _ dated. TriesOnceBy naming run.today run.asked dated };
 
     ghost comes = { λ _ _ dated. IsDryAnswer dated };
 
-    ghost answered = { λ naming run _ dated. tried_answered naming run.asked dated };
+    ghost answered = { λ naming run _ dated. tried_answered naming run.today run.asked dated };
 
     /// The copy was just read whole, and is not kept.
     fn is_brief(&self) -> bool {
@@ -47,7 +48,7 @@ impl Visit for DryRun {
     }
 
     fn visit<L: Ledger>(&mut self, books: &mut L) -> DatedAnswer {
-        dated(try_ruling(self.alloc, books, &self.asked))
+        dated(try_ruling(self.alloc, self.today, books, &self.asked))
     }
 }
 
@@ -81,15 +82,27 @@ pub(crate) fn dry_run<S: Repository, F: Inputs>(
         (S.shelf repository.old) (S.shelf repository.new) result }
 {
     let asked = asked_ruling(rt.alloc(), &*repository, inputs, book, ruling)?;
-    Ok(try_books(rt.alloc(), repository, book, asked))
+    Ok(try_books(rt.alloc(), repository, inputs, book, asked))
 }
 
 /// Tries a ruling on a copy of the books of a name.
-fn try_books<S: Repository>(alloc: Global, repository: &mut S, book: &str, asked: Asked) -> Answered
+fn try_books<S: Repository, F: Inputs>(
+    alloc: Global,
+    repository: &mut S,
+    inputs: &F,
+    book: &str,
+    asked: Asked,
+) -> Answered
     requires { IsAskableRuling asked }
-    ensures { IsTriedOnce asked book.now (S.shelf repository.old) (S.shelf repository.new) result }
+    ensures { IsTriedOnce (F.held inputs.now).today asked book.now (S.shelf repository.old)
+        (S.shelf repository.new) result }
 {
-    let mut run = DryRun { alloc, asked };
+    let today = inputs.today();
+    let mut run = DryRun {
+        alloc,
+        today,
+        asked,
+    };
     let Opened { answer, has_log } = repository.try_out(book, &mut run);
     let (answer, notice) = told_in(answer);
     Answered {
@@ -104,14 +117,15 @@ fn try_books<S: Repository>(alloc: Global, repository: &mut S, book: &str, asked
 #[tactic(auto, using(office::proofs::AskLemmas::ruling_alone))]
 fn try_ruling<L: Ledger>(
     alloc: Global,
+    today: Option<i32>,
     books: &mut L,
     asked: &Asked,
 ) -> Result<(Vec<u8>, Option<Notice>), LedgerFault>
     requires { IsAskableRuling asked.now }
     ensures { IsTransition (L.seen books.old) (L.seen books.new)
-        (TriesOnceBy (L.seen books.old).naming asked.now (dated_by result)) }
+        (TriesOnceBy (L.seen books.old).naming today asked.now (dated_by result)) }
 {
-    let is_far = is_far_asked(alloc, books, asked)?;
+    let is_far = is_far_asked(alloc, today, books, asked)?;
     let period = open_period(books)?;
     let ruling = named(alloc, asked)?;
     let before = period_figures(alloc, books, ruling, period.number)?;

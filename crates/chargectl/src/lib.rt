@@ -11,8 +11,10 @@ mod client_requests;
 mod connection;
 mod dated_rulings;
 mod dry_runs;
+mod due;
 mod far;
 mod laws;
+mod near_rulings;
 mod port;
 mod program;
 mod report_commands;
@@ -23,6 +25,7 @@ mod waiting;
 mod watched_rows;
 
 pub use client_requests::{Attended, serve_request};
+pub use due::Due;
 pub use laws::commands_follow_history;
 pub use port::{Connections, Peer, answer_peer};
 pub use program::command;

@@ -1,14 +1,15 @@
 //! Where connections come from.
 
-ghost use Rattle.std.specs.Prelude.{◌≡◌, ◌+◌, length, true};
+ghost use Rattle.std.specs.Prelude.{◌≡◌, ◌+◌, ◌<◌, length, true};
 ghost use Rattle.streams.specs.Failures.{HasFailed};
 ghost use Rattle.book_http.specs.Served.{is_unanswered, is_write_fault};
-ghost use Rattle.chargectl.specs.ClientRequests.{IsServedByReads, later_of};
-ghost use Rattle.chargectl.specs.Serving.{Attends, is_answered};
+ghost use Rattle.chargectl.specs.ClientRequests.{IsServedByReads, later_of, told_of};
+ghost use Rattle.chargectl.specs.Serving.{Attends, due_from, first_due, is_answered};
 
 use crate::arriving::Arriving;
 use crate::client_requests::{Attended, serve_request, unopened};
 use crate::connection::Client;
+use crate::due::Due;
 use crate::waiting::Waiting;
 use book_core::Source;
 use book_http::{Routes, Served};
@@ -29,6 +30,9 @@ pub trait Connections {
     /// How many are left to be answered.
     ghost left: { Self → ℕ };
 
+    /// How many may come, those among them that are answered and not counted.
+    ghost most: { Self → ℕ };
+
     /// The bytes that the next one sends, where they are known.
     ghost sent: { Self → Option (List ℕ) } = { λ _. None };
 
@@ -46,12 +50,12 @@ pub trait Connections {
 
     /// Waits for the next one, and answers it from the books of a name, which are open only while
     /// they are asked, and others that come soon behind it. An error means that none came; it counts
-    /// as one of those that were left.
+    /// as one of those that may come.
     fn next<S: Repository>(&mut self, repository: &mut S, book: &str) -> io::Result<Attended>
         requires { 0 < left self.old }
-        ensures left { MatchResult result
-            (λ attended. left self.new + length (told_of attended) ≡ left self.old)
-            (λ _. left self.new + 1 ≡ left self.old) }
+        ensures most { MatchResult result
+            (λ attended. most self.new + length (told_of attended) ≡ most self.old)
+            (λ _. most self.new + 1 ≡ most self.old) }
         ensures came { IfOk result (λ attended. CameTogether S.shelf sent may_come book.now
             self.old self.new repository.old repository.new (told_of attended)) }
         ensures log { IfOk result (λ attended.
@@ -82,66 +86,91 @@ pub trait Peer: Reader + Writer + Copy {
         ensures unwritten { Self.contents result ≡ Self.contents self };
 }
 
-/// The connections to a port that are left to be answered.
+/// The connections to a port that are due.
 #[derive(Drop)]
 pub(crate) struct Port<'a> {
     rt: &'a HostRuntime,
-    pub(crate) left: u32,
+    pub(crate) due: Due,
     /// One router for all that they ask.
     routes: Routes,
     waiting: Waiting<'a>,
 }
 
 impl<'a> Port<'a> {
-    /// So many connections are to be answered.
+    /// So many requests are to be answered.
     pub(crate) fn over(rt: &'a HostRuntime, listener: &'a TcpListener, requests: u32) -> Port<'a>
-        ensures { result.left ≡ requests }
+        ensures { result.due ≡ first_due requests }
     {
         Port {
             rt,
-            left: requests,
+            due: Due::first(requests),
             routes: Routes::new(rt.alloc()),
             waiting: Waiting::at(rt, listener),
         }
     }
-}
 
-impl Connections for Port<'_> {
-    ghost use Rattle.std.specs.Prelude.{⊤};
-
-    ghost left = { λ port. port.left };
-
-    // Of the sockets of the machine nothing is known.
-    ghost may_come = { λ _ _ _. ⊤ };
-
-    ghost may_fail = { λ _ _ _. ⊤ };
-
-    fn is_over(&self) -> bool {
-        self.left == 0
-    }
-
-    fn next<S: Repository>(&mut self, repository: &mut S, book: &str) -> io::Result<Attended> {
-        self.left -= 1;
-        let stream = self.waiting.next_client()?;
+    /// Answers a client that came, and those that come soon behind it. What is told of them says how
+    /// many are due then.
+    fn attend<S: Repository>(
+        &mut self,
+        stream: &TcpStream,
+        repository: &mut S,
+        book: &str,
+    ) -> Attended
+        requires { 0 < self.old.due.left }
+        ensures attended { Attends S.shelf book.now None repository.old repository.new result }
+        ensures due { self.new.due ≡ due_from self.old.due (told_of result) }
+        ensures most { (self.new.due.left + self.new.due.beside) + length (told_of result)
+            ≡ self.old.due.left + self.old.due.beside }
+    {
         self.waiting.begin();
         let soon = Arriving {
-            left: self.left,
+            left: self.due.left - 1,
             waiting: self.waiting.taken(),
         };
         let (attended, soon) = answer_stream(
             self.rt,
             &mut self.routes,
-            &stream,
+            stream,
             soon,
             repository,
             book,
         );
-        let Arriving { left, waiting } = soon;
-        self.left = left;
+        let Arriving { waiting, .. } = soon;
+        let due = self.due.after_all(&attended);
+        self.due = due;
         self.waiting = waiting;
         self.waiting.drain_answered();
         self.waiting.leave_alone();
-        Ok(attended)
+        attended
+    }
+}
+
+impl Connections for Port<'_> {
+    ghost use Rattle.std.specs.Prelude.{◌≡◌, ◌+◌, ⊤};
+    ghost use Rattle.chargectl.specs.Serving.{due_after};
+
+    ghost left = { λ port. port.due.left };
+
+    ghost most = { λ port. port.due.left + port.due.beside };
+
+    // Of the sockets of the machine nothing is known; but one of those that are due is answered.
+    ghost may_come = { λ before served after. after.due ≡ due_after served before.due };
+
+    ghost may_fail = { λ _ _ _. ⊤ };
+
+    fn is_over(&self) -> bool {
+        self.due.left == 0
+    }
+
+    fn next<S: Repository>(&mut self, repository: &mut S, book: &str) -> io::Result<Attended> {
+        match self.waiting.next_client() {
+            Ok(stream) => Ok(self.attend(&stream, repository, book)),
+            Err(error) => {
+                self.due = self.due.after(Served::Closed);
+                Err(error)
+            }
+        }
     }
 }
 

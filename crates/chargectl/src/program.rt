@@ -11,6 +11,7 @@ use crate::audits::{audit, back_up};
 use crate::book_commands::{import_dump, rule, tell};
 use crate::choices::choose_listed;
 use crate::dry_runs::dry_run;
+use crate::near_rulings::rule_near;
 use crate::report_commands::{report, what_if};
 use crate::serve::serve;
 use crate::streamed_lists::list;
@@ -32,7 +33,7 @@ const SERVICE_WAIT: u16 = 2;
 
 /// Does what the words ask for, the first of which is the program's name. Books are kept at a
 /// place, and the files that words name are read from others. Why it was not done is said on
-/// standard error; where that is a terminal, a person is told more.
+/// standard error; where that is a terminal, or it is asked for, a person is told more.
 pub fn command<S, F: Inputs, I: Read + Drop, O: Writer + Drop, E: Writer>(
     rt: &HostRuntime,
     place: &mut S,
@@ -53,7 +54,7 @@ where
             let (ended, output) = run(rt, place, files, request, input, output);
             let said = Said::by(&ended);
             let status = ended.write_to(errors);
-            help(rt, request, said);
+            help(rt, words, request, said);
             (status, output)
         }
         Err(fault) => refuse(&fault, output, errors),
@@ -81,14 +82,17 @@ where
             cpu,
             excp,
             record,
+            whole,
         } => {
             let tariff = Tariff::flat(rt.alloc(), cpu, excp, record);
-            run_trial(rt.alloc(), layout, tariff, input, output)
+            run_trial(rt.alloc(), layout, whole, tariff, input, output)
         }
-        Request::TrialUnder { layout, file } => {
-            run_trial_under(rt.alloc(), inputs, layout, file, input, output)
-        }
-        Request::Check(dump) => check(rt, inputs, dump, output),
+        Request::TrialUnder {
+            layout,
+            file,
+            whole,
+        } => run_trial_under(rt.alloc(), inputs, layout, whole, file, input, output),
+        Request::Check { dump, names } => check(rt, inputs, dump, names, output),
         Request::Explain { kind, number } => {
             let came = explain(rt.alloc(), kind, number, &mut output);
             (Ended::without_log(came), output)
@@ -127,11 +131,17 @@ fn run_on_books<S: AuditedRepository, F: Inputs, O: Writer + Drop>(
     match asked {
         BookRequest::Init => (Ended::without_log(made(repository.make(book))), output),
         BookRequest::Rule(ruling) => tell(rule(rt, repository, inputs, book, ruling), output),
+        BookRequest::RuleNear(ruling) => {
+            tell(rule_near(rt, repository, inputs, book, ruling), output)
+        }
         BookRequest::Import(dump) => {
             tell(import_dump(rt, repository, inputs, book, dump), output)
         }
         BookRequest::ChooseListed { file } => {
-            choose_listed(rt.alloc(), repository, inputs, book, file, output)
+            choose_listed(rt.alloc(), repository, inputs, book, file, false, output)
+        }
+        BookRequest::TryListed { file } => {
+            choose_listed(rt.alloc(), repository, inputs, book, file, true, output)
         }
         BookRequest::DryRun(ruling) => tell(dry_run(rt, repository, inputs, book, ruling), output),
         BookRequest::Report(words) => tell(report(rt, repository, book, words), output),

@@ -23,9 +23,10 @@ use without_books::{CommandFault, Ended, ServedLines, listen_here};
 /// Room for the line of an answer.
 type Line = ArrayString<16>;
 
-/// Answers a given number of connections, one after the other, and says what became of each. That the
-/// books can't be opened is told before the port is taken; from then on they are open only while they
-/// are asked. A line that can't be written keeps nobody from being answered: that is told at the end.
+/// Answers a given number of connections, one after the other, and says what became of each; those that
+/// are turned away come beside them. That the books can't be opened is told before the port is taken;
+/// from then on they are open only while they are asked. A line that can't be written keeps nobody from
+/// being answered: that is told at the end.
 pub(crate) fn serve<S: Repository, O: Writer + Drop>(
     rt: &HostRuntime,
     repository: &mut S,
@@ -139,7 +140,7 @@ pub fn serve_each<C: Connections, S: Repository, O: Writer + Drop>(
     requires { (S.shelf repository.old).has_log book.now has_log }
 
     // No fault of the output or of the books ends it early.
-    ensures served { ServesUntil S.shelf C.sent C.may_come C.may_fail C.left connections.old
+    ensures served { ServesUntil S.shelf C.sent C.may_come C.may_fail C.most connections.old
         connections.new book.now repository.old repository.new
         (seen_of O.contents lines.old) (seen_of O.contents lines.new) result.0 }
     ensures all { OnOk result.0 (C.left connections.new ≡ 0) }
@@ -179,7 +180,7 @@ fn say_attended<O: Writer + Drop>(lines: &mut ServedLines<O>, attended: &Attende
 
 /// What is told of a client behind one of which this is told: where it was not seen that the closed
 /// files hold the books from which both were answered, no answer is told.
-fn told_behind(first: Served, what: Served) -> Served
+pub(crate) fn told_behind(first: Served, what: Served) -> Served
     ensures { result ≡ spec.told_behind first what }
 {
     match first {

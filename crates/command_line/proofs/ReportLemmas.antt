@@ -93,7 +93,7 @@ pub record HasReport (rows : List Row) (row : reports.Row) : Type 0 where
 report_has : (rows : List Row) (row : reports.Row) → HasWords rows (report_words row)
     → HasReport rows row
 report_has rows row has =
-    let waits = known.wait ∷ [] in
+    let waits = known.wait ∷ known.explain ∷ [] in
     let priced = if_prices row.by_prices ++ waits in
     let chosen = chosen_by row.shape ++ priced in
     let first = apart rows (named_by row.shape) (if_csv row.csv ++ chosen) has.1 in

@@ -95,7 +95,7 @@ names = named_if_given (codes "from") any
 abbrev pub number_kind : WordSeen
 number_kind = place (codes "kind") (among (codes "frame" ∷ codes "ledger" ∷ codes "tariff"
     ∷ codes "damaged" ∷ codes "io" ∷ codes "busy" ∷ codes "exists" ∷ codes "word"
-    ∷ codes "unsound" ∷ codes "log" ∷ codes "layout" ∷ codes "far" ∷ []))
+    ∷ codes "unsound" ∷ codes "log" ∷ codes "layout" ∷ codes "far" ∷ codes "torn" ∷ []))
 
 abbrev pub kind_number : WordSeen
 kind_number = place_or (codes "number") (at_most most_number) (codes "0")
@@ -119,8 +119,20 @@ prices = named_if_given (codes "tariff") any
 abbrev pub quiet : WordSeen
 quiet = flag (codes "quiet")
 
+abbrev pub whole : WordSeen
+whole = flag (codes "whole")
+
+abbrev pub with_names : WordSeen
+with_names = flag (codes "names")
+
+abbrev pub explain : WordSeen
+explain = flag (codes "explain")
+
 abbrev pub dry_run : WordSeen
 dry_run = flag (codes "dry-run")
+
+abbrev pub near : WordSeen
+near = flag (codes "near")
 
 abbrev pub csv : WordSeen
 csv = flag (codes "csv")
@@ -163,7 +175,7 @@ if_prices false = []
 -- the words of a report follow from its row
 abbrev pub report_words : reports.Row → List WordSeen
 report_words row = book ∷ (named_by row.shape
-    ++ (if_csv row.csv ++ (chosen_by row.shape ++ (if_prices row.by_prices ++ wait ∷ []))))
+    ++ (if_csv row.csv ++ (chosen_by row.shape ++ (if_prices row.by_prices ++ wait ∷ explain ∷ []))))
 
 abbrev pub report_command : ReportName → Text × List WordSeen
 report_command name = ((reports.row_of name).word, report_words (reports.row_of name))
@@ -172,23 +184,24 @@ report_command name = ((reports.row_of name).word, report_words (reports.row_of 
 abbrev pub commands_above : List (Text × List WordSeen)
 commands_above = (
   codes "trial",
-  layouts ∷ rate_of (codes "cpu") ∷ rate_of (codes "excp") ∷ rate_of (codes "record") ∷ prices ∷ [],
+  layouts ∷ rate_of (codes "cpu") ∷ rate_of (codes "excp") ∷ rate_of (codes "record") ∷ prices
+      ∷ whole ∷ explain ∷ [],
 ) ∷
-    (codes "check", layouts ∷ quiet ∷ file ∷ []) ∷
-    (codes "init", book ∷ []) ∷
-    (codes "tariff", book ∷ file ∷ dry_run ∷ wait ∷ []) ∷
-    (codes "import", book ∷ file ∷ layouts ∷ quiet ∷ wait ∷ []) ∷
-    (codes "close", book ∷ period ∷ date ∷ dry_run ∷ wait ∷ []) ∷
-    (codes "choose", book ∷ digest ∷ names ∷ dry_run ∷ wait ∷ []) ∷
-    (codes "adopt", book ∷ dry_run ∷ wait ∷ []) ∷
+    (codes "check", layouts ∷ quiet ∷ whole ∷ with_names ∷ file ∷ explain ∷ []) ∷
+    (codes "init", book ∷ explain ∷ []) ∷
+    (codes "tariff", book ∷ file ∷ dry_run ∷ near ∷ wait ∷ explain ∷ []) ∷
+    (codes "import", book ∷ file ∷ layouts ∷ quiet ∷ whole ∷ wait ∷ explain ∷ []) ∷
+    (codes "close", book ∷ period ∷ date ∷ dry_run ∷ near ∷ wait ∷ explain ∷ []) ∷
+    (codes "choose", book ∷ digest ∷ names ∷ dry_run ∷ wait ∷ explain ∷ []) ∷
+    (codes "adopt", book ∷ dry_run ∷ wait ∷ explain ∷ []) ∷
     []
 
 abbrev pub commands_below : List (Text × List WordSeen)
-commands_below = (codes "upgrade", book ∷ wait ∷ []) ∷
-    (codes "audit", book ∷ quiet ∷ wait ∷ []) ∷
-    (codes "backup", book ∷ file ∷ quiet ∷ wait ∷ []) ∷
-    (codes "serve", book ∷ port ∷ requests ∷ []) ∷
-    (codes "explain", number_kind ∷ kind_number ∷ []) ∷
+commands_below = (codes "upgrade", book ∷ wait ∷ explain ∷ []) ∷
+    (codes "audit", book ∷ quiet ∷ wait ∷ explain ∷ []) ∷
+    (codes "backup", book ∷ file ∷ quiet ∷ wait ∷ explain ∷ []) ∷
+    (codes "serve", book ∷ port ∷ requests ∷ explain ∷ []) ∷
+    (codes "explain", number_kind ∷ kind_number ∷ explain ∷ []) ∷
     []
 
 -- The table of the commands.

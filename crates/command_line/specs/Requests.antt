@@ -84,6 +84,7 @@ kind_text number.Unsound = codes "unsound"
 kind_text number.Log = codes "log"
 kind_text number.Layout = codes "layout"
 kind_text number.Far = codes "far"
+kind_text number.Torn = codes "torn"
 
 abbrev pub IsLayout : List Row → Layout → Type 0
 IsLayout rows value = first_of (codes "layout") rows ≡ Some (layout_text value)
@@ -91,11 +92,16 @@ IsLayout rows value = first_of (codes "layout") rows ≡ Some (layout_text value
 abbrev pub IsKind : List Row → NumberKind → Type 0
 IsKind rows value = first_of (codes "kind") rows ≡ Some (kind_text value)
 
+-- whether a dump has to be whole
+abbrev pub IsWhole : List Row → Bool → Type 0
+IsWhole rows value = IsFlag rows (codes "whole") value
+
 -- a dump in a file
 pub record IsDump (rows : List Row) (dump : DumpFile) : Type 0 where
   pub file : IsText rows (codes "file") dump.file
   pub layout : IsLayout rows dump.layout
   pub quiet : IsFlag rows (codes "quiet") dump.quiet
+  pub whole : IsWhole rows dump.whole
 
 -- the centre that is named, or the whole office where none is
 abbrev pub IsCentre : List Row → Option (Bor Text) → Type 0
@@ -150,14 +156,26 @@ IsRuling name rows ruling.Adopt = name ≡ codes "adopt"
 abbrev pub IsDryRun : List Row → Bool → Type 0
 IsDryRun rows value = IsFlag rows (codes "dry-run") value
 
+-- whether a ruling is made only where its day is not far; no other ruling has a day
+abbrev pub IsNear : List Row → Ruling → Bool → Type 0
+IsNear rows (ruling.Tariff file) value = IsFlag rows (codes "near") value
+IsNear rows (ruling.Close period date) value = IsFlag rows (codes "near") value
+IsNear rows other value = value ≡ false
+
 -- what is asked of books
 abbrev pub IsOfBooks : Text → List Row → BookRequest → Type 0
 IsOfBooks name rows book.Init = name ≡ codes "init"
-IsOfBooks name rows (book.Rule ruled) = IsRuling name rows ruled × IsDryRun rows false
+IsOfBooks name rows (book.Rule ruled) =
+    IsRuling name rows ruled × IsDryRun rows false × IsNear rows ruled false
+IsOfBooks name rows (book.RuleNear ruled) =
+    IsRuling name rows ruled × IsDryRun rows false × IsNear rows ruled true
 IsOfBooks name rows (book.Import dump) = (name ≡ codes "import") × IsDump rows dump
 IsOfBooks name rows (book.ChooseListed file) =
     (name ≡ codes "choose") × IsLeftOut rows (codes "sha256")
     × IsText rows (codes "from") file × IsDryRun rows false
+IsOfBooks name rows (book.TryListed file) =
+    (name ≡ codes "choose") × IsLeftOut rows (codes "sha256")
+    × IsText rows (codes "from") file × IsDryRun rows true
 IsOfBooks name rows (book.DryRun ruled) = IsRuling name rows ruled × IsDryRun rows true
 IsOfBooks name rows (book.Report asked) =
     AsksReport name rows asked × ((reports.row_of asked.name).streamed ≡ false)
@@ -220,19 +238,17 @@ IsUnclear name rows unclear.Choice =
 IsUnclear name rows unclear.Prices =
     (name ≡ codes "trial") × IsGiven rows (codes "tariff") × NamesRate rows
 IsUnclear name rows unclear.Period = has_plain_period rows ≡ false
-IsUnclear name rows unclear.DryRun =
-    (name ≡ codes "choose") × IsLeftOut rows (codes "sha256") × IsGiven rows (codes "from")
-    × IsDryRun rows true
 
 -- what is asked of the program, by the words of a command
 abbrev pub IsOfCommand : Text → List Row → Request → Type 0
-IsOfCommand name rows (request.Trial layout cpu excp price) =
+IsOfCommand name rows (request.Trial layout cpu excp price whole) =
     (name ≡ codes "trial") × IsLayout rows layout × AreRates rows cpu excp price
-    × IsLeftOut rows (codes "tariff")
-IsOfCommand name rows (request.TrialUnder layout file) =
+    × IsLeftOut rows (codes "tariff") × IsWhole rows whole
+IsOfCommand name rows (request.TrialUnder layout file whole) =
     (name ≡ codes "trial") × IsLayout rows layout × AreRates rows 0 0 0
-    × IsText rows (codes "tariff") file
-IsOfCommand name rows (request.Check dump) = (name ≡ codes "check") × IsDump rows dump
+    × IsText rows (codes "tariff") file × IsWhole rows whole
+IsOfCommand name rows (request.Check dump names) =
+    (name ≡ codes "check") × IsDump rows dump × IsFlag rows (codes "names") names
 IsOfCommand name rows (request.Explain kind value) =
     (name ≡ codes "explain") × IsKind rows kind × IsNumber rows (codes "number") value
 IsOfCommand name rows (request.OfBooks path wait asked) =

@@ -82,6 +82,7 @@ pub(crate) fn kind_in(found: &ArgMatches<'_>) -> Option<NumberKind>
         "log" => Some(NumberKind::Log),
         "layout" => Some(NumberKind::Layout),
         "far" => Some(NumberKind::Far),
+        "torn" => Some(NumberKind::Torn),
         _ => None,
     }
 }
@@ -100,11 +101,12 @@ pub(crate) fn dump_in<'a>(found: &ArgMatches<'a>) -> Option<DumpFile<'a>>
     ensures dump { IfSome result (IsDump (rows_in found.now)) }
     ensures some { HasWord (rows_in found.now) known.file
         → HasWord (rows_in found.now) known.layouts → HasWord (rows_in found.now) known.quiet
-        → IsSome result }
+        → HasWord (rows_in found.now) known.whole → IsSome result }
 {
     Some(DumpFile {
         file: text_in(found, "file")?,
         layout: layout_in(found)?,
         quiet: flag_in(found, "quiet")?,
+        whole: flag_in(found, "whole")?,
     })
 }

@@ -17,7 +17,11 @@ pub(crate) enum Help {
     Names,
     Layout,
     Quiet,
+    Whole,
+    WithNames,
+    Explain,
     DryRun,
+    Near,
     Csv,
     DisputeCsv,
     Wait,
@@ -52,7 +56,15 @@ impl Help {
                 "How the dump is laid out: segments one after another (rdw), or in blocks (bdw)"
             }
             Help::Quiet => "Shows no progress on a terminal",
+            Help::Whole => {
+                "The dump has to be whole: it has a record, and as many trailers as headers"
+            }
+            Help::WithNames => "Adds the name of each record that could be kept",
+            Help::Explain => {
+                "Says why it failed and what to do though standard error is no terminal"
+            }
             Help::DryRun => "Prints what would change, and changes nothing",
+            Help::Near => "Refuses a day that is far after the newest record, or after today",
             Help::Csv => "As comma-separated values, without the total",
             Help::DisputeCsv => "As comma-separated values, a line for each record",
             Help::Wait => {
@@ -88,7 +100,9 @@ impl Help {
             Help::Port => "PORT",
             Help::Requests | Help::Number => "NUMBER",
             Help::NumberKind => "KIND",
-            Help::Quiet | Help::DryRun | Help::Csv | Help::DisputeCsv => "",
+            Help::Quiet | Help::Whole | Help::WithNames => "",
+            Help::Explain | Help::DryRun | Help::Near => "",
+            Help::Csv | Help::DisputeCsv => "",
         }
     }
 }

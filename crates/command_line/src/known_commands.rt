@@ -81,7 +81,15 @@ const LAYOUT: Argument = Argument::NamedOr(
 
 const QUIET: Argument = Argument::Flag("quiet", Help::Quiet);
 
+const WHOLE: Argument = Argument::Flag("whole", Help::Whole);
+
+const WITH_NAMES: Argument = Argument::Flag("names", Help::WithNames);
+
+const EXPLAIN: Argument = Argument::Flag("explain", Help::Explain);
+
 const DRY_RUN: Argument = Argument::Flag("dry-run", Help::DryRun);
+
+const NEAR: Argument = Argument::Flag("near", Help::Near);
 
 const CSV: Argument = Argument::Flag("csv", Help::Csv);
 
@@ -114,7 +122,7 @@ const NUMBER_KIND: Argument = Argument::InPlace(
     Help::NumberKind,
     ValueKind::OneOf(&[
         "frame", "ledger", "tariff", "damaged", "io", "busy", "exists", "word", "unsound", "log",
-        "layout", "far",
+        "layout", "far", "torn",
     ]),
 );
 
@@ -131,126 +139,126 @@ pub(crate) static KNOWN_COMMANDS: [KnownCommand; 25] = [
     KnownCommand {
         name: "trial",
         about: "Prices a dump from standard input in new books, and prints their statement",
-        words: &[LAYOUT, CPU, EXCP, RECORD, PRICES],
+        words: &[LAYOUT, CPU, EXCP, RECORD, PRICES, WHOLE, EXPLAIN],
     },
     KnownCommand {
         name: "check",
         about: "Says what each record of a dump is, and why reading stopped",
-        words: &[LAYOUT, QUIET, DUMP],
+        words: &[LAYOUT, QUIET, WHOLE, WITH_NAMES, DUMP, EXPLAIN],
     },
     KnownCommand {
         name: "init",
         about: "Makes new books in a file",
-        words: &[BOOK],
+        words: &[BOOK, EXPLAIN],
     },
     KnownCommand {
         name: "tariff",
         about: "Puts a tariff in force from its first day on",
-        words: &[BOOK, TARIFF, DRY_RUN, WAIT],
+        words: &[BOOK, TARIFF, DRY_RUN, NEAR, WAIT, EXPLAIN],
     },
     KnownCommand {
         name: "import",
         about: "Reads a dump into the books, each record once",
-        words: &[BOOK, DUMP, LAYOUT, QUIET, WAIT],
+        words: &[BOOK, DUMP, LAYOUT, QUIET, WHOLE, WAIT, EXPLAIN],
     },
     KnownCommand {
         name: "close",
         about: "Closes the open period through a day",
-        words: &[BOOK, PERIOD, DATE, DRY_RUN, WAIT],
+        words: &[BOOK, PERIOD, DATE, DRY_RUN, NEAR, WAIT, EXPLAIN],
     },
     KnownCommand {
         name: "choose",
         about: "Charges one of several records in dispute with each other, and none of the others",
-        words: &[BOOK, SHA256, NAMES, DRY_RUN, WAIT],
+        words: &[BOOK, SHA256, NAMES, DRY_RUN, WAIT, EXPLAIN],
     },
     KnownCommand {
         name: "adopt",
         about: "Takes steps that began at different times for different work, for good",
-        words: &[BOOK, DRY_RUN, WAIT],
+        words: &[BOOK, DRY_RUN, WAIT, EXPLAIN],
     },
     KnownCommand {
         name: "statement",
         about: "Prints what a period charges",
-        words: &[BOOK, PERIOD, CSV, CENTRE, OTHER_PRICES, WAIT],
+        words: &[BOOK, PERIOD, CSV, CENTRE, OTHER_PRICES, WAIT, EXPLAIN],
     },
     KnownCommand {
         name: "adjustments",
         about: "Prints what a period adds to closed periods and reverses in them",
-        words: &[BOOK, PERIOD, CSV, CENTRE, WAIT],
+        words: &[BOOK, PERIOD, CSV, CENTRE, WAIT, EXPLAIN],
     },
     KnownCommand {
         name: "details",
         about: "Prints each record that a period counts, and what it costs",
-        words: &[BOOK, PERIOD, CSV, CENTRE, WAIT],
+        words: &[BOOK, PERIOD, CSV, CENTRE, WAIT, EXPLAIN],
     },
     KnownCommand {
         name: "bill",
         about: "Prints the bill of a centre for a period, or what each centre owes",
-        words: &[BOOK, PERIOD, CSV, CENTRE, WAIT],
+        words: &[BOOK, PERIOD, CSV, CENTRE, WAIT, EXPLAIN],
     },
     KnownCommand {
         name: "focus",
         about: "Prints what a period charges as a table of cost and usage by FOCUS 1.0",
-        words: &[BOOK, PERIOD, WAIT],
+        words: &[BOOK, PERIOD, WAIT, EXPLAIN],
     },
     KnownCommand {
         name: "coverage",
         about: "Prints how many records a period counts of each day and system",
-        words: &[BOOK, PERIOD, CSV, WAIT],
+        words: &[BOOK, PERIOD, CSV, WAIT, EXPLAIN],
     },
     KnownCommand {
         name: "page",
         about: "Prints a period as a page for a browser",
-        words: &[BOOK, PERIOD, WAIT],
+        words: &[BOOK, PERIOD, WAIT, EXPLAIN],
     },
     KnownCommand {
         name: "disputes",
         about: "Prints the records in dispute",
-        words: &[BOOK, DISPUTE_CSV, WAIT],
+        words: &[BOOK, DISPUTE_CSV, WAIT, EXPLAIN],
     },
     KnownCommand {
         name: "record",
         about: "Prints a record, how it was priced, and what became of it",
-        words: &[BOOK, RECORD_NAME, WAIT],
+        words: &[BOOK, RECORD_NAME, WAIT, EXPLAIN],
     },
     KnownCommand {
         name: "periods",
         about: "Prints the periods",
-        words: &[BOOK, WAIT],
+        words: &[BOOK, WAIT, EXPLAIN],
     },
     KnownCommand {
         name: "rulings",
         about: "Prints the tariffs, the closes, the choices and the adoption",
-        words: &[BOOK, WAIT],
+        words: &[BOOK, WAIT, EXPLAIN],
     },
     KnownCommand {
         name: "tariff-text",
         about: "Prints the tariff file that begins on a day, byte for byte",
-        words: &[BOOK, FIRST_DAY, WAIT],
+        words: &[BOOK, FIRST_DAY, WAIT, EXPLAIN],
     },
     KnownCommand {
         name: "upgrade",
         about: "Brings books of an older form over to the present one",
-        words: &[BOOK, WAIT],
+        words: &[BOOK, WAIT, EXPLAIN],
     },
     KnownCommand {
         name: "audit",
         about: "Audits the whole file of books",
-        words: &[BOOK, QUIET, WAIT],
+        words: &[BOOK, QUIET, WAIT, EXPLAIN],
     },
     KnownCommand {
         name: "backup",
         about: "Copies the books to another file, and audits the copy",
-        words: &[BOOK, COPY, QUIET, WAIT],
+        words: &[BOOK, COPY, QUIET, WAIT, EXPLAIN],
     },
     KnownCommand {
         name: "serve",
         about: "Serves the books over HTTP, to this machine only",
-        words: &[BOOK, PORT, REQUESTS],
+        words: &[BOOK, PORT, REQUESTS, EXPLAIN],
     },
     KnownCommand {
         name: "explain",
         about: "Says what a number or a word on standard error means, and what to do",
-        words: &[NUMBER_KIND, NUMBER],
+        words: &[NUMBER_KIND, NUMBER, EXPLAIN],
     },
 ];

@@ -1,12 +1,13 @@
 //! The command that `clap` found in the words.
 
 ghost use Rattle.std.specs.Prelude.{◌≡◌, ◌≢◌, [], ◌∷◌, ◌++◌, IfSome, IsSome, IsSomeAnd, codes};
+ghost use Rattle.std.specs.Prelude.{false};
 ghost use Rattle.clap.specs.Simple.{subcommand_rows_of};
 ghost use Rattle.command_line.specs.Given.{HasWord, HasWords, HasWordsOf, NoneIs, bookless, changes};
 ghost use Rattle.command_line.specs.Given.{services};
 ghost use Rattle.command_line.specs.Known as known;
 ghost use Rattle.command_line.specs.Requests.{IsAtOnce, IsLeftOut, IsOfBooks, IsOfCommand, IsRequest};
-ghost use Rattle.command_line.specs.Requests.{IsRuling, IsText, rows_in};
+ghost use Rattle.command_line.specs.Requests.{IsDryRun, IsNear, IsRuling, IsText, rows_in};
 ghost use Rattle.command_line.specs.Requests as spec;
 
 use crate::given_words::{
@@ -74,7 +75,7 @@ fn change_in<'a>(name: &str, found: &ArgMatches<'a>) -> Option<Request<'a>>
         "import" => of_books_in(found, import_in(found)),
         "close" => of_books_in(found, close_in(found)),
         "choose" => choice_in(found),
-        "adopt" => of_books_in(found, ruling_in(found, Ruling::Adopt)),
+        "adopt" => of_books_in(found, ruling_in(found, false, Ruling::Adopt)),
         _ => service_in(name, found),
     }
 }
@@ -146,23 +147,30 @@ fn are_none(cpu: u64, excp: u64, price: u64) -> bool
 fn trial_in<'a>(found: &ArgMatches<'a>) -> Option<Request<'a>>
     ensures request { IfSome result (IsOfCommand (codes "trial") (rows_in found.now)) }
     ensures some { HasWords (rows_in found.now) (known.layouts ∷ known.rate_of (codes "cpu")
-        ∷ known.rate_of (codes "excp") ∷ known.rate_of (codes "record") ∷ known.prices ∷ [])
+        ∷ known.rate_of (codes "excp") ∷ known.rate_of (codes "record") ∷ known.prices
+        ∷ known.whole ∷ known.explain ∷ [])
         → IsSome result }
 {
     let layout = layout_in(found)?;
     let cpu = rate_in(found, "cpu")?;
     let excp = rate_in(found, "excp")?;
     let price = rate_in(found, "record")?;
+    let whole = flag_in(found, "whole")?;
     match text_in(found, "tariff") {
         None => Some(Request::Trial {
             layout,
             cpu,
             excp,
             record: price,
+            whole,
         }),
         Some(file) => {
             if are_none(cpu, excp, price) {
-                Some(Request::TrialUnder { layout, file })
+                Some(Request::TrialUnder {
+                    layout,
+                    file,
+                    whole,
+                })
             } else {
                 Some(Request::Unclear(Unclear::Prices))
             }
@@ -174,16 +182,19 @@ fn check_in<'a>(found: &ArgMatches<'a>) -> Option<Request<'a>>
     ensures request { IfSome result (IsOfCommand (codes "check") (rows_in found.now)) }
     ensures some { HasWord (rows_in found.now) known.file
         → HasWord (rows_in found.now) known.layouts → HasWord (rows_in found.now) known.quiet
+        → HasWord (rows_in found.now) known.whole → HasWord (rows_in found.now) known.with_names
         → IsSome result }
 {
-    Some(Request::Check(dump_in(found)?))
+    let dump = dump_in(found)?;
+    let names = flag_in(found, "names")?;
+    Some(Request::Check { dump, names })
 }
 
 fn import_in<'a>(found: &ArgMatches<'a>) -> Option<BookRequest<'a>>
     ensures asked { IfSome result (IsOfBooks (codes "import") (rows_in found.now)) }
     ensures some { HasWord (rows_in found.now) known.file
         → HasWord (rows_in found.now) known.layouts → HasWord (rows_in found.now) known.quiet
-        → IsSome result }
+        → HasWord (rows_in found.now) known.whole → IsSome result }
 {
     Some(BookRequest::Import(dump_in(found)?))
 }
@@ -191,33 +202,49 @@ fn import_in<'a>(found: &ArgMatches<'a>) -> Option<BookRequest<'a>>
 fn tariff_in<'a>(found: &ArgMatches<'a>) -> Option<BookRequest<'a>>
     ensures asked { IfSome result (IsOfBooks (codes "tariff") (rows_in found.now)) }
     ensures some { HasWord (rows_in found.now) known.file
-        → HasWord (rows_in found.now) known.dry_run → IsSome result }
+        → HasWord (rows_in found.now) known.dry_run → HasWord (rows_in found.now) known.near
+        → IsSome result }
 {
     let file = text_in(found, "file")?;
-    ruling_in(found, Ruling::Tariff { file })
+    let near = flag_in(found, "near")?;
+    ruling_in(found, near, Ruling::Tariff { file })
 }
 
 fn close_in<'a>(found: &ArgMatches<'a>) -> Option<BookRequest<'a>>
     ensures asked { IfSome result (IsOfBooks (codes "close") (rows_in found.now)) }
     ensures some { HasWord (rows_in found.now) known.period
         → HasWord (rows_in found.now) known.date
-        → HasWord (rows_in found.now) known.dry_run → IsSome result }
+        → HasWord (rows_in found.now) known.dry_run → HasWord (rows_in found.now) known.near
+        → IsSome result }
 {
     let period = number_in(found, "period")?;
     let date = text_in(found, "date")?;
-    ruling_in(found, Ruling::Close { period, date })
+    let near = flag_in(found, "near")?;
+    ruling_in(found, near, Ruling::Close { period, date })
 }
 
-/// The ruling, or a dry run of it.
-fn ruling_in<'a>(found: &ArgMatches<'_>, ruling: Ruling<'a>) -> Option<BookRequest<'a>>
+/// The ruling, or one that is made only where its day is not far.
+fn ruled<'a>(near: bool, ruling: Ruling<'a>) -> BookRequest<'a>
+    ensures { (name : _) (rows : _) → IsRuling name rows ruling.entry → IsDryRun rows false
+        → IsNear rows ruling.entry near → IsOfBooks name rows result }
+{
+    if near {
+        return BookRequest::RuleNear(ruling);
+    }
+    BookRequest::Rule(ruling)
+}
+
+/// The ruling, or a dry run of it: that says of a day that it is far, and refuses none for it.
+fn ruling_in<'a>(found: &ArgMatches<'_>, near: bool, ruling: Ruling<'a>) -> Option<BookRequest<'a>>
     ensures asked { (name : _) → IsRuling name (rows_in found.now) ruling.entry
+        → IsNear (rows_in found.now) ruling.entry near
         → IfSome result (IsOfBooks name (rows_in found.now)) }
     ensures some { HasWord (rows_in found.now) known.dry_run → IsSome result }
 {
     if flag_in(found, "dry-run")? {
         Some(BookRequest::DryRun(ruling))
     } else {
-        Some(BookRequest::Rule(ruling))
+        Some(ruled(near, ruling))
     }
 }
 
@@ -232,7 +259,7 @@ fn choice_in<'a>(found: &ArgMatches<'a>) -> Option<Request<'a>>
     match text_in(found, "sha256") {
         Some(name) => match text_in(found, "from") {
             Some(_) => unclear,
-            None => of_books_in(found, ruling_in(found, Ruling::Choose { name })),
+            None => of_books_in(found, ruling_in(found, false, Ruling::Choose { name })),
         },
         None => match text_in(found, "from") {
             Some(file) => listed_in(found, file),
@@ -241,7 +268,18 @@ fn choice_in<'a>(found: &ArgMatches<'a>) -> Option<Request<'a>>
     }
 }
 
-/// The choices of a list. A dry run is not of them.
+/// The choices of a list, or a dry run of them.
+fn listed<'a>(tried: bool, file: &'a str) -> BookRequest<'a>
+    ensures { (rows : _) → IsLeftOut rows (codes "sha256") → IsText rows (codes "from") file.entry
+        → IsDryRun rows tried → IsOfBooks (codes "choose") rows result }
+{
+    if tried {
+        return BookRequest::TryListed { file };
+    }
+    BookRequest::ChooseListed { file }
+}
+
+/// What is asked by a list.
 fn listed_in<'a>(found: &ArgMatches<'a>, file: &'a str) -> Option<Request<'a>>
     ensures request { IsLeftOut (rows_in found.now) (codes "sha256")
         → IsText (rows_in found.now) (codes "from") file.entry
@@ -250,11 +288,8 @@ fn listed_in<'a>(found: &ArgMatches<'a>, file: &'a str) -> Option<Request<'a>>
         → HasWord (rows_in found.now) known.dry_run → HasWord (rows_in found.now) known.wait
         → IsSome result }
 {
-    if flag_in(found, "dry-run")? {
-        Some(Request::Unclear(Unclear::DryRun))
-    } else {
-        of_books_in(found, Some(BookRequest::ChooseListed { file }))
-    }
+    let tried = flag_in(found, "dry-run")?;
+    of_books_in(found, Some(listed(tried, file)))
 }
 
 fn audit_in<'a>(found: &ArgMatches<'_>) -> Option<BookRequest<'a>>

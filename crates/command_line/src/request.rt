@@ -30,6 +30,8 @@ pub enum NumberKind {
     Layout,
     /// The word `far`.
     Far,
+    /// The word `torn`.
+    Torn,
 }
 
 /// A dump in a file.
@@ -41,6 +43,8 @@ pub struct DumpFile<'a> {
     pub layout: Layout,
     /// No progress is shown.
     pub quiet: bool,
+    /// It has to be whole.
+    pub whole: bool,
 }
 
 /// Words that do not say what is asked, alone or together.
@@ -52,8 +56,6 @@ pub enum Unclear {
     Prices,
     /// Which period: its number has a sign, or a 0 before other digits.
     Period,
-    /// What a dry run is of: it is of one choice, and a list of names is given.
-    DryRun,
 }
 
 /// A ruling on the books.
@@ -120,11 +122,18 @@ pub enum BookRequest<'a> {
     Init,
     /// A ruling made.
     Rule(Ruling<'a>),
+    /// A ruling made where its day is not far.
+    RuleNear(Ruling<'a>),
     /// A dump read into the books.
     Import(DumpFile<'a>),
     /// The records of a list chosen, one after the other.
     ChooseListed {
         /// The path of the list, which has a name a line.
+        file: &'a str,
+    },
+    /// What the choices of a list would be answered printed, and nothing changed.
+    TryListed {
+        /// The path of the list.
         file: &'a str,
     },
     /// What a ruling would change printed, and nothing changed.
@@ -175,6 +184,8 @@ pub enum Request<'a> {
         excp: u64,
         /// Ten-thousandths of the money unit for a record.
         record: u64,
+        /// The input has to be whole.
+        whole: bool,
     },
     /// The same under the tariff of a file.
     TrialUnder {
@@ -182,9 +193,15 @@ pub enum Request<'a> {
         layout: Layout,
         /// The path of the tariff.
         file: &'a str,
+        /// The input has to be whole.
+        whole: bool,
     },
     /// What every record of a file is.
-    Check(DumpFile<'a>),
+    Check {
+        dump: DumpFile<'a>,
+        /// With the names of those that could be kept.
+        names: bool,
+    },
     /// What a number on standard error or in a list means, or a word that has none.
     Explain {
         kind: NumberKind,

@@ -63,6 +63,8 @@ impl Connections for MemoryClients<'_> {
 
     ghost left = { λ clients. clients.left };
 
+    ghost most = { λ clients. clients.left };
+
     ghost sent = { λ clients. Some clients.bytes.now };
 
     // Whatever became of it, those after it send the same.

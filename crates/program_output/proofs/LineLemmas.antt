@@ -1,4 +1,4 @@
--- No line of a check list is longer than 64 bytes, and the last one is not empty.
+-- No line of a check list is longer than 128 bytes, and the last one is not empty.
 use Rattle.std.proofs.Common.{ℕ, ◌+◌, ◌^◌, ◌<◌, ◌≤◌, Bool, true, false, List, ◌++◌, length, codes}
 use Rattle.std.proofs.Common.{arith, lit≤, length-append, if◌then◌else◌, nat_lt, slice_index}
 use Rattle.std.proofs.Common.{decimal}
@@ -7,7 +7,7 @@ use Rattle.byteorder.specs.Numbers.{big_from-lt}
 use Rattle.smf_frames.specs.declared.fault.FrameFault.TheVariants.{SegmentLength}
 use Rattle.book_model.specs.Words.{FrameFault, frame_number, type_of, class_of, damage_number}
 use Rattle.book_model.specs.Words.{ledger_number, Class}
-use Rattle.smf_type30.specs.declared.record_class.Class.TheVariants.{Damaged}
+use Rattle.smf_type30.specs.declared.record_class.Class.TheVariants.{Damaged, Usage}
 use Rattle.smf_type30.specs.declared.damage.Damage.{Damage}
 use Rattle.smf_type30.specs.declared.damage.Damage.TheVariants.{Short}
 use Rattle.book_model.specs.declared.fault.LedgerFault.{LedgerFault}
@@ -15,7 +15,12 @@ use Rattle.book_model.specs.declared.fault.LedgerFault.TheVariants.{Memory}
 use Rattle.book_import.specs.declared.receipt.Stop.{Stop}
 use Rattle.book_import.specs.declared.receipt.Stop.TheVariants.{Frame, Ledger}
 use Rattle.book_reports.specs.ReceiptLines.{fault_text, stop_text}
-use Rattle.book_reports.specs.CheckLists.{type_text, class_text, record_line, last_line}
+use Rattle.hex.specs.Hex.{encode_lower, lower_digits}
+use Rattle.hex.proofs.HexLemmas.{length-encode_with}
+use Rattle.sha2.specs.Sha256.{sha256}
+use Rattle.sha2.proofs.Facts256.{length-sha256}
+use Rattle.book_reports.specs.CheckLists.{type_text, class_text, digest_text, last_line, name_text}
+use Rattle.book_reports.specs.CheckLists.{record_line}
 
 -- a word and the number of a fault
 fault_short : (word : List ℕ) (number : ℕ) → number < 100
@@ -69,14 +74,31 @@ type_short bytes small =
       | false ↦ digits
     ]
 
+-- the name of a record has two digits for each of 32 bytes
+digest_short : (bytes : List ℕ) → length (digest_text bytes) ≤ 65
+digest_short bytes =
+    omega (
+      arith,
+      length-append (codes " ") (encode_lower (sha256 bytes)),
+      length-encode_with lower_digits (sha256 bytes),
+      length-sha256 bytes,
+    )
+
+name_short : (class : Class) (names : Bool) (bytes : List ℕ)
+    → length (name_text class names bytes) ≤ 65
+name_short Usage true bytes = digest_short bytes
+name_short Usage false bytes = lit≤ tt
+name_short class names bytes = lit≤ tt
+
 -- the line of a record
-pub record_line_short : (number : ℕ) (bytes : List ℕ) → number < 2 ^ 64
-    → ((k : ℕ) → slice_index bytes k < 256) → length (record_line number bytes) ≤ 64
+pub record_line_short : (names : Bool) (number : ℕ) (bytes : List ℕ) → number < 2 ^ 64
+    → ((k : ℕ) → slice_index bytes k < 256) → length (record_line names number bytes) ≤ 128
 unfolding record_line
-record_line_short number bytes fits small =
+record_line_short names number bytes fits small =
     let digits = length-decimal-le 20 number (lit≤ tt) (omega arith) fits in
     let type_is = type_short bytes small in
     let class_is = class_short (class_of bytes) in
+    let name_is = name_short (class_of bytes) names bytes in
     simp length-append (omega arith)
 
 -- the last line, which is not empty

@@ -1,11 +1,16 @@
 -- A check list that is written as the records of its dump come. Words of the code alone.
-use Rattle.std.specs.Prelude.{◌≡◌, ℕ, ◌+◌, ◌≤◌, List, ◌++◌, length, Option, Some, None, Result, Ok}
+use Rattle.std.specs.Prelude.{◌≡◌, ℕ, ◌+◌, ◌≤◌, Bool, List, ◌++◌, length, Option, Some, None, Result}
+use Rattle.std.specs.Prelude.{Ok}
 use Rattle.std.specs.Prelude.{Err, string_bytes}
 use Rattle.book_model.specs.Words.{Layout, FrameFault, front, Joining, HasTaken, broken_by}
 use Rattle.book_import.specs.Pieces.{TakesAll}
+use Rattle.book_import.specs.declared.receipt.Stop.{Stop}
 use Rattle.book_lists.specs.declared.fault.ReportFault.{ReportFault}
 use Rattle.book_lists.specs.Streamed.{WritesFirst}
+use Rattle.program_output.specs.declared.listing.Checked.{Checked}
 use Rattle.program_output.specs.declared.listing.Listing.{Listing}
+use Rattle.program_output.specs.declared.marks.Marks.{Marks}
+use Rattle.program_output.specs.Marks.{is_torn, marks_in}
 use Rattle.book_reports.specs.CheckLists.{record_lines}
 
 -- how many bytes are written at once, at most (the office's rule)
@@ -14,7 +19,7 @@ most_written = 65536
 
 -- no line of a list is longer
 abbrev pub longest_line : ℕ
-longest_line = 64
+longest_line = 128
 
 -- the bytes that are waiting to be written
 abbrev pub waiting : Listing → List ℕ
@@ -24,31 +29,40 @@ waiting listing = string_bytes listing.text
 abbrev pub listed_count : Listing → ℕ
 listed_count listing = listing.count
 
+-- which of them are headers and trailers
+abbrev pub listed_marks : Listing → Marks
+listed_marks listing = listing.marks
+
+-- what is told of a dump with so many records and these marks, after this stop
+abbrev pub checked_as : Stop → ℕ → Marks → Checked
+checked_as stop records marks = record { stop = stop; is_torn = is_torn records marks }
+
 -- one more line can be written together with what is waiting
 abbrev pub HasRoom : Listing → Type 0
 HasRoom listing = length (waiting listing) + longest_line ≤ most_written
 
 -- the lines of these records were written, or wait
-pub record HasListed (records : List (List ℕ)) (held holds : Option (List ℕ)) (listing : Listing)
-    : Type 0 where
+pub record HasListed (names : Bool) (records : List (List ℕ)) (held holds : Option (List ℕ))
+    (listing : Listing) : Type 0 where
   pub count : listed_count listing ≡ length records
-  pub lines : WritesFirst (record_lines 1 records) (waiting listing) held holds
+  pub marks : listed_marks listing ≡ marks_in records
+  pub lines : WritesFirst (record_lines names 1 records) (waiting listing) held holds
 
 -- the first lines of a text's records were written, whatever bytes follow the text
-abbrev pub WritesSome : Layout → List ℕ → Option (List ℕ) → Option (List ℕ) → Type 0
-WritesSome layout text held holds = (more : List ℕ) → (left : List ℕ)
-    × WritesFirst (record_lines 1 (front layout (text ++ more)).records) left held holds
+abbrev pub WritesSome : Bool → Layout → List ℕ → Option (List ℕ) → Option (List ℕ) → Type 0
+WritesSome names layout text held holds = (more : List ℕ) → (left : List ℕ)
+    × WritesFirst (record_lines names 1 (front layout (text ++ more)).records) left held holds
 
 -- Where the lines of the records before a piece were written, or are waiting, so are now those of
 -- the records that the piece completes; or, before a fault, the first of these lines were written.
-abbrev pub ListsPiece : Joining → List ℕ → Listing → Listing → Option (List ℕ) → Option (List ℕ)
-    → Result (Option FrameFault) ReportFault → Type 0
-ListsPiece joining piece began listing had has (Ok found) = (text : List ℕ) (held : Option (List ℕ))
-    → HasTaken text joining → HasListed (front joining.layout text).records held had began
-    → HasListed (front joining.layout (text ++ piece)).records held has listing
-ListsPiece joining piece began listing had has (Err fault) = (text : List ℕ) (held : Option (List ℕ))
-    → HasTaken text joining → HasListed (front joining.layout text).records held had began
-    → WritesSome joining.layout (text ++ piece) held has
+abbrev pub ListsPiece : Bool → Joining → List ℕ → Listing → Listing → Option (List ℕ)
+    → Option (List ℕ) → Result (Option FrameFault) ReportFault → Type 0
+ListsPiece names joining piece began listing had has (Ok found) = (text : List ℕ) (held : Option (List ℕ))
+    → HasTaken text joining → HasListed names (front joining.layout text).records held had began
+    → HasListed names (front joining.layout (text ++ piece)).records held has listing
+ListsPiece names joining piece began listing had has (Err fault) = (text : List ℕ) (held : Option (List ℕ))
+    → HasTaken text joining → HasListed names (front joining.layout text).records held had began
+    → WritesSome names joining.layout (text ++ piece) held has
 
 -- a fault breaks the front of a piece at a descriptor, whatever bytes follow
 abbrev pub Breaks : Joining → List ℕ → FrameFault → Type 0

@@ -2,7 +2,7 @@
 use Rattle.std.specs.Prelude.{ℕ, List, [], ◌∷◌, ◌++◌, codes}
 use Rattle.program_output.specs.declared.words.WordKind.{WordKind}
 use Rattle.program_output.specs.declared.words.WordKind.TheVariants.{Io, Busy, Exists, Word}
-use Rattle.program_output.specs.declared.words.WordKind.TheVariants.{Unsound, Log, Layout, Far}
+use Rattle.program_output.specs.declared.words.WordKind.TheVariants.{Unsound, Log, Layout, Far, Torn}
 
 -- what a number or a word means, and what to do
 abbrev pub Texts : Type 0
@@ -312,8 +312,16 @@ word_texts Layout = (
       ++ codes "counted twice.",
 )
 word_texts Far = (
-  codes "The day of a close or a tariff lies more than 366 days after the newest record's, or, "
-      ++ codes "where the open period charges none, after the last close.",
-  codes "Check the year: neither can be taken back. If it is wrong, restore the backup from "
-      ++ codes "before it; --dry-run shows first what a ruling changes.",
+  codes "The day of a close lies more than 7 days after the newest record of its period, or "
+      ++ codes "after today; or that of a tariff more than 366 days after it; or, where the open "
+      ++ codes "period charges none, either lies more than 366 days after the last close.",
+  codes "Check the date: neither can be taken back. With --near such a ruling is refused; one "
+      ++ codes "that was made is undone by the backup from before it. --dry-run shows first what "
+      ++ codes "a ruling changes.",
+)
+word_texts Torn = (
+  codes "The dump has no record, or fewer trailers than headers: it was cut off, or not all of it "
+      ++ codes "came.",
+  codes "Send it again, whole, and import that; nothing is counted twice. With --whole such a dump "
+      ++ codes "is not imported from a file, and a command that read one ends with status 4.",
 )

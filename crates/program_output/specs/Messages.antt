@@ -71,6 +71,10 @@ layout_line = line_of (codes "layout")
 abbrev pub far_line : List ℕ
 far_line = line_of (codes "far")
 
+-- a dump has no record, or fewer trailers than headers
+abbrev pub torn_line : List ℕ
+torn_line = line_of (codes "torn")
+
 -- nothing has the number that was to be explained; these are the numbers that there are
 abbrev pub no_number_line : List ℕ
 no_number_line =

@@ -16,7 +16,7 @@ ghost use Rattle.program_output.specs.Listings.{TakesOrBreaks};
 ghost use Rattle.program_output.specs.Readings.{reading};
 ghost use Rattle.book_lists.specs.Writing.{is_write_fault, is_write_or_memory};
 
-use crate::listing::Listing;
+use crate::listing::{Checked, Listing};
 use book_core::{Sink, Source};
 use book_import::{PIECE, Stop, read_piece, reading_end};
 use book_reports::ReportFault;
@@ -27,6 +27,7 @@ use streams::{Reader, Writer};
 /// Adds the lines of the records that a piece completes. Gives the fault of a descriptor, where one
 /// comes.
 fn list_records<W: Writer + Drop>(
+    names: bool,
     joiner: &mut Joiner,
     piece: &[u8],
     listing: &mut Listing,
@@ -37,7 +38,7 @@ fn list_records<W: Writer + Drop>(
     requires few { listed_count listing.old + length piece.now < 2 ^ 63 }
     requires room { HasRoom listing.old }
     requires unwritten { has_failed sink.old ≡ false }
-    ensures listed { ListsPiece joiner.old piece.now listing.old listing.new
+    ensures listed { ListsPiece names joiner.old piece.now listing.old listing.new
         (W.contents (writer_of sink.old)) (W.contents (writer_of sink.new)) result }
     ensures grown { (more : List ℕ)
         × Appends (W.contents (writer_of sink.old)) (W.contents (writer_of sink.new)) more }
@@ -58,7 +59,7 @@ fn list_records<W: Writer + Drop>(
         let Some(bytes) = joiner.record() else {
             return Ok(None);
         };
-        listing.push_line(bytes, sink)?;
+        listing.push_line(names, bytes, sink)?;
         joiner.next();
     }
 }
@@ -66,6 +67,7 @@ fn list_records<W: Writer + Drop>(
 /// Writes the lines of the records that a piece completes. Gives the fault of a descriptor, where
 /// one comes.
 fn list_piece<W: Writer + Drop>(
+    names: bool,
     joiner: &mut Joiner,
     piece: &[u8],
     listing: &mut Listing,
@@ -76,7 +78,7 @@ fn list_piece<W: Writer + Drop>(
     requires few { listed_count listing.old + length piece.now < 2 ^ 63 }
     requires room { HasRoom listing.old }
     requires unwritten { has_failed sink.old ≡ false }
-    ensures listed { ListsPiece joiner.old piece.now listing.old listing.new
+    ensures listed { ListsPiece names joiner.old piece.now listing.old listing.new
         (W.contents (writer_of sink.old)) (W.contents (writer_of sink.new)) result }
     ensures waits { OnOk result (waiting listing.new ≡ []) }
     ensures grown { (more : List ℕ)
@@ -86,12 +88,13 @@ fn list_piece<W: Writer + Drop>(
     ensures failed { has_failed sink.new ≡ is_write_fault result }
     ensures fault { IfErr result (λ fault. is_write_or_memory fault ≡ true) }
 {
-    let found = list_records(joiner, piece, listing, sink)?;
+    let found = list_records(names, joiner, piece, listing, sink)?;
     listing.flush(sink)?;
     Ok(found)
 }
 
-/// Writes what every record of a dump is, and why there are no more. The lines of a piece are
+/// Writes what every record of a dump is, with the names of those that could be kept or without, and
+/// why there are no more. The lines of a piece are
 /// written before the next one is read; it holds a piece, a record, and the lines that are written
 /// at once. After a fault at a descriptor, or a write that failed, nothing more is read. After a
 /// fault the writer has a prefix of the list that is not the whole.
@@ -99,9 +102,10 @@ pub fn check_list<R: Reader + Drop, W: Writer + Drop>(
     alloc: Global,
     source: &mut Source<R>,
     layout: Layout,
+    names: bool,
     reads: u64,
     sink: &mut Sink<W>,
-) -> Result<Stop, ReportFault>
+) -> Result<Checked, ReportFault>
     requires asked { sources.reads_of source.old ≤ 2 ^ 62 }
     requires unread { sources.has_failed source.old ≡ false }
     requires unended { sources.has_ended source.old ≡ false }
@@ -109,7 +113,7 @@ pub fn check_list<R: Reader + Drop, W: Writer + Drop>(
     requires unwritten { has_failed sink.old ≡ false }
 
     // What was read, how far the reading went, and what was written.
-    ensures check { IsCheck
+    ensures check { IsCheck names
         (reading layout (cut_of source.new) reads (input R.remaining source.old source.new))
         (W.contents (writer_of sink.old)) (W.contents (writer_of sink.new)) result }
 
@@ -124,7 +128,7 @@ pub fn check_list<R: Reader + Drop, W: Writer + Drop>(
     // asked, so none stop the list or refuse it.
     ensures failed { has_failed sink.new ≡ is_write_fault result }
     ensures fault { IfErr result (λ fault. is_write_or_memory fault ≡ true) }
-    ensures stop { IfOk result (λ stop. is_stop_of_books stop ≡ false) }
+    ensures stop { IfOk result (λ told. is_stop_of_books told.stop ≡ false) }
 {
     let mut joiner = Joiner::new(alloc, layout)?;
     let mut listing = Listing::new(alloc)?;
@@ -133,7 +137,7 @@ pub fn check_list<R: Reader + Drop, W: Writer + Drop>(
         let Some(count) = read_piece(source, &mut piece) else {
             return listing.end(reading_end(source, &joiner), sink);
         };
-        match list_piece(&mut joiner, &piece[..count], &mut listing, sink) {
+        match list_piece(names, &mut joiner, &piece[..count], &mut listing, sink) {
             Ok(None) => {}
             Ok(Some(fault)) => return listing.end(Stop::Frame(fault), sink),
             Err(fault) => return Err(fault),

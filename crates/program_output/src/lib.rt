@@ -13,7 +13,9 @@ mod frame_faults;
 mod laws;
 mod layouts;
 mod ledger_faults;
+mod listed_line;
 mod listing;
+mod marks;
 mod message;
 mod names;
 mod status;
@@ -28,12 +30,14 @@ pub use error_line::{PROGRAM, hand_all, say};
 pub use explanations::{Explanation, FaultKind, explained};
 pub use laws::{numbers_are_one_to_one, same_records_same_texts};
 pub use layouts::is_misread;
+pub use listing::Checked;
+pub use marks::is_receipt_torn;
 pub use message::{
     arguments_failed, books_busy, books_unsound, far_noticed, input_refused, input_refused_at,
     io_failed, layout_noticed, ledger_refused, ledger_refused_at, log_left, no_such_number,
-    out_of_memory, report_failed, stopped, words_refused,
+    out_of_memory, report_failed, stopped, torn_noticed, words_refused,
 };
-pub use names::{MAX_NAMES, NameList, NamesFault};
+pub use names::{Listed, MAX_LIST, NameList, NamesFault};
 pub use status::Status;
 pub use trials::trial;
 pub use words::WordKind;

@@ -6,7 +6,7 @@ ghost use Rattle.std.specs.IoError.{error_kind};
 ghost use Rattle.program_output.specs.Messages.{AreSaid, arguments_line, busy_line, far_line};
 ghost use Rattle.program_output.specs.Messages.{io_line, layout_line, ledger_line, line_at, line_of};
 ghost use Rattle.program_output.specs.Messages.{log_line, no_number_line};
-ghost use Rattle.program_output.specs.Messages.{report_line, stop_lines, unsound_line};
+ghost use Rattle.program_output.specs.Messages.{report_line, stop_lines, torn_line, unsound_line};
 ghost use Rattle.program_output.specs.Messages as messages;
 ghost use Rattle.program_output.specs.Statuses as statuses;
 ghost use Rattle.program_output.specs.Statuses.{arguments_status, log_status, report_status};
@@ -153,6 +153,13 @@ pub fn far_noticed<E: Writer>(errors: &mut E)
     ensures { AreSaid E.contents E.may_answer (far_line ∷ []) errors.old errors.new }
 {
     say_line(errors, "far");
+}
+
+/// Says that a dump has no record, or fewer trailers than headers. The status stays as it is.
+pub fn torn_noticed<E: Writer>(errors: &mut E)
+    ensures { AreSaid E.contents E.may_answer (torn_line ∷ []) errors.old errors.new }
+{
+    say_line(errors, "torn");
 }
 
 /// Says why a ledger refused.

@@ -2,21 +2,25 @@
 
 ghost use Rattle.std.specs.Prelude.{◌≡◌, ◌++◌, [], ◌∷◌, ℕ, List, Ok, IfErr, IfOk, OnOk};
 ghost use Rattle.std.specs.Str.Lines.{strip_carriage_return};
-ghost use Rattle.program_output.specs.Names.{HasRead, IsNamesFault, IsNoName, KeepsName, name_in};
-ghost use Rattle.program_output.specs.Names.{names_in};
+ghost use Rattle.program_output.specs.Names.{HasRead, IsNamesFault, IsNoLine, KeepsLine, names_in};
+ghost use Rattle.program_output.specs.Names.{numbers_in};
 
-use hex::FromHex;
+use crate::listed_line::{ListedLine, read_line};
 use std::alloc::{AllocFailed, Global};
 
-/// The most names of a list: books take no more choices.
-pub const MAX_NAMES: usize = 1_000_000;
+/// The most lines of a list: books take no more choices.
+const MAX_NAMES: usize = 1_000_000;
+
+/// How many bytes of a list are read: one more than a list has that is as long as it may be, for each
+/// line its bytes and the two of its end. So many have a line that is too long, or one too many.
+pub const MAX_LIST: u64 = 130 * MAX_NAMES as u64 + 1;
 
 /// Why there are no names of a list.
 #[derive(Clone, Copy)]
 pub enum NamesFault {
     /// There was no memory for them.
     Memory,
-    /// The line of this number is no name, and those before it are.
+    /// The line of this number is the first that says anything but a name.
     Line(usize),
     /// There is a line after the last that a list may have.
     TooMany,
@@ -32,11 +36,13 @@ impl<T: Drop> From<AllocFailed<T>> for NamesFault {
     }
 }
 
-/// The name that a line spells, whose bytes may be no text.
-fn name_of_line(line: &[u8]) -> Option<[u8; 32]>
-    ensures { result ≡ name_in line.now }
-{
-    <[u8; 32] as FromHex>::from_hex(line).ok()
+/// The names of a list.
+#[derive(Drop)]
+pub struct Listed {
+    /// The names, in the order of their lines.
+    pub names: Vec<[u8; 32]>,
+    /// The number of the line of each: others may be blank.
+    pub lines: Vec<usize>,
 }
 
 /// A line without the carriage return before its line feed, if there is one.
@@ -51,25 +57,31 @@ fn without_return(line: &[u8]) -> &[u8]
     }
 }
 
-/// Keeps the name that the next line of a list spells.
-fn keep_name(names: &mut Vec<[u8; 32]>, line: &[u8]) -> Result<(), NamesFault>
-    ensures kept { OnOk result (KeepsName names.old.items line.now names.new.items) }
-    ensures refused { IfErr result (IsNoName names.old.items line.now) }
+/// Keeps what the line says after so many that have ended. Gives how many have ended with it.
+fn keep_line(listed: &mut Listed, ended: usize, line: &[u8]) -> Result<usize, NamesFault>
+    ensures kept { IfOk result (KeepsLine listed.old ended line.now listed.new) }
+    ensures refused { IfErr result (IsNoLine ended line.now) }
 {
-    if names.len() >= MAX_NAMES {
+    if ended >= MAX_NAMES {
         return Err(NamesFault::TooMany);
     }
-    let Some(name) = name_of_line(line) else {
-        return Err(NamesFault::Line(names.len() + 1));
-    };
-    names.push(name)?;
-    Ok(())
+    match read_line(line) {
+        ListedLine::Blank => Ok(ended + 1),
+        ListedLine::Name(name) => {
+            listed.names.push(name)?;
+            listed.lines.push(ended + 1)?;
+            Ok(ended + 1)
+        }
+        ListedLine::Other => Err(NamesFault::Line(ended + 1)),
+    }
 }
 
 /// The names of a list that has one a line, as its bytes come.
 #[derive(Drop)]
 pub struct NameList {
-    names: Vec<[u8; 32]>,
+    listed: Listed,
+    /// How many lines have ended.
+    ended: usize,
     /// The bytes of the line that has not ended yet.
     line: Vec<u8>,
 }
@@ -80,7 +92,11 @@ impl NameList {
         ensures { HasRead [] result }
     {
         NameList {
-            names: Vec::new(alloc),
+            listed: Listed {
+                names: Vec::new(alloc),
+                lines: Vec::new(alloc),
+            },
+            ended: 0,
             line: Vec::new(alloc),
         }
     }
@@ -94,7 +110,8 @@ impl NameList {
             → IsNamesFault (names_in (text ++ byte ∷ more)) fault) }
     {
         if byte == b'\n' {
-            keep_name(&mut self.names, without_return(&self.line))?;
+            let ended = keep_line(&mut self.listed, self.ended, without_return(&self.line))?;
+            self.ended = ended;
             self.line.clear();
         } else {
             self.line.push(byte)?;
@@ -103,18 +120,24 @@ impl NameList {
     }
 
     /// All names, where no more bytes come.
-    pub fn end(self) -> Result<Vec<[u8; 32]>, NamesFault>
-        ensures names { IfOk result (λ names. (text : List ℕ) → HasRead text self
-            → names_in text ≡ Ok names.items) }
+    pub fn end(self) -> Result<Listed, NamesFault>
+        ensures names { IfOk result (λ listed. (text : List ℕ) → HasRead text self
+            → names_in text ≡ Ok listed.names.items) }
+        ensures lines { IfOk result (λ listed. (text : List ℕ) → HasRead text self
+            → numbers_in text ≡ listed.lines.items) }
         ensures refused { IfErr result (λ fault. (text : List ℕ) → HasRead text self
             → IsNamesFault (names_in text) fault) }
     {
-        let NameList { mut names, line } = self;
+        let NameList {
+            mut listed,
+            ended,
+            line,
+        } = self;
         let last = line.as_slice();
         if last.is_empty() {
-            return Ok(names);
+            return Ok(listed);
         }
-        keep_name(&mut names, last)?;
-        Ok(names)
+        keep_line(&mut listed, ended, last)?;
+        Ok(listed)
     }
 }

@@ -14,7 +14,7 @@ pub enum Status {
     /// The input was refused.
     Refused,
     /// The store of the books failed or is in use, they are of another form, an audit found them
-    /// unsound, or a change of them is in two files.
+    /// unsound, a change of them is in two files, or a dump that had to be whole is not.
     Store,
     /// There was no memory.
     Memory,

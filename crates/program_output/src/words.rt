@@ -23,8 +23,10 @@ pub enum WordKind {
     Log,
     /// A dump that reads as blocks was read as segments alone.
     Layout,
-    /// A ruling is dated long after the newest record, or after the last close.
+    /// A ruling is dated long after the newest record, or after the last close or today.
     Far,
+    /// A dump has no record, or fewer trailers than headers.
+    Torn,
 }
 
 const IO: Explanation = Explanation {
@@ -79,10 +81,19 @@ const LAYOUT: Explanation = Explanation {
 };
 
 const FAR: Explanation = Explanation {
-    meaning: "The day of a close or a tariff lies more than 366 days after the newest record's, \
-         or, where the open period charges none, after the last close.",
-    advice: "Check the year: neither can be taken back. If it is wrong, restore the backup from \
-         before it; --dry-run shows first what a ruling changes.",
+    meaning: "The day of a close lies more than 7 days after the newest record of its period, or \
+         after today; or that of a tariff more than 366 days after it; or, where the open period \
+         charges none, either lies more than 366 days after the last close.",
+    advice: "Check the date: neither can be taken back. With --near such a ruling is refused; one \
+         that was made is undone by the backup from before it. --dry-run shows first what a ruling \
+         changes.",
+};
+
+const TORN: Explanation = Explanation {
+    meaning: "The dump has no record, or fewer trailers than headers: it was cut off, or not all of \
+         it came.",
+    advice: "Send it again, whole, and import that; nothing is counted twice. With --whole such a \
+         dump is not imported from a file, and a command that read one ends with status 4.",
 };
 
 /// What a word means, and what to do about it.
@@ -99,6 +110,7 @@ fn explanation_of(kind: WordKind) -> Explanation
         WordKind::Log => LOG,
         WordKind::Layout => LAYOUT,
         WordKind::Far => FAR,
+        WordKind::Torn => TORN,
     }
 }
 

@@ -186,6 +186,8 @@ impl Connections for Queue<'_, '_> {
 
     ghost left = { λ queue. length queue.left.now };
 
+    ghost most = { λ queue. length queue.left.now };
+
     // Of what becomes of it nothing is known.
     ghost may_come = { λ _ _ _. ⊤ };
 

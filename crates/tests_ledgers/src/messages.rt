@@ -3,7 +3,7 @@
 use crate::faults::{report_fault, stop_of};
 use book_reports::ReportFault;
 use program_output::{
-    Status, arguments_failed, far_noticed, layout_noticed, report_failed, stopped,
+    Status, arguments_failed, far_noticed, layout_noticed, report_failed, stopped, torn_noticed,
 };
 use std::io;
 use std::io::ErrorKind;
@@ -36,11 +36,12 @@ fn push_failure(words: &[&str], out: &mut AnswerText) -> LineResult {
     Ok(())
 }
 
-/// Adds what the program says of a failure, or of `layout` or `far`, which have no status.
+/// Adds what the program says of a failure, or of `layout`, `far` or `torn`, which have no status.
 pub(crate) fn push_message(words: &[&str], out: &mut AnswerText) -> LineResult {
     match words {
         ["layout"] => layout_noticed(out),
         ["far"] => far_noticed(out),
+        ["torn"] => torn_noticed(out),
         _ => return push_failure(words, out),
     }
     Ok(())

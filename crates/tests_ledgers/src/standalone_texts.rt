@@ -26,8 +26,8 @@ fn check(alloc: Global, reading: Reading, dump: &[u8], limits: Limits) -> Writte
     let mut source = Source::new(reading.reader(dump));
     let mut sink = Sink::new(LimitedWriter::new(alloc, limits));
     let reads = reading.allowed();
-    let answer = check_list(alloc, &mut source, reading.layout, reads, &mut sink);
-    let mut written = Written::of(alloc, sink, answer);
+    let answer = check_list(alloc, &mut source, reading.layout, false, reads, &mut sink);
+    let mut written = Written::of(alloc, sink, answer.map(|checked| checked.stop));
     reading.push_asked(&mut written.message, source.asked());
     written
 }

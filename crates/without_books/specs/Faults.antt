@@ -23,7 +23,8 @@ use Rattle.program_output.specs.declared.status.Status.{Status}
 use Rattle.program_output.specs.declared.status.Status.TheVariants as status
 use Rattle.program_output.specs.Messages.{busy_line, far_line, io_line, layout_line, ledger_line}
 use Rattle.program_output.specs.Messages.{ledger_message, line_at, line_of, log_line}
-use Rattle.program_output.specs.Messages.{no_number_line, report_line, stop_lines, unsound_line}
+use Rattle.program_output.specs.Messages.{no_number_line, report_line, stop_lines, torn_line}
+use Rattle.program_output.specs.Messages.{unsound_line}
 use Rattle.program_output.specs.Statuses.{ledger_status, log_status, report_status, stop_status}
 use Rattle.without_books.specs.declared.command_fault.CommandFault.{CommandFault}
 use Rattle.without_books.specs.declared.command_fault.CommandFault.TheVariants as fault
@@ -46,24 +47,38 @@ fault_status (fault.LedgerAt refused line) = ledger_status refused
 fault_status (fault.Report refused) = report_status refused
 fault_status (fault.Stopped stop) = stop_status stop
 fault_status fault.Unsound = status.Store
+fault_status fault.Torn = status.Refused
+fault_status fault.Far = status.Refused
 
 -- the exit status of what a command came to
 abbrev pub came_status : Result (Unit {0}) CommandFault → Status
 came_status (Ok done) = status.Done
 came_status (Err fault) = fault_status fault
 
+-- of one that went well, but for a dump that had to be whole
+abbrev pub unwhole_status : Status → Status
+unwhole_status status.Done = status.Store
+unwhole_status came = came
+
+-- the same with what was noticed
+abbrev pub noticed_status : Option Notice → Status → Status
+noticed_status (Some notice.NotWhole) came = unwhole_status came
+noticed_status noticed came = came
+
+abbrev pub told_status : Result (Unit {0}) CommandFault → Option Notice → Status
+told_status came noticed = noticed_status noticed (came_status came)
+
 -- the exit status of a command, which may have left a log beside the books
 abbrev pub status_by : Ended → Status
 status_by ended =
-    if ended.has_log then log_status (came_status ended.came) ended.is_change
-    else came_status ended.came
+    if ended.has_log then log_status (told_status ended.came ended.notice) ended.is_change
+    else told_status ended.came ended.notice
 
 -- words that do not say what is asked
 abbrev pub unclear_line : Unclear → List ℕ
 unclear_line unclear.Choice = codes "error: choose takes either SHA256 or --from FILE\n"
 unclear_line unclear.Prices = codes "error: trial takes either rates or --tariff FILE\n"
 unclear_line unclear.Period = codes "error: PERIOD is a number without a sign or a leading 0\n"
-unclear_line unclear.DryRun = codes "error: choose --dry-run takes SHA256, not --from FILE\n"
 
 -- What is said of a fault: one line. Of a rate outside its limits nothing is said.
 abbrev pub fault_lines : CommandFault → List (List ℕ)
@@ -80,16 +95,20 @@ fault_lines (fault.LedgerAt refused line) = line_at (ledger_message refused) lin
 fault_lines (fault.Report refused) = report_line refused ∷ []
 fault_lines (fault.Stopped stop) = stop_lines stop
 fault_lines fault.Unsound = unsound_line ∷ []
+fault_lines fault.Torn = torn_line ∷ []
+fault_lines fault.Far = far_line ∷ []
 
 -- what is said of what a command came to: nothing, where all went well
 abbrev pub came_lines : Result (Unit {0}) CommandFault → List (List ℕ)
 came_lines (Ok done) = []
 came_lines (Err fault) = fault_lines fault
 
--- What a command noticed beside what it was asked. No exit status comes of it.
+-- What a command noticed beside what it was asked.
 abbrev pub notice_line : Notice → List ℕ
 notice_line notice.Layout = layout_line
 notice_line notice.Far = far_line
+notice_line notice.Torn = torn_line
+notice_line notice.NotWhole = torn_line
 
 -- nothing is said where it noticed nothing
 abbrev pub notice_lines : Option Notice → List (List ℕ)

@@ -1,6 +1,6 @@
 -- The first bytes of a dump, which a command reads ahead and looks at: they tell whether the dump looks
 -- like one in the other layout.
-use Rattle.std.specs.Prelude.{◌≡◌, ◌⊎◌, ◌&&◌, ⊤, not, if◌then◌else◌, Bool, true, false, ℕ, List, []}
+use Rattle.std.specs.Prelude.{◌≡◌, ◌⊎◌, ◌&&◌, ⊤, Bool, true, false, ℕ, List, []}
 use Rattle.std.specs.Prelude.{take, Option, Some, None, Vec}
 use Rattle.std.specs.Global.{Global}
 use Rattle.std.specs.Io.Chain.{chain_remaining}
@@ -9,16 +9,10 @@ use Rattle.std.specs.Io.KnownBytes.{IsAtEnd}
 use Rattle.std.specs.declared.io.impls.Cursor.{Cursor}
 use Rattle.std.specs.declared.io.traits.Chain.{Chain}
 use Rattle.smf_frames.specs.declared.dump.Layout.{Layout}
-use Rattle.book_import.specs.declared.receipt.Stop.{Stop}
-use Rattle.book_import.specs.declared.receipt.Stop.TheVariants.{Read, ReadLimit}
 use Rattle.program_output.specs.Layouts.{is_misread}
-use Rattle.without_books.specs.declared.ended.Ended.{Ended}
 use Rattle.without_books.specs.declared.first_bytes.FirstEnd.{FirstEnd}
 use Rattle.without_books.specs.declared.first_bytes.FirstEnd.TheVariants.{Full, AtEnd, Failed}
 use Rattle.without_books.specs.declared.first_bytes.Rest.{Rest}
-use Rattle.without_books.specs.declared.notice.Notice.{Notice}
-use Rattle.without_books.specs.declared.notice.Notice.TheVariants as notice
-use Rattle.without_books.specs.Faults.{end_of}
 
 -- how many bytes are looked at: the longest segment has as many
 abbrev pub most_first : ℕ
@@ -65,22 +59,3 @@ AreFirst (Some bytes) first = first ≡ take most_first bytes
 abbrev pub IsLookedAt : Layout → Option (List ℕ) → Bool → Type 0
 IsLookedAt layout had looked =
     ((first : List ℕ) × AreFirst had first × (looked ≡ is_misread layout first)) ⊎ (looked ≡ false)
-
--- a read of a dump failed, or all reads that are allowed did not reach its end
-abbrev pub is_unread : Stop → Bool
-is_unread Read = true
-is_unread ReadLimit = true
-is_unread stop = false
-
--- what a command notices of a dump that it read up to this stop, where the dump looked misread or not
-abbrev pub layout_notice : Bool → Stop → Option Notice
-layout_notice looked stop = if looked && not (is_unread stop) then Some notice.Layout else None
-
--- how a command ends that read such a dump, and opened no books
-abbrev pub dump_end : Bool → Stop → Ended
-dump_end looked stop = record {
-  came = end_of stop;
-  has_log = false;
-  is_change = false;
-  notice = layout_notice looked stop;
-}

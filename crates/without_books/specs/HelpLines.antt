@@ -1,6 +1,7 @@
 -- What is said of a fault to people, where standard error is a terminal: below the lines that the formats
 -- fix, and never in their place.
-use Rattle.std.specs.Prelude.{◌≡◌, ℕ, List, [], ◌++◌, codes, Option, Some, None, decimal}
+use Rattle.std.specs.Prelude.{◌≡◌, ◌==◌, if◌then◌else◌, ℕ, List, [], ◌++◌, length, codes, Option}
+use Rattle.std.specs.Prelude.{Some, None, decimal}
 use Rattle.std.specs.declared.io.ErrorKind.{ErrorKind}
 use Rattle.std.specs.declared.io.ErrorKind.TheVariants.{NotFound, NotADirectory, PermissionDenied}
 use Rattle.std.specs.declared.io.ErrorKind.TheVariants.{ReadOnlyFilesystem, IsADirectory, AddrInUse}
@@ -16,11 +17,13 @@ use Rattle.program_output.specs.Explanations.{Explains}
 use Rattle.program_output.specs.declared.causes.Cause.{Cause}
 use Rattle.program_output.specs.declared.explanations.Explanation.{Explanation}
 use Rattle.program_output.specs.declared.words.WordKind.{WordKind}
+use Rattle.without_books.specs.ShownPaths.{plain_bytes, shown_path}
 use Rattle.without_books.specs.declared.command_fault.CommandFault.{CommandFault}
 use Rattle.without_books.specs.declared.help_lines.Topic.{Topic}
 use Rattle.without_books.specs.declared.notice.Notice.{Notice}
 use Rattle.without_books.specs.declared.places.Place.{Place}
 use Rattle.without_books.specs.declared.places.Spot.{Spot}
+use Rattle.without_books.specs.declared.places.Within.{Within}
 use Rattle.book_model.specs.declared.fault.LedgerFault.TheVariants as ledger
 use Rattle.book_import.specs.declared.receipt.Stop.TheVariants as stop
 use Rattle.program_output.specs.declared.causes.Cause.TheVariants as cause
@@ -29,6 +32,7 @@ use Rattle.program_output.specs.declared.words.WordKind.TheVariants as word
 use Rattle.without_books.specs.declared.command_fault.CommandFault.TheVariants as fault
 use Rattle.without_books.specs.declared.notice.Notice.TheVariants as notice
 use Rattle.without_books.specs.declared.places.Place.TheVariants as place
+use Rattle.without_books.specs.declared.places.Within.TheVariants as within
 
 -- the cause, by what the system answered; a path through what is no folder leads nowhere
 abbrev pub cause_of : ErrorKind → Cause
@@ -79,25 +83,38 @@ fault_topic (fault.LedgerAt refused line) = Some (ledger_topic refused)
 fault_topic (fault.Report refused) = Some (report_topic refused)
 fault_topic (fault.Stopped why) = stop_topic why
 fault_topic fault.Unsound = Some (word_topic word.Unsound)
+fault_topic fault.Torn = Some (word_topic word.Torn)
+fault_topic fault.Far = Some (word_topic word.Far)
 
 -- what it is asked of a notice
 abbrev pub notice_topic : Notice → Topic
 notice_topic notice.Layout = word_topic word.Layout
 notice_topic notice.Far = word_topic word.Far
+notice_topic notice.Torn = word_topic word.Torn
+notice_topic notice.NotWhole = word_topic word.Torn
 
 -- what a fault is about, in the words of the command
 abbrev pub place_text : Place → List ℕ
-place_text (place.File path) = path.now
-place_text (place.Beside path ending) = path.now ++ ending.now
+place_text (place.File path) = shown_path path.now
+place_text (place.Beside path ending) = shown_path path.now ++ ending.now
 place_text (place.Port number) = codes "port " ++ decimal number
 place_text place.Input = codes "standard input"
 place_text place.Output = codes "standard output"
 
 -- the entry of a tariff file
-abbrev pub entry_text : Option Entry → List ℕ
-entry_text (Some (Shift number)) = codes ", shift " ++ decimal number
-entry_text (Some (Centre number)) = codes ", centre " ++ decimal number
-entry_text None = []
+abbrev pub entry_text : Entry → List ℕ
+entry_text (Shift number) = codes ", shift " ++ decimal number
+entry_text (Centre number) = codes ", centre " ++ decimal number
+
+-- where in a tariff file or a list
+abbrev pub within_text : Option Within → List ℕ
+within_text (Some (within.Line number)) = codes ", line " ++ decimal number
+within_text (Some (within.Entry entry)) = entry_text entry
+within_text None = []
+
+-- what a line of a list says, as far as it is known
+abbrev pub line_text : List ℕ → List ℕ
+line_text line = if length line == 0 then [] else codes ": " ++ plain_bytes line
 
 -- why, as far as it is known
 abbrev pub why_text : Option Cause → List ℕ
@@ -108,9 +125,10 @@ why_text None = []
 abbrev pub help_line : List ℕ → List ℕ
 help_line text = codes "  " ++ text ++ codes "\n"
 
--- where a fault is, and why
-abbrev pub spot_line : Spot → List ℕ
-spot_line spot = help_line (place_text spot.place ++ entry_text spot.within ++ why_text spot.cause)
+-- where a fault is, what stands there, and why
+abbrev pub spot_line : Spot → List ℕ → List ℕ
+spot_line spot line =
+    help_line (place_text spot.place ++ within_text spot.within ++ line_text line ++ why_text spot.cause)
 
 -- what `explain` says, a line each
 abbrev pub topic_lines : Option Explanation → List ℕ

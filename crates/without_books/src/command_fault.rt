@@ -44,6 +44,10 @@ pub enum CommandFault {
     Stopped(Stop),
     /// An audit found the books unsound.
     Unsound,
+    /// A dump that had to be whole is torn, and was not imported.
+    Torn,
+    /// The day of a ruling that had to be near is far.
+    Far,
 }
 
 impl CommandFault {
@@ -66,6 +70,8 @@ impl CommandFault {
             CommandFault::Report(fault) => report_failed(errors, fault),
             CommandFault::Stopped(stop) => stopped(errors, stop),
             CommandFault::Unsound => books_unsound(errors),
+            CommandFault::Torn => input_refused(errors, "torn"),
+            CommandFault::Far => input_refused(errors, "far"),
         }
     }
 }
@@ -78,7 +84,6 @@ fn unclear_text(why: Unclear) -> &'static str
         Unclear::Choice => "error: choose takes either SHA256 or --from FILE\n",
         Unclear::Prices => "error: trial takes either rates or --tariff FILE\n",
         Unclear::Period => "error: PERIOD is a number without a sign or a leading 0\n",
-        Unclear::DryRun => "error: choose --dry-run takes SHA256, not --from FILE\n",
     }
 }
 

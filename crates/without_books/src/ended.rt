@@ -2,12 +2,14 @@
 
 ghost use Rattle.std.specs.Prelude.{◌≡◌};
 ghost use Rattle.program_output.specs.Messages.{AreSaid};
+ghost use Rattle.without_books.specs.DumpEnds.{dump_end};
+ghost use Rattle.without_books.specs.Faults as spec;
 ghost use Rattle.without_books.specs.Faults.{came_lines, came_status, error_lines, notice_lines};
-ghost use Rattle.without_books.specs.Faults.{settled_as, status_by, told_lines, without_log};
-ghost use Rattle.without_books.specs.FirstBytes.{dump_end};
+ghost use Rattle.without_books.specs.Faults.{settled_as, status_by, told_lines, told_status};
+ghost use Rattle.without_books.specs.Faults.{without_log};
 
 use crate::command_fault::{CommandFault, end_of};
-use crate::notice::{Notice, layout_notice};
+use crate::notice::{Notice, dump_notice};
 use book_import::Stop;
 use program_output::{Status, log_left};
 use streams::Writer;
@@ -39,14 +41,14 @@ impl Ended {
     }
 
     /// How a command ended that read a dump up to a stop, and opened no books.
-    pub fn at_stop(stop: Stop, is_misread: bool) -> Ended
-        ensures { result ≡ dump_end is_misread stop }
+    pub fn at_stop(stop: Stop, has_to_be_whole: bool, is_misread: bool, is_torn: bool) -> Ended
+        ensures { result ≡ dump_end has_to_be_whole is_misread is_torn stop }
     {
         Ended {
             came: end_of(stop),
             has_log: false,
             is_change: false,
-            notice: layout_notice(is_misread, stop),
+            notice: dump_notice(has_to_be_whole, is_misread, is_torn, stop),
         }
     }
 
@@ -83,12 +85,32 @@ fn say_told<E: Writer>(
     notice: Option<Notice>,
     errors: &mut E,
 ) -> Status
-    ensures status { result ≡ came_status came }
+    ensures status { result ≡ told_status came notice }
     ensures said { AreSaid E.contents E.may_answer (told_lines came notice) errors.old errors.new }
 {
     let status = say_fault(came, errors);
     say_notice(notice, errors);
-    status
+    noticed_status(notice, status)
+}
+
+/// The exit status, with what was noticed.
+fn noticed_status(notice: Option<Notice>, status: Status) -> Status
+    ensures { result ≡ spec.noticed_status notice status }
+{
+    match notice {
+        Some(Notice::NotWhole) => unwhole_status(status),
+        _ => status,
+    }
+}
+
+/// That of a command that went well, but for a dump that had to be whole.
+fn unwhole_status(status: Status) -> Status
+    ensures { result ≡ spec.unwhole_status status }
+{
+    match status {
+        Status::Done => Status::Store,
+        _ => status,
+    }
 }
 
 /// Says what a command noticed, if it did.

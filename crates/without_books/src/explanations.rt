@@ -77,5 +77,6 @@ fn numbered(kind: NumberKind) -> FaultKind
         NumberKind::Log => FaultKind::Word(WordKind::Log),
         NumberKind::Layout => FaultKind::Word(WordKind::Layout),
         NumberKind::Far => FaultKind::Word(WordKind::Far),
+        NumberKind::Torn => FaultKind::Word(WordKind::Torn),
     }
 }

@@ -1,15 +1,18 @@
 //! What a person is told of a fault besides the line that the formats fix: where it is, why, and what
-//! `explain` says of it. It is told on a terminal alone, so a script reads what it always read.
+//! `explain` says of it. It is told on a terminal, or where it is asked for; so any other script reads
+//! what it always read.
 
 ghost use Rattle.std.specs.Prelude.{◌≡◌, ◌++◌};
 ghost use Rattle.without_books.specs.HelpLines as spec;
-ghost use Rattle.without_books.specs.HelpLines.{TellsTopic, entry_text, place_text, spot_line};
-ghost use Rattle.without_books.specs.HelpLines.{why_text};
+ghost use Rattle.without_books.specs.HelpLines.{TellsTopic, entry_text, line_text, place_text};
+ghost use Rattle.without_books.specs.HelpLines.{spot_line, why_text, within_text};
 
+use crate::asked_help::{is_asked, push_heading};
 use crate::command_fault::CommandFault;
 use crate::ended::Ended;
 use crate::notice::Notice;
-use crate::places::{Place, Places, Spot};
+use crate::places::{Place, Places, Spot, Within};
+use crate::shown_paths::{push_path, push_plain_bytes};
 use book_core::LedgerFault;
 use book_import::Stop;
 use book_reports::ReportFault;
@@ -40,27 +43,38 @@ impl Said {
             has_log: ended.has_log,
         }
     }
+
+    fn is_nothing(&self) -> bool {
+        self.fault.is_none() && self.notice.is_none() && !self.has_log
+    }
 }
 
-/// Tells a person more of what was said, where standard error is a terminal. What can't be written
-/// there is dropped, as all of standard error is.
-pub fn help(rt: &HostRuntime, request: Request<'_>, said: Said) {
-    let mut terminal = rt.stderr();
-    if !terminal.is_terminal() {
+/// Tells a person more of what was said, where standard error is a terminal; or where the words or the
+/// environment ask for it, below when the command ended, and its words. What can't be written there is
+/// dropped, as all of standard error is.
+pub fn help(rt: &HostRuntime, words: &[String], request: Request<'_>, said: Said) {
+    let mut errors = rt.stderr();
+    let is_terminal = errors.is_terminal();
+    if said.is_nothing() || !(is_terminal || is_asked(rt, words)) {
         return;
     }
     let mut out = Draft::new(rt.alloc());
+    if !is_terminal {
+        push_heading(&mut out, rt, words);
+    }
     push_help(&mut out, rt, request, said);
     if let Some(text) = out.whole() {
-        let _ = terminal.write_all(text.as_bytes());
+        let _ = errors.write_all(text.as_bytes());
     }
 }
 
 /// Adds the lines for a person.
 fn push_help(out: &mut Draft, rt: &HostRuntime, request: Request<'_>, said: Said) {
     if let Some(fault) = said.fault {
-        if let Some(spot) = Places::of(request).spot_of(rt, fault) {
-            push_spot(out, spot);
+        let places = Places::of(request);
+        if let Some(spot) = places.spot_of(rt, fault) {
+            let line = places.refused_line(rt, fault);
+            push_spot(out, spot, line.as_slice().trim_ascii_end());
         }
         if let Some(topic) = fault_topic(fault) {
             push_topic(out, topic);
@@ -96,6 +110,8 @@ fn fault_topic(fault: CommandFault) -> Option<Topic>
         CommandFault::Report(refused) => Some(report_topic(refused)),
         CommandFault::Stopped(stop) => stop_topic(stop),
         CommandFault::Unsound => Some(word_topic(WordKind::Unsound)),
+        CommandFault::Torn => Some(word_topic(WordKind::Torn)),
+        CommandFault::Far => Some(word_topic(WordKind::Far)),
         CommandFault::Usage | CommandFault::Number | CommandFault::Unclear(_) => None,
     }
 }
@@ -155,6 +171,7 @@ fn notice_topic(notice: Notice) -> Topic
     match notice {
         Notice::Layout => word_topic(WordKind::Layout),
         Notice::Far => word_topic(WordKind::Far),
+        Notice::Torn | Notice::NotWhole => word_topic(WordKind::Torn),
     }
 }
 
@@ -172,13 +189,14 @@ fn push_topic(out: &mut Draft, topic: Topic)
     out.push_str("\n");
 }
 
-/// Adds where a fault is, and why.
-fn push_spot(out: &mut Draft, spot: Spot<'_>)
-    ensures { out.new ≡ out.old ++ spot_line spot.entry }
+/// Adds where a fault is, what stands there, and why.
+fn push_spot(out: &mut Draft, spot: Spot<'_>, line: &[u8])
+    ensures { out.new ≡ out.old ++ spot_line spot.entry line.now }
 {
     out.push_str("  ");
     push_place(out, spot.place);
-    push_entry(out, spot.within);
+    push_within(out, spot.within);
+    push_line(out, line);
     push_cause(out, spot.cause);
     out.push_str("\n");
 }
@@ -187,9 +205,9 @@ fn push_place(out: &mut Draft, place: Place<'_>)
     ensures { out.new ≡ out.old ++ place_text place.entry }
 {
     match place {
-        Place::File(path) => out.push_str(path),
+        Place::File(path) => push_path(out, path),
         Place::Beside(path, ending) => {
-            out.push_str(path);
+            push_path(out, path);
             out.push_str(ending);
         }
         Place::Port(number) => {
@@ -201,20 +219,43 @@ fn push_place(out: &mut Draft, place: Place<'_>)
     }
 }
 
-fn push_entry(out: &mut Draft, entry: Option<Entry>)
+fn push_within(out: &mut Draft, within: Option<Within>)
+    ensures { out.new ≡ out.old ++ within_text within }
+{
+    match within {
+        Some(Within::Line(number)) => {
+            out.push_str(", line ");
+            out.push_number(number);
+        }
+        Some(Within::Entry(entry)) => push_entry(out, entry),
+        None => (),
+    }
+}
+
+fn push_entry(out: &mut Draft, entry: Entry)
     ensures { out.new ≡ out.old ++ entry_text entry }
 {
     match entry {
-        Some(Entry::Shift(number)) => {
+        Entry::Shift(number) => {
             out.push_str(", shift ");
             out.push_number(u64::from(number));
         }
-        Some(Entry::Centre(number)) => {
+        Entry::Centre(number) => {
             out.push_str(", centre ");
             out.push_number(u64::from(number));
         }
-        None => (),
     }
+}
+
+/// Adds what a line of a list says, if anything is known of it.
+fn push_line(out: &mut Draft, line: &[u8])
+    ensures { out.new ≡ out.old ++ line_text line.now }
+{
+    if line.is_empty() {
+        return;
+    }
+    out.push_str(": ");
+    push_plain_bytes(out, line);
 }
 
 fn push_cause(out: &mut Draft, cause: Option<Cause>)

@@ -2,6 +2,7 @@
 //! explanations; why a command did not do what it was asked, what it noticed, and how far it is.
 #![tactic(auto)]
 
+mod asked_help;
 mod causes;
 mod checks;
 mod command_fault;
@@ -15,18 +16,20 @@ mod places;
 mod ports;
 mod printed_text;
 mod progress;
+mod refused_lines;
 mod served_lines;
+mod shown_paths;
 mod tariff_texts;
 mod trials;
 
-pub use checks::check;
+pub use checks::{check, expect_whole};
 pub use command_fault::{CommandFault, end_of};
 pub use ended::{Ended, say_fault, settled};
 pub use explanations::explain;
 pub use first_bytes::{LookedAt, Rest, look_at};
 pub use help_lines::{Said, help};
 pub use inputs::{HostInputs, Inputs};
-pub use notice::{Notice, layout_notice};
+pub use notice::{Notice, dump_notice};
 pub use ports::listen_here;
 pub use printed_text::{let_out, print_text};
 pub use progress::{ProgressLine, WatchedReader, clear_line, open_watched};

@@ -3,20 +3,24 @@
 ghost use Rattle.std.specs.Prelude.{◌≡◌, ◌∷◌, []};
 ghost use Rattle.program_output.specs.Messages.{AreSaid};
 ghost use Rattle.without_books.specs.Faults.{notice_line};
-ghost use Rattle.without_books.specs.FirstBytes as spec;
+ghost use Rattle.without_books.specs.DumpEnds as spec;
 
 use book_import::Stop;
-use program_output::{far_noticed, layout_noticed};
+use program_output::{far_noticed, layout_noticed, torn_noticed};
 use streams::Writer;
 
-/// Something to look at before it costs money. It changes neither what a command does nor its exit
-/// status.
+/// Something to look at before it costs money. It changes nothing that a command does, and its exit
+/// status only where a dump had to be whole.
 #[derive(Clone, Copy)]
 pub enum Notice {
     /// The dump was read in one layout, and looks like one in the other.
     Layout,
-    /// The day of a ruling lies more than a year after all that the books charged.
+    /// The day of a ruling lies long after all that the books charged, or after today.
     Far,
+    /// The dump has no record, or fewer trailers than headers.
+    Torn,
+    /// So it is, and it had to be whole.
+    NotWhole,
 }
 
 impl Notice {
@@ -27,18 +31,40 @@ impl Notice {
         match self {
             Notice::Layout => layout_noticed(errors),
             Notice::Far => far_noticed(errors),
+            Notice::Torn | Notice::NotWhole => torn_noticed(errors),
         }
     }
 }
 
-/// What is noticed of a dump that was read up to a stop. Where its reading failed, nothing is.
-pub fn layout_notice(is_misread: bool, stop: Stop) -> Option<Notice>
-    ensures { result ≡ spec.layout_notice is_misread stop }
+/// What is noticed of a dump that was read up to a stop. Where its reading failed, nothing is; that
+/// it is torn is seen at its end alone.
+pub fn dump_notice(
+    has_to_be_whole: bool,
+    is_misread: bool,
+    is_torn: bool,
+    stop: Stop,
+) -> Option<Notice>
+    ensures { result ≡ spec.dump_notice has_to_be_whole is_misread is_torn stop }
 {
-    if is_misread && !is_unread(stop) {
+    let ends_torn = is_torn && is_end(stop);
+    if has_to_be_whole && ends_torn {
+        Some(Notice::NotWhole)
+    } else if is_misread && !is_unread(stop) {
         Some(Notice::Layout)
+    } else if ends_torn {
+        Some(Notice::Torn)
     } else {
         None
+    }
+}
+
+/// The dump was read to its end.
+fn is_end(stop: Stop) -> bool
+    ensures { result ≡ spec.is_end stop }
+{
+    match stop {
+        Stop::End => true,
+        Stop::Read | Stop::ReadLimit | Stop::Frame(_) | Stop::Ledger(_) => false,
     }
 }
 

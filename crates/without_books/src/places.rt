@@ -6,13 +6,14 @@ use crate::causes::{
 };
 use crate::command_fault::CommandFault;
 use crate::inputs::HostInputs;
+use crate::refused_lines::line_in_file;
 use crate::tariff_texts::tariff_text;
 use book_core::LedgerFault;
 use book_import::Stop;
 use book_reports::ReportFault;
 use command_line::{BookRequest, Request, Ruling};
 use program_output::Cause;
-use tariff_rules::{Entry, Tariff};
+use tariff_rules::{Entry, Tariff, TariffFault};
 
 /// What may be in the way of a file that is made, by what follows its path: it, its log and its
 /// journal, and the file in which it is begun, with those of that.
@@ -36,12 +37,22 @@ pub(crate) enum Place<'a> {
     Output,
 }
 
+/// Where in a tariff file or a list a fault is.
+#[derive(Clone, Copy)]
+pub(crate) enum Within {
+    /// The line, counted from 1: where a tariff file is no TOML document, or what a list says there was
+    /// refused.
+    Line(u64),
+    /// The entry of a tariff file that is no rule.
+    Entry(Entry),
+}
+
 /// Where a fault is, and why.
 #[derive(Clone, Copy)]
 pub(crate) struct Spot<'a> {
     pub(crate) place: Place<'a>,
-    /// The entry of a tariff file.
-    pub(crate) within: Option<Entry>,
+    /// Where in a file.
+    pub(crate) within: Option<Within>,
     /// None where the fault's own line says it.
     pub(crate) cause: Option<Cause>,
 }
@@ -82,7 +93,7 @@ impl<'a> Places<'a> {
         match request {
             Request::OfBooks { book, asked, .. } => Places::of_books(book, asked),
             Request::TrialUnder { file, .. } => Places::of_file(Some(file), Place::Input),
-            Request::Check(dump) => Places::of_file(Some(dump.file), Place::File(dump.file)),
+            Request::Check { dump, .. } => Places::of_file(Some(dump.file), Place::File(dump.file)),
             Request::Trial { .. } | Request::Explain { .. } | Request::Unclear(_) => {
                 Places::of_file(None, Place::Input)
             }
@@ -130,13 +141,36 @@ impl<'a> Places<'a> {
             CommandFault::Exists => self.in_the_way(rt),
             // Of an unsound copy nothing is left.
             CommandFault::Unsound => Spot::in_file(self.books),
-            CommandFault::ArgumentAt(_) | CommandFault::LedgerAt(_, _) => Spot::in_file(self.read),
+            CommandFault::ArgumentAt(line) | CommandFault::LedgerAt(_, line) => self.in_line(line),
+            CommandFault::Torn => Spot::in_file(self.read),
             CommandFault::Ledger(refused) => self.refused(rt, refused),
             CommandFault::Report(ReportFault::Ledger(refused)) => self.refused(rt, refused),
             CommandFault::Report(ReportFault::Write) => Some(output_failed()),
             CommandFault::Stopped(stop) => self.stopped(rt, stop),
             _ => None,
         }
+    }
+
+    /// The line of a list that was refused. Empty where none was, or a second look does not find it.
+    pub(crate) fn refused_line(self, rt: &HostRuntime, fault: CommandFault) -> Vec<u8> {
+        let Some(path) = self.read else {
+            return Vec::new(rt.alloc());
+        };
+        match fault {
+            CommandFault::ArgumentAt(line) | CommandFault::LedgerAt(_, line) => {
+                line_in_file(rt, path, line)
+            }
+            _ => Vec::new(rt.alloc()),
+        }
+    }
+
+    /// In a line of the file that is read.
+    fn in_line(self, line: usize) -> Option<Spot<'a>> {
+        Some(Spot {
+            place: Place::File(self.read?),
+            within: Some(Within::Line(line as u64)),
+            cause: None,
+        })
     }
 
     /// The books that another program has open: new ones are made under a second name.
@@ -204,11 +238,11 @@ impl<'a> Places<'a> {
     /// Where the books refused.
     fn refused(self, rt: &HostRuntime, fault: LedgerFault) -> Option<Spot<'a>> {
         match fault {
-            LedgerFault::TariffRefused(_) => {
+            LedgerFault::TariffRefused(fault) => {
                 let path = self.read?;
                 Some(Spot {
                     place: Place::File(path),
-                    within: entry_in(rt, path),
+                    within: within(rt, path, fault),
                     cause: None,
                 })
             }
@@ -243,8 +277,10 @@ impl<'a> Places<'a> {
 fn read_by<'a>(asked: BookRequest<'a>) -> Option<&'a str> {
     match asked {
         BookRequest::Rule(Ruling::Tariff { file })
+        | BookRequest::RuleNear(Ruling::Tariff { file })
         | BookRequest::DryRun(Ruling::Tariff { file })
         | BookRequest::ChooseListed { file }
+        | BookRequest::TryListed { file }
         | BookRequest::WhatIf { file, .. } => Some(file),
         BookRequest::Import(dump) => Some(dump.file),
         _ => None,
@@ -259,7 +295,7 @@ fn made_by<'a>(
     match asked {
         BookRequest::Init => Some((book, &NEW_FILES)),
         BookRequest::BackUp { copy, .. } => Some((copy, &NEW_FILES)),
-        BookRequest::DryRun(_) => Some((book, &TRIAL_FILES)),
+        BookRequest::DryRun(_) | BookRequest::TryListed { .. } => Some((book, &TRIAL_FILES)),
         _ => None,
     }
 }
@@ -268,14 +304,43 @@ fn output_failed<'a>() -> Spot<'a> {
     Spot::at(Place::Output, Some(Cause::Failed))
 }
 
-/// The entry at which the text of a tariff file has its fault. None where no entry has it, where
-/// the file can't be read again, and where memory runs out.
-fn entry_in(rt: &HostRuntime, path: &str) -> Option<Entry> {
+/// Where in a tariff file its fault is. None where that is in no line and in no entry, where the file
+/// can't be read again, and where memory runs out.
+fn within(rt: &HostRuntime, path: &str, fault: TariffFault) -> Option<Within> {
     if !is_file(rt, path) {
         return None;
     }
-    match tariff_text(rt.alloc(), &HostInputs::of(rt), path) {
-        Ok(text) => Tariff::entry_at_fault(rt.alloc(), text.as_str()).ok()?,
-        Err(_) => None,
+    let text = tariff_text(rt.alloc(), &HostInputs::of(rt), path).ok()?;
+    match fault {
+        TariffFault::Syntax => line_in(rt, text.as_str()),
+        _ => entry_in(rt, text.as_str()),
     }
+}
+
+/// The line at which a text is no TOML document.
+fn line_in(rt: &HostRuntime, text: &str) -> Option<Within> {
+    match toml::table_from_str(rt.alloc(), text) {
+        Ok(_) => None,
+        Err(error) => {
+            let span = error.span()?;
+            Some(Within::Line(line_at(text.as_bytes(), span.start)))
+        }
+    }
+}
+
+/// The line of a place among bytes, counted from 1.
+fn line_at(bytes: &[u8], place: usize) -> u64 {
+    let mut line: u64 = 1;
+    for byte in bytes.iter().take(place) {
+        if *byte == b'\n' {
+            line = line.saturating_add(1);
+        }
+    }
+    line
+}
+
+/// The entry at which the text of a tariff file has its fault.
+fn entry_in(rt: &HostRuntime, text: &str) -> Option<Within> {
+    let entry = Tariff::entry_at_fault(rt.alloc(), text).ok()??;
+    Some(Within::Entry(entry))
 }

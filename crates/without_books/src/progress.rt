@@ -137,7 +137,7 @@ pub fn open_watched<'a, F: Inputs>(
     is_shown: bool,
 ) -> io::Result<WatchedReader<'a, F::Input>>
     ensures { IfOk result (λ watched. watched_remaining F.Input.remaining watched
-        ≡ F.held inputs.now file.now) }
+        ≡ (F.held inputs.now).holds file.now) }
 {
     let inner = inputs.open(file)?;
     let progress = if is_shown {

@@ -14,7 +14,7 @@ use tariff_rules::{MAX_TEXT, TariffFault};
 /// The text of a tariff file: what the file of that name holds, where that is known. It is not too
 /// long.
 pub fn tariff_text<F: Inputs>(alloc: Global, inputs: &F, file: &str) -> Result<String, CommandFault>
-    ensures { IsTextOf (F.held inputs.now file.now) result }
+    ensures { IsTextOf ((F.held inputs.now).holds file.now) result }
 {
     read_text(alloc, inputs.open(file)?)
 }

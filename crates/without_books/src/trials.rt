@@ -16,7 +16,7 @@ use crate::tariff_texts::tariff_text;
 use book_core::{LedgerFault, Sink, Source};
 use book_import::{MAX_READS, Receipt};
 use book_reports::ReportFault;
-use program_output::trial;
+use program_output::{is_receipt_torn, trial};
 use smf_frames::Layout;
 use std::alloc::Global;
 use std::io::Read;
@@ -27,12 +27,13 @@ use tariff_rules::{Tariff, TariffFault};
 pub fn run_trial<I: Read + Drop, O: Writer + Drop>(
     alloc: Global,
     layout: Layout,
+    has_to_be_whole: bool,
     tariff: Option<Tariff>,
     input: I,
     output: O,
 ) -> (Ended, O)
-    ensures { TriesBy layout tariff (I.remaining input) (O.contents output) (O.contents result.1)
-        (∥ HasFailed O.may_answer result.1 ∥₁) result.0 }
+    ensures { TriesBy layout has_to_be_whole tariff (I.remaining input) (O.contents output)
+        (O.contents result.1) (∥ HasFailed O.may_answer result.1 ∥₁) result.0 }
 {
     let Some(tariff) = tariff else {
         return (Ended::without_log(Err(CommandFault::Usage)), output);
@@ -41,21 +42,23 @@ pub fn run_trial<I: Read + Drop, O: Writer + Drop>(
     let mut source = Source::new(reader);
     let mut sink = Sink::new(output);
     let told = trial(alloc, &mut source, layout, MAX_READS, tariff, &mut sink);
-    end_trial(is_misread, told, sink)
+    end_trial(has_to_be_whole, is_misread, told, sink)
 }
 
 /// How a trial ends that came to this, and the output as its texts left it.
 fn end_trial<O: Writer + Drop>(
+    has_to_be_whole: bool,
     is_misread: bool,
     told: Result<Receipt, ReportFault>,
     sink: Sink<O>,
 ) -> (Ended, O)
     requires { has_failed sink ≡ is_write_fault told }
-    ensures ended { result.0 ≡ trial_end is_misread told }
+    ensures ended { result.0 ≡ trial_end has_to_be_whole is_misread told }
     ensures writer { result.1 ≡ writer_of sink }
     ensures failed { is_write_fault told ≡ true → ∥ HasFailed O.may_answer result.1 ∥₁ }
 {
-    (trial_ended(is_misread, told), sink.into_inner())
+    let ended = trial_ended(has_to_be_whole, is_misread, told);
+    (ended, sink.into_inner())
 }
 
 /// Prices the records of the input under the tariff of a file, whatever its first day is.
@@ -63,22 +66,24 @@ pub fn run_trial_under<F: Inputs, I: Read + Drop, O: Writer + Drop>(
     alloc: Global,
     inputs: &F,
     layout: Layout,
+    has_to_be_whole: bool,
     file: &str,
     input: I,
     output: O,
 ) -> (Ended, O)
-    ensures { TriesUnder (F.held inputs.now file.now) layout (I.remaining input)
-        (O.contents output) (O.contents result.1) (∥ HasFailed O.may_answer result.1 ∥₁) result.0 }
+    ensures { TriesUnder ((F.held inputs.now).holds file.now) layout has_to_be_whole
+        (I.remaining input) (O.contents output) (O.contents result.1)
+        (∥ HasFailed O.may_answer result.1 ∥₁) result.0 }
 {
     match read_tariff(alloc, inputs, file) {
-        Ok(tariff) => run_trial(alloc, layout, Some(tariff), input, output),
+        Ok(tariff) => run_trial(alloc, layout, has_to_be_whole, Some(tariff), input, output),
         Err(fault) => (Ended::without_log(Err(fault)), output),
     }
 }
 
 /// The tariff of a file, in force on every day.
 fn read_tariff<F: Inputs>(alloc: Global, inputs: &F, file: &str) -> Result<Tariff, CommandFault>
-    ensures { IsTariffRead (F.held inputs.now file.now) result }
+    ensures { IsTariffRead ((F.held inputs.now).holds file.now) result }
 {
     let text = tariff_text(alloc, inputs, file)?;
     lasting_tariff(alloc, text.as_str())
@@ -97,11 +102,14 @@ fn lasting_tariff(alloc: Global, text: &str) -> Result<Tariff, CommandFault>
 }
 
 /// How a trial ends of a dump that looks misread or not.
-fn trial_ended(is_misread: bool, told: Result<Receipt, ReportFault>) -> Ended
-    ensures { result ≡ trial_end is_misread told }
+fn trial_ended(has_to_be_whole: bool, is_misread: bool, told: Result<Receipt, ReportFault>) -> Ended
+    ensures { result ≡ trial_end has_to_be_whole is_misread told }
 {
     match told {
-        Ok(receipt) => Ended::at_stop(receipt.stop, is_misread),
+        Ok(receipt) => {
+            let is_torn = is_receipt_torn(&receipt);
+            Ended::at_stop(receipt.stop, has_to_be_whole, is_misread, is_torn)
+        }
         Err(fault) => Ended::without_log(Err(CommandFault::from(fault))),
     }
 }

@@ -1,9 +1,30 @@
-use Rattle.std.proofs.Common.{refl, subst}
+use Rattle.std.proofs.Common.{inl, inr, refl, subst}
 use Rattle.std.specs.Io.KnownBytes.{Keeps}
+use Rattle.std.specs.IoError.{error_kind}
 use Rattle.office.specs.declared.request.Asked.TheVariants as asks
+use Rattle.command_line.specs.declared.request.BookRequest.TheVariants as book
+use Rattle.without_books.specs.Faults.{io_fault}
 use Rattle.without_books.specs.FirstBytes.{IsLookedAt, whole_remaining}
 use Rattle.without_books.specs.Inputs.{watched_remaining}
+use Rattle.chargectl.proofs.CommandLemmas.{not_asked}
 use Rattle.chargectl.proofs.book_commands.import_dump.Goals as goal
+
+-- a dump that had to be whole, and is torn
+pub returns-in_err-expect_whole : goal.returns-in_err-expect_whole
+returns-in_err-expect_whole g c =
+    not_asked (g.F.Inputs.held c.args.inputs.now) (book.Import c.args.dump) c.args.book.now
+    (g.S.Repository.shelf c.args.repository.now) c.from_residual-in_err-expect_whole.result
+    c.in_err-expect_whole.field-0.0 c.from_residual-in_err-expect_whole.ensures.0
+    c.from_residual-in_err-expect_whole.ensures.1 (inr c.in_err-expect_whole.ensures)
+
+-- a file that is not opened
+pub returns-in_err-input : goal.returns-in_err-input
+returns-in_err-input g c =
+    let why = error_kind c.in_err-input.field-0.0 in
+    not_asked (g.F.Inputs.held c.args.inputs.now) (book.Import c.args.dump) c.args.book.now
+    (g.S.Repository.shelf c.args.repository.now) c.from_residual-in_err-input.result (io_fault why)
+    c.from_residual-in_err-input.ensures.0 c.from_residual-in_err-input.ensures.1
+    (inr (inl (why, refl)))
 
 pub returns : goal.returns
 returns g c =

@@ -2,17 +2,21 @@ use Rattle.std.proofs.Common.{inr}
 use Rattle.chargectl.proofs.ListLemmas.{not_listed}
 use Rattle.chargectl.proofs.choices.ask_listed.Goals as goal
 
-pub returns-in_err-names : goal.returns-in_err-names
-returns-in_err-names g c =
-    not_listed (g.F.Inputs.held c.args.inputs.now c.args.file.now) c.args.book.now
+pub returns-in_err-listed : goal.returns-in_err-listed
+returns-in_err-listed g c =
+    not_listed c.args.tried ((g.F.Inputs.held c.args.inputs.now).holds c.args.file.now) c.args.book.now
     (g.S.Repository.shelf c.args.repository.now)
-    c.from_residual-in_err-names.result c.in_err-names.field-0.0 c.from_residual-in_err-names.ensures.0
-    c.from_residual-in_err-names.ensures.1 (inr c.in_err-names.ensures.refused)
+    c.from_residual-in_err-listed.result c.in_err-listed.field-0.0
+    c.from_residual-in_err-listed.ensures.0 c.from_residual-in_err-listed.ensures.1
+    (inr c.in_err-listed.ensures.refused)
 
 pub returns : goal.returns
 returns g c = record {
-  names = c.in_ok-names.names.items;
-  listed = c.in_ok-names.ensures.listed;
-  all = c.in_ok-names.ensures.all;
-  came = c.choose_names.ensures;
+  names = c.in_ok-listed.listed.names.items;
+  lines = c.in_ok-listed.listed.lines.items;
+  listed = c.in_ok-listed.ensures.listed;
+  all = c.in_ok-listed.ensures.all;
+  placed = c.in_ok-listed.ensures.placed;
+  numbered = c.answer_names.ensures.lines;
+  came = c.answer_names.ensures.came;
 }

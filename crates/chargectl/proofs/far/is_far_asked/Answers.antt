@@ -16,5 +16,5 @@ returns-in_err-day g c =
 
 pub returns : goal.returns
 returns g c =
-    far_read c.args.asked.now c.in_ok-day.day c.in_ok-period.period c.is_far_on.result
+    far_read c.args.today c.args.asked.now c.in_ok-day.day c.in_ok-period.period c.is_far_on.result
     c.in_ok-day.ensures.day c.in_ok-period.ensures.period c.is_far_on.ensures

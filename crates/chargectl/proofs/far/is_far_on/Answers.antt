@@ -14,6 +14,6 @@ pub returns : goal.returns
 returns g c =
     let made = (rw c.deref.ensures.value at c.is_any_far.ensures) in
     read_as (λ book. refl) (λ book. refl) (record { reopen = refl; store = refl })
-    (λ book said. ap (λ rows. Ok (option_map_or (λ day. is_far day rows c.args.period.last_close)
+    (λ book said. ap (λ rows. Ok (option_map_or (λ it. is_far it rows c.args.period.last_close)
     c.args.day false)) (same_value said) ∙ ap Ok (sym made))
     c.in_ok-rows.ensures.rows

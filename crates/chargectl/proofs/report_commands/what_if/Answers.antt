@@ -12,5 +12,5 @@ returns-in_err-tariff g c =
     c.from_residual-in_err-tariff.result c.in_err-tariff.field-0.0
     c.from_residual-in_err-tariff.ensures.0 c.from_residual-in_err-tariff.ensures.1
     (word_there _ c.in-Some.report
-    (IsTariffFault (files c.args.file.now) (shelf.refuses c.args.book.now)) c.in_err-tariff.field-0.0
+    (IsTariffFault (files.holds c.args.file.now) (shelf.refuses c.args.book.now)) c.in_err-tariff.field-0.0
     (sym c.what_if_of.ensures ∙ c.in-Some.is) (inr c.in_err-tariff.ensures))

@@ -8,16 +8,15 @@ use Rattle.chargectl.proofs.serve.serve_each.Goals as goal
 pub loop-connections-preserved : goal.loop-connections-preserved
 loop-connections-preserved g c =
     let shelf = g.S.Repository.shelf in
-    let left = g.C.Connections.left in
     let seen = seen_of g.O.Write.contents in
     record {
       serving = serving_more shelf g.C.Connections.sent g.C.Connections.may_come
-          g.C.Connections.left c.args.connections.now c.loop-connections.connections
+          g.C.Connections.most c.args.connections.now c.loop-connections.connections
           c.next.new.self c.args.book.now c.args.repository.now c.loop-connections.repository
           c.next.new.repository
           (seen c.args.lines.now) (seen c.loop-connections.lines) (seen c.say_attended.new.lines)
           (told_of c.in-Ok.attended) c.loop-connections.invariant.serving c.in-Ok.ensures.came
-          c.say_attended.ensures c.in-Ok.ensures.left;
+          c.say_attended.ensures c.in-Ok.ensures.most;
       log = subst (λ is. (shelf c.next.new.repository).has_log c.args.book.now is)
           (sym c.unwrap_or-has_log.ensures)
           (log_left shelf c.args.book.now c.loop-connections.repository c.next.new.repository
@@ -28,9 +27,9 @@ loop-connections-preserved g c =
 -- at least one was told of
 pub loop-connections-smaller : goal.loop-connections-smaller
 loop-connections-smaller g c =
-    let left = c.in-Ok.ensures.left in
+    let most = c.in-Ok.ensures.most in
     let count = told_count c.in-Ok.attended in
-    omega (arith, left, count)
+    omega (arith, most, count)
 
 -- one did not come: the books are as they were
 pub returns-in-Err-clause-served : goal.returns-in-Err-clause-served
@@ -47,7 +46,7 @@ returns-in-Err-clause-served g c =
         lines = it.lines;
       };
       ends = c.in-Err.ensures.failed;
-      count = c.in-Err.ensures.left;
+      count = c.in-Err.ensures.most;
     }
 
 pub returns-clause-served : goal.returns-clause-served

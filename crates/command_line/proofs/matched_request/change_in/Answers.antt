@@ -22,8 +22,8 @@ unfolding known_table
 returns-in-tariff-clause-some c =
     λ has others.
     let words = subst (λ n. HasWordsOf n (rows_in c.args.found.now)) c.in-tariff.is has in
-    c.of_books_in.ensures.some words.0 words.1.1.1.0
-    (c.tariff_in.ensures.some words.1.0 words.1.1.0)
+    c.of_books_in.ensures.some words.0 words.1.1.1.1.0
+    (c.tariff_in.ensures.some words.1.0 words.1.1.0 words.1.1.1.0)
 
 pub returns-in-import-clause-request : goal.returns-in-import-clause-request
 returns-in-import-clause-request c =
@@ -36,8 +36,8 @@ unfolding known_table
 returns-in-import-clause-some c =
     λ has others.
     let words = subst (λ n. HasWordsOf n (rows_in c.args.found.now)) c.in-import.is has in
-    c.of_books_in-in-import.ensures.some words.0 words.1.1.1.1.0
-    (c.import_in.ensures.some words.1.0 words.1.1.0 words.1.1.1.0)
+    c.of_books_in-in-import.ensures.some words.0 words.1.1.1.1.1.0
+    (c.import_in.ensures.some words.1.0 words.1.1.0 words.1.1.1.0 words.1.1.1.1.0)
 
 pub returns-in-close-clause-request : goal.returns-in-close-clause-request
 returns-in-close-clause-request c =
@@ -50,8 +50,8 @@ unfolding known_table
 returns-in-close-clause-some c =
     λ has others.
     let words = subst (λ n. HasWordsOf n (rows_in c.args.found.now)) c.in-close.is has in
-    c.of_books_in-in-close.ensures.some words.0 words.1.1.1.1.0
-    (c.close_in.ensures.some words.1.0 words.1.1.0 words.1.1.1.0)
+    c.of_books_in-in-close.ensures.some words.0 words.1.1.1.1.1.0
+    (c.close_in.ensures.some words.1.0 words.1.1.0 words.1.1.1.0 words.1.1.1.1.0)
 
 pub returns-in-choose-clause-some : goal.returns-in-choose-clause-some
 unfolding known_table
@@ -63,7 +63,7 @@ returns-in-choose-clause-some c =
 pub returns-in-adopt-clause-request : goal.returns-in-adopt-clause-request
 returns-in-adopt-clause-request c =
     c.of_books_in-in-adopt.ensures.request c.args.name.now
-    (c.ruling_in.ensures.asked c.args.name.now c.in-adopt.is)
+    (c.ruling_in.ensures.asked c.args.name.now c.in-adopt.is refl)
 
 pub returns-in-adopt-clause-some : goal.returns-in-adopt-clause-some
 unfolding known_table

@@ -16,7 +16,7 @@ unfolding known_table
 returns-in-check-clause-some c =
     λ has.
     let words = subst (λ n. HasWordsOf n (rows_in c.args.found.now)) c.in-check.is has in
-    c.check_in.ensures.some words.1.1.0 words.0 words.1.0
+    c.check_in.ensures.some words.1.1.1.1.0 words.0 words.1.0 words.1.1.0 words.1.1.1.0
 
 pub returns-in-explain-clause-some : goal.returns-in-explain-clause-some
 unfolding known_table row_of

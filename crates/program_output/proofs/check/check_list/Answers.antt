@@ -5,9 +5,10 @@ use Rattle.std.proofs.KnownBytes.{Consumes-trans}
 use Rattle.std.proofs.lemmas.Result.{err_from_is_err_and}
 use Rattle.streams.specs.Sinks.{writer_of}
 use Rattle.streams.specs.Sources.{reader_of}
-use Rattle.program_output.specs.Listings.{TakesOrBreaks}
+use Rattle.book_import.specs.declared.receipt.Stop.TheVariants.{Frame}
+use Rattle.program_output.specs.Listings.{TakesOrBreaks, listed_count}
 use Rattle.program_output.proofs.CheckLemmas.{no_check, lists_more, check_ended, check_broken}
-use Rattle.program_output.proofs.CheckLemmas.{check_cut}
+use Rattle.program_output.proofs.CheckLemmas.{check_cut, no_books}
 use Rattle.program_output.proofs.check.check_list.Goals as goal
 
 pub returns-in_err-joiner-clause-check : goal.returns-in_err-joiner-clause-check
@@ -32,7 +33,7 @@ returns-in_default-clause-check g c =
     (g.W.Write.contents (writer_of c.loop.sink))
     (g.W.Write.contents (writer_of c.end.new.sink)) c.reading_end.result c.end.result lists.2
     c.loop.invariant.waits c.reading_end.ensures.stop c.reading_end.ensures.other
-    c.end.ensures.written c.end.ensures.stop
+    c.end.ensures.written c.end.ensures.told
     (subst (Consumes from left) (append-nil lists.0)
     (Consumes-trans from _ left lists.0 [] lists.1 ended.taken))
     (omega (arith, lists.3, ended.asked, c.loop.invariant.asked))
@@ -46,7 +47,7 @@ returns-clause-check g c =
     (g.W.Write.contents (writer_of c.loop.sink))
     (g.W.Write.contents (writer_of c.end-2.new.sink)) c.reading_end-2.result c.end-2.result lists.2
     c.loop.invariant.waits c.reading_end-2.ensures.stop c.reading_end-2.ensures.other
-    c.end-2.ensures.written c.end-2.ensures.stop lists.1
+    c.end-2.ensures.written c.end-2.ensures.told lists.1
     (omega (arith, lists.3, c.loop.invariant.asked))
     (λ failed unended. omega (arith, c.loop.invariant.asked))
 
@@ -72,7 +73,7 @@ returns-in-Ok-Some-clause-check g c =
     )) came.failed came.ended
     (g.W.Write.contents (writer_of c.end-in-Ok-Some.new.sink)) c.in-Ok-Some.fault
     c.end-in-Ok-Some.result breaks c.in-Ok-Some.ensures.listed c.end-in-Ok-Some.ensures.written
-    c.end-in-Ok-Some.ensures.stop
+    c.end-in-Ok-Some.ensures.told
 
 pub returns-in-Err-clause-check : goal.returns-in-Err-clause-check
 returns-in-Err-clause-check g c =
@@ -129,3 +130,19 @@ loop-preserved g c =
         ),
       );
     }
+
+-- no books stop a check, wherever it ends
+pub returns-in_default-clause-stop : goal.returns-in_default-clause-stop
+returns-in_default-clause-stop g c =
+    no_books c.reading_end.result (listed_count c.loop.listing) c.loop.listing c.end.result c.end.ensures.told
+    c.reading_end.ensures.other
+
+pub returns-clause-stop : goal.returns-clause-stop
+returns-clause-stop g c =
+    no_books c.reading_end-2.result (listed_count c.loop.listing) c.loop.listing c.end-2.result
+    c.end-2.ensures.told c.reading_end-2.ensures.other
+
+pub returns-in-Ok-Some-clause-stop : goal.returns-in-Ok-Some-clause-stop
+returns-in-Ok-Some-clause-stop g c =
+    no_books (Frame c.in-Ok-Some.fault) (listed_count c.list_piece.new.listing)
+    c.list_piece.new.listing c.end-in-Ok-Some.result c.end-in-Ok-Some.ensures.told refl

@@ -22,7 +22,7 @@ invariant-loop g l = record {
       × Consumes (g.R.Read.remaining (reader_of l.initial.source))
       (g.R.Read.remaining (reader_of l.source)) bytes
       × HasPassed l.fn.layout bytes l.joiner
-      (AreListed (g.W.Write.contents (sinks.writer_of l.initial.sink))
+      (AreListed l.fn.names (g.W.Write.contents (sinks.writer_of l.initial.sink))
       (g.W.Write.contents (sinks.writer_of l.sink)) l.listing)
       × (l.counter ≤ length bytes);
 }

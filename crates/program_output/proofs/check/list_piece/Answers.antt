@@ -22,6 +22,7 @@ returns-clause-listed g c = λ text held stood listed.
     listed_flushed _ held (g.W.Write.contents (writer_of c.list_records.new.sink))
     (g.W.Write.contents (writer_of c.flush.new.sink)) c.list_records.new.listing c.flush.new.self
     (c.in_ok-found.ensures.listed text held stood listed) wrote.written wrote.waits wrote.count
+    wrote.marks
 
 pub returns-in_err-flush-clause-grown : goal.returns-in_err-flush-clause-grown
 returns-in_err-flush-clause-grown g c =

@@ -50,7 +50,7 @@ loop-fault-preserved g c =
           (λ first found lists held listed. listed_more found c.in-Some.bytes.now held
           (g.W.Write.contents (writer_of c.loop-fault.sink))
           (g.W.Write.contents (writer_of c.push_line.new.sink)) c.loop-fault.listing
-          c.push_line.new.self (lists held listed) wrote.written wrote.count);
+          c.push_line.new.self (lists held listed) wrote.written wrote.count wrote.marks);
       few = omega (arith, c.loop-fault.invariant.few, wrote.count, less);
       room = wrote.room;
       grown = grows_on _ _ (g.W.Write.contents (writer_of c.push_line.new.sink))

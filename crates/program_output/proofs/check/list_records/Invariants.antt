@@ -9,7 +9,7 @@ use Rattle.program_output.proofs.check.list_records.Given as goal
 -- no more records got a line than bytes were seen
 abbrev pub invariant-loop-fault : goal.invariant-loop-fault
 invariant-loop-fault g l = record {
-  goes : Goes l.fn.joiner l.piece l.rest l.joiner (ListsOver l.fn.listing l.listing
+  goes : Goes l.fn.joiner l.piece l.rest l.joiner (ListsOver l.fn.names l.fn.listing l.listing
       (g.W.Write.contents (writer_of l.fn.sink)) (g.W.Write.contents (writer_of l.sink)));
   few : listed_count l.listing + length l.rest ≤ listed_count l.fn.listing + length l.piece;
   room : HasRoom l.listing;

@@ -11,7 +11,8 @@ pub returns-in-Ok : goal.returns-in-Ok
 returns-in-Ok g c =
     let contents = g.O.Write.contents in
     let listed = c.list_dump-listed in
-    inl (subst (λ had. Lists c.args.dump.layout had (contents c.args.output) (contents listed.result.1)
+    inl (subst (λ had. Lists c.args.dump.layout c.args.dump.whole c.args.names had
+    (contents c.args.output) (contents listed.result.1)
     (∥ HasFailed g.O.Writer.may_answer listed.result.1 ∥₁) listed.result.0)
     c.in-Ok.ensures listed.ensures)
 

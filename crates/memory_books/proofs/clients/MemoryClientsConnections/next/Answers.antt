@@ -4,8 +4,8 @@ use Rattle.chargectl.proofs.ServingLemmas.{alone_together, no_later, told_count}
 use Rattle.memory_books.proofs.clients.MemoryClientsConnections.next.Goals as goal
 
 -- nobody came behind it
-pub returns-clause-left : goal.returns-clause-left
-returns-clause-left g c =
+pub returns-clause-most : goal.returns-clause-most
+returns-clause-most g c =
     let came = c.answer_peer-attended in
     let count : 0 + length (later_of came.result.0) ≡ 0 = came.ensures.count in
     let long = told_count came.result.0 in

@@ -2,10 +2,10 @@ use Rattle.std.proofs.Common.{arith, ap, length, length-append, subst, Err, List
 use Rattle.std.proofs.KnownBytes.{Appends-nil}
 use Rattle.std.proofs.lemmas.Result.{err_from_is_err_and}
 use Rattle.streams.specs.Sinks.{writer_of}
-use Rattle.book_import.specs.declared.receipt.Stop.{Stop}
 use Rattle.book_lists.specs.Writing.{WritesUntil}
 use Rattle.book_lists.proofs.StreamedLemmas.{some_behind}
 use Rattle.book_reports.specs.CheckLists.{last_line}
+use Rattle.program_output.specs.declared.listing.Checked.{Checked}
 use Rattle.program_output.specs.Listings.{waiting}
 use Rattle.program_output.proofs.LineLemmas.{last_line_short, last_line_some}
 use Rattle.program_output.proofs.listing.Listing.end.Goals as goal
@@ -30,7 +30,7 @@ returns-in_err-flush-clause-written g c =
     let held = g.W.Write.contents (writer_of c.args.sink.now) in
     let holds = g.W.Write.contents (writer_of c.flush.new.sink) in
     rw failed.1
-    (subst (λ (text : List ℕ). WritesUntil {A = Stop} text held holds (Err failed.0))
+    (subst (λ (text : List ℕ). WritesUntil {A = Checked} text held holds (Err failed.0))
     c.in_ok-push_last_line.ensures c.in_err-flush.ensures.until)
 
 pub flush-requires-clause-short : goal.flush-requires-clause-short

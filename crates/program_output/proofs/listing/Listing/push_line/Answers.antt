@@ -15,13 +15,13 @@ returns-in_err-push_record_line-clause-written g c =
 
 pub flush-requires-clause-short : goal.flush-requires-clause-short
 flush-requires-clause-short g c =
-    let line = record_line (c.args.self.now.count + 1) c.args.bytes.now in
+    let line = record_line c.args.names (c.args.self.now.count + 1) c.args.bytes.now in
     omega (
       arith,
       c.requires.room,
       ap length c.in_ok-push_record_line.ensures,
       length-append (waiting c.args.self.now) line,
-      record_line_short (c.args.self.now.count + 1) c.args.bytes.now
+      record_line_short c.args.names (c.args.self.now.count + 1) c.args.bytes.now
           (omega (arith, c.requires.few)) (λ i. (c.type_inv.bytes i).fits),
     )
 

@@ -4,10 +4,10 @@ use Rattle.program_output.specs.Names.{HasRead, IsNamesFault, names_in}
 use Rattle.program_output.proofs.NameLemmas.{fault_is, line_read, line_refused}
 use Rattle.program_output.proofs.names.NameList.push.Goals as goal
 
-pub returns-in_err-keep_name-clause-refused : goal.returns-in_err-keep_name-clause-refused
-returns-in_err-keep_name-clause-refused c =
+pub returns-in_err-ended-clause-refused : goal.returns-in_err-ended-clause-refused
+returns-in_err-ended-clause-refused c =
     let list = c.args.self.now in
-    let why = c.in_err-keep_name.field-0.0 in
+    let why = c.in_err-ended.field-0.0 in
     fault_is c.from_residual.result why
     (λ fault. (text more : List ℕ) → HasRead text list
     → IsNamesFault (names_in (text ++ c.args.byte ∷ more)) fault)
@@ -15,10 +15,10 @@ returns-in_err-keep_name-clause-refused c =
     (λ text more had. line_refused text more list c.args.byte c.without_return.result.now why
     c.if-byte-eq10.true
     (c.without_return.ensures ∙ ap strip_carriage_return c.deref.ensures.value) had
-    c.in_err-keep_name.ensures.refused)
+    c.in_err-ended.ensures.refused)
 
-pub returns-in_ok-keep_name-clause-read : goal.returns-in_ok-keep_name-clause-read
-returns-in_ok-keep_name-clause-read c =
+pub returns-in_ok-ended-clause-read : goal.returns-in_ok-ended-clause-read
+returns-in_ok-ended-clause-read c =
     λ text had. line_read text c.args.self.now _ c.args.byte c.without_return.result.now
     c.if-byte-eq10.true (c.without_return.ensures ∙ ap strip_carriage_return c.deref.ensures.value) had
-    c.in_ok-keep_name.ensures.kept c.clear.ensures.items
+    c.in_ok-ended.ensures.kept c.clear.ensures.items

@@ -18,8 +18,8 @@ pass-requires g c =
     let came = c.answer_peer-attended in
     omega (arith, came.ensures.count, later_length came.result.0)
 
-pub returns-clause-left : goal.returns-clause-left
-returns-clause-left g c =
+pub returns-clause-most : goal.returns-clause-most
+returns-clause-most g c =
     let came = c.answer_peer-attended in
     omega (
       arith,
