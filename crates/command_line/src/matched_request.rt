@@ -241,11 +241,11 @@ fn ruling_in<'a>(found: &ArgMatches<'_>, near: bool, ruling: Ruling<'a>) -> Opti
         → IfSome result (IsOfBooks name (rows_in found.now)) }
     ensures some { HasWord (rows_in found.now) known.dry_run → IsSome result }
 {
-    if flag_in(found, "dry-run")? {
-        Some(BookRequest::DryRun(ruling))
-    } else {
-        Some(ruled(near, ruling))
+    let tried = flag_in(found, "dry-run")?;
+    if tried {
+        return Some(BookRequest::DryRun(ruling));
     }
+    Some(ruled(near, ruling))
 }
 
 /// One choice, or those of the list that is named. With both, or neither, it is unclear.
