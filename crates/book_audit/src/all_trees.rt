@@ -20,7 +20,7 @@ use crate::trees::Trees;
 use crate::walk::Walk;
 use crate::watch::Watch;
 use book_model::LedgerFault;
-use sqlite_trees::store::Store;
+use sqlite_trees::store::{Alter, Store};
 use std::alloc::Global;
 
 /// Reads all trees of a file that says it has this form. What is in `bytes` is lost.
@@ -57,7 +57,7 @@ fn read_trees<S: Store, W: Watch>(
 
 /// Reads through the books in a store, and returns what came of it; a fault is that memory or the
 /// store failed, or that there are no books. The store is given back.
-pub fn audit_trees<S: Store, W: Watch>(
+pub fn audit_trees<S: Alter, W: Watch>(
     alloc: Global,
     store: S,
     watch: &mut W,

@@ -22,11 +22,11 @@ use book_trees::{LookFault, close_unchanged};
 use named_books::RepositoryFault;
 use sqlite_disk::{Disk, Files};
 use sqlite_store::FileStore;
-use sqlite_trees::store::Store;
+use sqlite_trees::store::Alter;
 use std::alloc::Global;
 
 /// Audits the books in a store, which is given back. Nothing is written to them.
-fn audit_in<S: Store, W: Watch>(
+fn audit_in<S: Alter, W: Watch>(
     alloc: Global,
     store: S,
     watch: &mut W,
