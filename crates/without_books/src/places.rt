@@ -242,7 +242,7 @@ impl<'a> Places<'a> {
                 let path = self.read?;
                 Some(Spot {
                     place: Place::File(path),
-                    within: within(rt, path, fault),
+                    within: fault_place(rt, path, fault),
                     cause: None,
                 })
             }
@@ -306,7 +306,7 @@ fn output_failed<'a>() -> Spot<'a> {
 
 /// Where in a tariff file its fault is. None where that is in no line and in no entry, where the file
 /// can't be read again, and where memory runs out.
-fn within(rt: &HostRuntime, path: &str, fault: TariffFault) -> Option<Within> {
+fn fault_place(rt: &HostRuntime, path: &str, fault: TariffFault) -> Option<Within> {
     if !is_file(rt, path) {
         return None;
     }
