@@ -8,7 +8,7 @@ use Rattle.smf_frames.specs.Header.{header_len}
 use Rattle.smf_type30.specs.declared.record_class.Class.{Class}
 use Rattle.smf_type30.specs.declared.record_class.Class.TheVariants.{DumpHeader, DumpTrailer, DataLost}
 use Rattle.smf_type30.specs.declared.record_class.Class.TheVariants.{Other, Continuation, Usage, Damaged}
-use Rattle.book_model.specs.Words.{type_of, class_of, damage_number}
+use Rattle.book_model.specs.Words.{type_of, class_of, damage_number, data_of}
 use Rattle.book_import.specs.declared.receipt.Stop.{Stop}
 use Rattle.report_texts.specs.Columns.{newline}
 use Rattle.book_reports.specs.ReceiptLines.{fault_text, stop_text}
@@ -28,9 +28,9 @@ class_text Continuation = codes "CONTINUED"
 class_text Usage = codes "USAGE"
 class_text (Damaged damage) = fault_text (codes "DAMAGED") (damage_number damage)
 
--- the name under which books keep a record
+-- the name under which books keep a record: the SHA-256 of its data
 abbrev pub digest_text : List ℕ → List ℕ
-digest_text bytes = codes " " ++ encode_lower (sha256 bytes)
+digest_text bytes = codes " " ++ encode_lower (sha256 (data_of bytes))
 
 -- the same, where names are asked for
 abbrev pub asked_text : Bool → List ℕ → List ℕ

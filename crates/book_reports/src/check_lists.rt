@@ -2,6 +2,7 @@
 //! and how many there are.
 
 ghost use Rattle.std.specs.Prelude.{◌≡◌, ◌++◌, OnOk, string_bytes};
+ghost use Rattle.book_model.specs.Words.{data_of};
 ghost use Rattle.book_reports.specs.CheckLists as spec;
 
 use crate::receipt_lines::stop_text;
@@ -42,12 +43,23 @@ fn push_class(out: &mut String, class: Class) -> Result<(), AllocError>
     }
 }
 
-/// Appends the name under which books keep a record.
+/// The length of a record's descriptor, in bytes.
+const DESCRIPTOR: usize = 4;
+
+/// The data of a record, which follow its descriptor.
+fn data_in(bytes: &[u8]) -> &[u8]
+    ensures { result.now ≡ data_of bytes.now }
+{
+    let (_, data) = bytes.split_at(DESCRIPTOR.min(bytes.len()));
+    data
+}
+
+/// Appends the name under which books keep a record: that of its data.
 fn push_digest(alloc: Global, out: &mut String, bytes: &[u8]) -> Result<(), AllocError>
     ensures { OnOk result (string_bytes out.new
         ≡ string_bytes out.old ++ spec.digest_text bytes.now) }
 {
-    let name = Sha256::digest(bytes);
+    let name = Sha256::digest(data_in(bytes));
     let digits = hex::encode(alloc, name.as_slice())?;
     out.push(' ')?;
     out.push_str(digits.as_str())
