@@ -53,12 +53,12 @@ module _ {names : Bool} {layout : Layout} {bytes : List ℕ} {joiner : Joining} 
       → HasPassed layout (bytes ++ piece) new (AreListed names held has now)
   lists_more {piece = piece} taken over = passed_more lists taken (lists_on piece None over)
 
-module _ {names : Bool} where
-  -- a list has a last line, so it is not empty
-  list_some : (records : List (List ℕ)) (stop : Stop) → 0 < length (check_list_text names records stop)
-  list_some records stop =
-      let count = length records in
-      some_behind (record_lines names 1 records) (last_line count stop) (last_line_some count stop)
+-- a list has a last line, so it is not empty
+list_some : (names : Bool) (records : List (List ℕ)) (stop : Stop)
+    → 0 < length (check_list_text names records stop)
+list_some names records stop =
+    let count = length records in
+    some_behind (record_lines names 1 records) (last_line count stop) (last_line_some count stop)
 
 -- the stop that is answered is the one at which the reading ended
 ends_told : (allowed : ℕ) (found : Front) (input : Input) (stop : Stop) (torn : Bool)
@@ -115,7 +115,7 @@ module _ {names : Bool} {layout : Layout} {cut : Option Stop} {allowed : ℕ} {i
         (Consumes-nil input.old.left);
     written = (
       0,
-      list_some {names = names} (front layout []).records (stop_after cut (front layout [])),
+      list_some names (front layout []).records (stop_after cut (front layout [])),
       Appends-nil held,
     );
     told = tt;

@@ -36,10 +36,10 @@ returns-clause-names c =
     let list = c.args.self in
     let last = c.as_slice-last.result.now in
     let new = c.keep_line.new.listed in
-    λ text had. ended_named text list new _ had
+    λ text had. ended_named text list new c.in_ok-keep_line.field-0 had
     (subst (λ line. length line ≢ 0) c.as_slice-last.ensures.value
     (eqb-false (length last) 0 (sym c.is_empty.ensures ∙ c.if-is_empty.false)))
-    (subst (λ line. KeepsLine list.listed list.ended line new _) c.as_slice-last.ensures.value
+    (subst (λ line. KeepsLine list.listed list.ended line new c.in_ok-keep_line.field-0) c.as_slice-last.ensures.value
     c.in_ok-keep_line.ensures.kept)
 
 pub returns-clause-lines : goal.returns-clause-lines
@@ -47,8 +47,8 @@ returns-clause-lines c =
     let list = c.args.self in
     let last = c.as_slice-last.result.now in
     let new = c.keep_line.new.listed in
-    λ text had. ended_numbered text list new _ had
+    λ text had. ended_numbered text list new c.in_ok-keep_line.field-0 had
     (subst (λ line. length line ≢ 0) c.as_slice-last.ensures.value
     (eqb-false (length last) 0 (sym c.is_empty.ensures ∙ c.if-is_empty.false)))
-    (subst (λ line. KeepsLine list.listed list.ended line new _) c.as_slice-last.ensures.value
+    (subst (λ line. KeepsLine list.listed list.ended line new c.in_ok-keep_line.field-0) c.as_slice-last.ensures.value
     c.in_ok-keep_line.ensures.kept)
