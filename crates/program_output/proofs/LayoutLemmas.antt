@@ -1,5 +1,5 @@
 -- That the first bytes of a dump tell how it looks, and that it looks so by the standard.
-use Rattle.std.proofs.Common.{◌≡◌, ℕ, ◌<◌, Bool, true, false, not, ◌&&◌, nat_lt, List, [], ◌∷◌}
+use Rattle.std.proofs.Common.{◌≡◌, ℕ, Bool, true, false, not, ◌&&◌, nat_lt, List, [], ◌∷◌}
 use Rattle.std.proofs.Common.{◌++◌, length, map, refl, sym, ap, subst, ◌∙◌, append_assoc}
 use Rattle.std.proofs.Common.{append-nil, lit<, arith, Option, Some, None, ◌↔◌, ◌==◌, if◌then◌else◌}
 use Rattle.std.proofs.Common.{is_some, slice_get, IsSome, IfOk, Result, Ok, Err, eqb-true, ltb-true}

@@ -6,7 +6,7 @@ use Rattle.std.proofs.lemmas.Fmt.{length-decimal-le}
 use Rattle.byteorder.specs.Numbers.{big_from-lt}
 use Rattle.smf_frames.specs.declared.fault.FrameFault.TheVariants.{SegmentLength}
 use Rattle.book_model.specs.Words.{FrameFault, frame_number, type_of, class_of, damage_number}
-use Rattle.book_model.specs.Words.{ledger_number, Class}
+use Rattle.book_model.specs.Words.{ledger_number, Class, data_of}
 use Rattle.smf_type30.specs.declared.record_class.Class.TheVariants.{Damaged, Usage}
 use Rattle.smf_type30.specs.declared.damage.Damage.{Damage}
 use Rattle.smf_type30.specs.declared.damage.Damage.TheVariants.{Short}
@@ -77,11 +77,12 @@ type_short bytes small =
 -- the name of a record has two digits for each of 32 bytes
 digest_short : (bytes : List ℕ) → length (digest_text bytes) ≤ 65
 digest_short bytes =
+    let its = data_of bytes in
     omega (
       arith,
-      length-append (codes " ") (encode_lower (sha256 bytes)),
-      length-encode_with lower_digits (sha256 bytes),
-      length-sha256 bytes,
+      length-append (codes " ") (encode_lower (sha256 its)),
+      length-encode_with lower_digits (sha256 its),
+      length-sha256 its,
     )
 
 name_short : (class : Class) (names : Bool) (bytes : List ℕ)

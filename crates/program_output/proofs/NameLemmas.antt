@@ -1,7 +1,7 @@
 -- Lists of names: their lines, from the front on, and the names so far.
 use Rattle.std.proofs.Common.{◌≡◌, ◌≢◌, ◌∙◌, ◌+◌, ◌<◌, ◌≤◌, ℕ, Bool, true, false, cond, List, []}
 use Rattle.std.proofs.Common.{◌∷◌, ◌++◌, length, Result, Ok, Err, ap, refl, subst, sym, arith}
-use Rattle.std.proofs.Common.{append_assoc, append-nil, le-ltb, length-append, lt-ltb, ne_eqb, All}
+use Rattle.std.proofs.Common.{append_assoc, append-nil, le-ltb, lt-ltb, ne_eqb, All}
 use Rattle.std.proofs.Common.{IfErr, IsErrAnd, nat_lt}
 use Rattle.std.specs.List.{onto_first, slice_split}
 use Rattle.std.specs.Str.Lines.{lines, lines_of_parts, strip_carriage_return}

@@ -20,7 +20,7 @@ one_more count = min (count + 1) (2 ^ 64 - 1)
 abbrev pub marks_with : Class → Marks → Marks
 marks_with DumpHeader marks = record marks { headers = one_more marks.headers }
 marks_with DumpTrailer marks = record marks { trailers = one_more marks.trailers }
-marks_with other marks = marks
+marks_with class marks = marks
 
 -- and with more of them
 abbrev pub marks_after : Marks → List (List ℕ) → Marks
