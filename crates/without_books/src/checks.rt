@@ -134,7 +134,7 @@ fn find_whole<F: Inputs>(
     inputs: &F,
     dump: DumpFile<'_>,
 ) -> Result<(), CommandFault>
-    requires { dump.entry.whole ≡ true }
+    requires { dump.whole ≡ true }
     ensures { IfErr result (IsUnfit ((F.held inputs.now).holds dump.entry.file.now)
         dump.entry.layout dump.entry.whole) }
 {

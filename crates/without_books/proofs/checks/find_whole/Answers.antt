@@ -9,6 +9,6 @@ returns-then-has_torn g c =
       c.requires,
       refl,
       found_torn c.args.dump.layout _ ((g.F.Inputs.held c.args.inputs.now).holds c.args.dump.file.now) _ _ _
-          c.list_dump-ended.result.0 c.in_ok-reader.ensures c.list_dump-ended.ensures
+          c.list_dump.result.0 c.in_ok-reader.ensures c.list_dump.ensures
           (sym c.has_torn.ensures ∙ c.if-has_torn.true),
     )
