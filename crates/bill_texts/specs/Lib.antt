@@ -1,4 +1,6 @@
--- Read in this order: booked sums, the parts of a sheet, and a sheet as a text.
+-- Read in this order: booked sums, the parts of a sheet, the rows of each part, and a sheet as a text.
 pub mod Booked
 pub mod Sheets
+pub mod SumsRows
+pub mod TermsRows
 pub mod SheetTexts
