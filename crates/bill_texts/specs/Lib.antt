@@ -3,4 +3,6 @@ pub mod Booked
 pub mod Sheets
 pub mod SumsRows
 pub mod TermsRows
+pub mod WorkRows
+pub mod RecordRows
 pub mod SheetTexts
