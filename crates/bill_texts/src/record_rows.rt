@@ -96,7 +96,7 @@ fn side_name(late: bool) -> PartName
 }
 
 /// What came late, or what was reversed, with its sum.
-pub fn side_part(
+pub(crate) fn side_part(
     alloc: Global,
     late: bool,
     billed: &[BilledLine],

@@ -69,7 +69,7 @@ fn centre_rows(
 }
 
 /// The sums of a centre's bill.
-pub fn centre_sums(alloc: Global, decimals: u8, own: &CentreCharges) -> Result<Part, AllocError>
+pub(crate) fn centre_sums(alloc: Global, decimals: u8, own: &CentreCharges) -> Result<Part, AllocError>
     requires { FitCharges own.now.charges }
     ensures { IfOk result (λ part. part_shown part ≡ spec.centre_sums decimals own.now) }
 {
@@ -84,7 +84,7 @@ pub fn centre_sums(alloc: Global, decimals: u8, own: &CentreCharges) -> Result<P
 }
 
 /// The sums of the office's bill.
-pub fn office_sums(
+pub(crate) fn office_sums(
     alloc: Global,
     decimals: u8,
     each: &[CentreCharges],

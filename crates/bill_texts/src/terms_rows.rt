@@ -55,7 +55,7 @@ fn price_rows(alloc: Global, tariffs: &[BilledTariff]) -> Result<Vec<RowDraft>, 
 }
 
 /// The prices of tariffs.
-pub fn prices_part(alloc: Global, tariffs: &[BilledTariff]) -> Result<Part, AllocError>
+pub(crate) fn prices_part(alloc: Global, tariffs: &[BilledTariff]) -> Result<Part, AllocError>
     requires { All (λ tariff. IsDay tariff.day) tariffs.now }
     ensures { IfOk result (λ part. part_shown part ≡ spec.prices_part tariffs.now) }
 {
@@ -94,7 +94,7 @@ fn percent_rows(alloc: Global, shifts: &[BilledShift]) -> Result<Vec<RowDraft>, 
 }
 
 /// The percents of shifts.
-pub fn percents_part(alloc: Global, shifts: &[BilledShift]) -> Result<Part, AllocError>
+pub(crate) fn percents_part(alloc: Global, shifts: &[BilledShift]) -> Result<Part, AllocError>
     requires { All (λ shift. IsDay shift.day) shifts.now }
     ensures { IfOk result (λ part. part_shown part ≡ spec.percents_part shifts.now) }
 {

@@ -54,7 +54,7 @@ fn since(tariffs: &[BilledTariff], day: i32) -> i32
 fn is_shift_on(day: i32, name: Name, shift: &BilledShift) -> bool
     ensures { result ≡ spec.is_shift_on day name shift.now }
 {
-    !(day < shift.day) && shift.shift == name
+    shift.day <= day && shift.shift == name
 }
 
 /// The percent of an entry, if it is the shift's, else what was found before.
@@ -66,7 +66,7 @@ fn percent_by(day: i32, name: Name, found: u16, shift: &BilledShift) -> u16
 
 /// A shift's percent on a day.
 #[tactic(auto, unfolding(crate::specs::WorkRows::percent_on))]
-fn percent_on(shifts: &[BilledShift], day: i32, name: Name) -> u16
+pub(crate) fn percent_on(shifts: &[BilledShift], day: i32, name: Name) -> u16
     ensures { result ≡ spec.percent_on shifts.now day name }
 {
     let mut found = 0;
@@ -78,7 +78,7 @@ fn percent_on(shifts: &[BilledShift], day: i32, name: Name) -> u16
 
 /// A row of work with its percent.
 #[tactic(auto, unfolding(crate::specs::WorkRows::day_row))]
-pub(crate) fn day_row(shifts: &[BilledShift], row: &ChargeRow) -> WorkRow
+fn day_row(shifts: &[BilledShift], row: &ChargeRow) -> WorkRow
     ensures { result ≡ spec.day_row shifts.now row.now }
 {
     WorkRow {
@@ -151,7 +151,7 @@ fn shift_row(
 }
 
 /// Adds CPU time, where it has a price.
-fn add_cpu(fields: &mut RowDraft, has_work: bool, cpu: u64)
+pub(crate) fn add_cpu(fields: &mut RowDraft, has_work: bool, cpu: u64)
     ensures { fields.new ≡ fields.old ++ (if has_work then seconds_text cpu else []) ∷ [] }
 {
     if has_work {
@@ -162,7 +162,7 @@ fn add_cpu(fields: &mut RowDraft, has_work: bool, cpu: u64)
 }
 
 /// Adds blocks, where they have a price.
-fn add_blocks(fields: &mut RowDraft, has_work: bool, blocks: u64)
+pub(crate) fn add_blocks(fields: &mut RowDraft, has_work: bool, blocks: u64)
     ensures { fields.new ≡ fields.old ++ (if has_work then decimal blocks else []) ∷ [] }
 {
     if has_work {
@@ -317,7 +317,7 @@ fn or_prices_work(found: bool, tariff: &BilledTariff) -> bool
 
 /// Some tariff has such a price.
 #[tactic(auto, unfolding(crate::specs::WorkRows::jobs_have_work))]
-pub fn jobs_have_work(tariffs: &[BilledTariff]) -> bool
+pub(crate) fn jobs_have_work(tariffs: &[BilledTariff]) -> bool
     ensures { result ≡ spec.jobs_have_work tariffs.now }
 {
     let mut found = false;
@@ -328,7 +328,7 @@ pub fn jobs_have_work(tariffs: &[BilledTariff]) -> bool
 }
 
 /// What work cost by day and shift.
-pub fn by_day(
+pub(crate) fn by_day(
     alloc: Global,
     name: PartName,
     has_work: bool,
@@ -349,7 +349,7 @@ pub fn by_day(
 }
 
 /// What work cost by tariff and shift.
-pub fn by_shift(
+pub(crate) fn by_shift(
     alloc: Global,
     name: PartName,
     has_work: bool,

@@ -15,9 +15,9 @@ use crate::book_texts::made_of;
 use crate::held_back::held_back;
 use crate::period_days::period_days;
 use crate::what_if::StatementForm;
+use bill_texts::{bill_table, bill_text, office_bill_table, office_bill_text};
 use book_core::{Ledger, LedgerFault};
 use book_model::Bill;
-use report_texts::{bill_table, bill_text, office_bill_table, office_bill_text};
 use smf_text::Name;
 use std::alloc::{AllocError, Global};
 
@@ -92,7 +92,7 @@ fn table_shown(
 {
     match *centre {
         None => office_bill_table(alloc, period, bill),
-        Some(_) => bill_table(alloc, period, bill),
+        Some(centre) => bill_table(alloc, centre, period, bill),
     }
 }
 
