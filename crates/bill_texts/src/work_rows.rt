@@ -54,7 +54,7 @@ fn since(tariffs: &[BilledTariff], day: i32) -> i32
 fn is_shift_on(day: i32, name: Name, shift: &BilledShift) -> bool
     ensures { result ≡ spec.is_shift_on day name shift.now }
 {
-    shift.day <= day && shift.shift == name
+    !(day < shift.day) && shift.shift == name
 }
 
 /// The percent of an entry, if it is the shift's, else what was found before.
