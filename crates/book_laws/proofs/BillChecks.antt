@@ -120,7 +120,7 @@ latest_has P (one ∷ others) found all is =
         ])
 
 -- so terms that are in force have what the terms of all tariffs have
-pub in_force_has : (P : Terms → Type 0) (day : ℤ) (tariffs : List AcceptedTerms) (terms : Terms)
+in_force_has : (P : Terms → Type 0) (day : ℤ) (tariffs : List AcceptedTerms) (terms : Terms)
     → All (λ tariff. P tariff.terms) tariffs → in_force day tariffs ≡ Some terms → P terms
 in_force_has P day tariffs terms all ruled =
     by (latest (filter (has_begun day) tariffs)) refl ruled
@@ -132,18 +132,6 @@ in_force_has P day tariffs terms all ruled =
         subst P (same_Some _ _ ruled)
         (latest_has (λ tariff. P tariff.terms) (filter (has_begun day) tariffs) tariff
         (All-filter (has_begun day) (λ tariff. P tariff.terms) tariffs all) is)
-
--- terms in force are those of an accepted tariff
-pub record IsOneOf (tariffs : List AcceptedTerms) (terms : Terms) : Type 0 where
-  pub tariff : AcceptedTerms
-  pub among : Contains tariffs tariff
-  pub is : tariff.terms ≡ terms
-
-pub all_one_of : (tariffs : List AcceptedTerms) → All (λ tariff. IsOneOf tariffs tariff.terms) tariffs
-all_one_of tariffs =
-    All-weaker (Contains tariffs) (λ tariff. IsOneOf tariffs tariff.terms)
-    (λ tariff there. record { tariff = tariff; among = there; is = refl }) tariffs
-    (All-contains_itself tariffs)
 
 -- terms that a text says
 abbrev IsSaid : Terms → Type 0

@@ -46,7 +46,6 @@ pub mod LinePartLemmas
 pub mod CheckLemmas
 pub mod PercentLemmas
 pub mod BillChecks
-pub mod KnownCentreLemmas
 pub mod TariffTexts
 pub mod PageLemmas
 pub mod OtherPriceLemmas

@@ -29,7 +29,6 @@ pub mod CoverageLaws
 pub mod BillLaws
 pub mod BookedLaws
 pub mod CheckLaws
-pub mod KnownCentres
 pub mod FocusLaws
 pub mod TariffLaws
 pub mod PageLaws

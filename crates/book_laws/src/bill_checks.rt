@@ -4,7 +4,6 @@
 ghost use Rattle.book_laws.specs.BookedLaws.{BookedAddUp, LinesAddUp};
 ghost use Rattle.book_laws.specs.CheckLaws.{BilledRowsCheck, OnePercentAShift, RowsCheck};
 ghost use Rattle.book_laws.specs.CheckLaws.{ShiftsPrice};
-ghost use Rattle.book_laws.specs.KnownCentres.{PricedCentresAreThere};
 
 /// What the office books is what the bills of its centres book, together.
 pub fn booked_add_up()
@@ -29,9 +28,4 @@ pub fn shifts_price()
 pub fn billed_rows_check()
     ensures rows { RowsCheck }
     ensures bills { BilledRowsCheck }
-{}
-
-/// Whatever has a price, its centre is one that some tariff names, or `UNASSIGNED`.
-pub fn priced_centres_are_there()
-    ensures { PricedCentresAreThere }
 {}
