@@ -1,8 +1,9 @@
 -- Booked sums are near what is owed.
 use Rattle.std.proofs.Common.{◌≡◌, ◌∙◌, ℕ, zero, suc, ◌+◌, ◌-◌, ◌*◌, ◌/◌, ◌≤◌, ◌<◌, ℤ, pos, negsuc}
-use Rattle.std.proofs.Common.{◌+ℤ◌, ◌-ℤ◌, List, [], ◌∷◌, refl, sym, ap, map, length, take, get_or}
-use Rattle.std.proofs.Common.{arith, inl, inr, subst}
+use Rattle.std.proofs.Common.{◌+ℤ◌, ◌-ℤ◌, List, [], ◌∷◌, ◌++◌, refl, sym, ap, map, length, take}
+use Rattle.std.proofs.Common.{get_or, arith, inl, inr, subst}
 use Rattle.std.proofs.lemmas.Bool.{cases_lt}
+use Rattle.std.proofs.lemmas.List.{take_more}
 use Rattle.std.proofs.lemmas.Nat.{div-mul-add}
 use Rattle.std.specs.Prelude.{neg_ℤ, ◌*ℤ◌, unsigned_abs}
 use Rattle.book_model.proofs.Std.{ints}
@@ -144,13 +145,20 @@ booked_together unit (owed ∷ others) some =
     subst (λ z. 2 * unsigned_abs (z -ℤ (owed +ℤ sum_of others)) ≤ suc (length others) * unit)
     (sym (dist (booked unit owed) (booked_of_all unit others) unit)) (omega arith)
 
--- what is booked for the next centre joins what is booked for those before
+-- what is booked for one more centre joins the others
+booked_push : (unit : ℕ) (each : List CentreCharges) (last : CentreCharges)
+    → booked_of_all unit (map owed_by (each ++ last ∷ []))
+    ≡ booked_of_all unit (map owed_by each) +ℤ booked unit (owed_by last)
+booked_push unit [] last = omega (arith, ints)
+booked_push unit (first ∷ each) last =
+    let rest = booked_push unit each last in
+    omega (arith, ints)
+
+-- so the next one's joins what is booked for those before
 pub booked_more : (unit : ℕ) (each : List CentreCharges) (i : ℕ) (one : CentreCharges)
     → i < length each
     → booked_of_all unit (map owed_by (take (i + 1) each))
     ≡ booked_of_all unit (map owed_by (take i each)) +ℤ booked unit (owed_by (get_or each i one))
-booked_more unit [] i one inside = absurd (omega arith)
-booked_more unit (first ∷ each) zero one inside = omega (arith, ints)
-booked_more unit (first ∷ each) (suc i) one inside =
-    let rest = booked_more unit each i one (omega arith) in
-    omega (arith, ints, rest)
+booked_more unit each i one inside =
+    ap (λ some. booked_of_all unit (map owed_by some)) (take_more each i one inside)
+    ∙ booked_push unit (take i each) (get_or each i one)

@@ -1,6 +1,6 @@
 //! Booked sums: what is owed, rounded to the decimals that the office books.
 
-ghost use Rattle.std.specs.Prelude.{◌≡◌, ◌++◌, ◌<◌, ◌^◌, ◌-ℤ◌, All, IfSome, map, pos};
+ghost use Rattle.std.specs.Prelude.{◌≡◌, ◌++◌, ◌<◌, ◌^◌, ◌+ℤ◌, ◌-ℤ◌, All, IfSome, map, pos};
 ghost use Rattle.report_texts.specs.Charges.{FitCharges};
 ghost use Rattle.bill_texts.specs.Booked as spec;
 ghost use Rattle.bill_texts.specs.Booked.{BookedIsNearest};
@@ -60,6 +60,15 @@ pub fn booked_by_centre(unit: u64, charges: &Charges) -> i128
     booked(unit, charged, charges.reversed)
 }
 
+/// What is booked, with one more centre, if 128 bits hold it.
+fn booked_with(sum: i128, unit: u64, own: &CentreCharges) -> Option<i128>
+    requires unit { 0 < unit }
+    requires own { FitCharges own.now.charges }
+    ensures { IfSome result (λ more. more ≡ sum +ℤ spec.booked unit (spec.owed_by own.now)) }
+{
+    Some(sum.checked_add(booked_by_centre(unit, &own.charges))?)
+}
+
 /// What the office books, in units: the sum of what the bills of its centres do. No books come to
 /// more than 128 bits hold.
 #[tactic(auto, using(crate::proofs::BookedLemmas::booked_more))]
@@ -71,7 +80,7 @@ fn booked_by_all(unit: u64, each: &[CentreCharges]) -> Option<i128>
 {
     let mut sum: i128 = 0;
     for one in each {
-        sum = sum.checked_add(booked_by_centre(unit, &one.charges))?;
+        sum = booked_with(sum, unit, one)?;
     }
     Some(sum)
 }
