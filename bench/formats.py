@@ -484,29 +484,42 @@ def report_form(name, period=0, centre=None):
 
 
 # Bills, of the office and of a centre.
-BILL_HEAD = (OF_PERIOD[0] + r"(?:OFFICE [ -~]{1,40}\n)?(?:CURRENCY [ -~]{1,40}\n)?"
-             + r"(?:TARIFF %s STEP CPU %s BLOCKS %s RECORD %s JOB CPU %s BLOCKS %s RECORD %s\n)*"
-             % (DAY, *6 * (AMOUNT,)))
+BOOKED = r"-?[0-9]+(?:\.[0-9]{1,4})?"
+BILL_HEAD = (OF_PERIOD[0] + r"(?:DRAFT|NUMBER) [0-9]+%%s\n(?:FROM %s\n)?" % DAY
+             + r"(?:OFFICE [ -~]{1,40}\n)?(?:CURRENCY [ -~]{1,40}\n)?")
+SUMS_COLUMNS = "%-16s %13s %13s %13s %13s %13s\n" % ("CENTRE", "CHARGED", "LATE", "REVERSED", "OWED", "BOOKED")
+BILLED = r"(?=.{86,}\n)%%s(?: +%s){3} +-?%s +%s\n" % (AMOUNT, AMOUNT, BOOKED)
 HELD_BACK = r"(?:DISPUTES [0-9]+ LEAST %s GREATEST %s\n)?" % (AMOUNT, AMOUNT)
-OFFICE_COLUMNS = "%-16s %21s %21s %21s %21s %21s\n" % (
-    "CENTRE", "STEPS", "JOBS", "LATE", "REVERSED", "OWED")
-BILLED = r"(?=.{126}\n)%%s(?: +%s){4} +-?%s\n" % (AMOUNT, AMOUNT)
-JOB_COLUMNS = ("%-10s %-16s %-16s %8s %19s %18s %21s\n"
-               % ("DAY", "CENTRE", "SHIFT", "COUNT", "", "", "AMOUNT"))
-JOB_ROWS = JOB_COLUMNS + r"(?:%s%s %s +%s +[0-9]+ +%s\n)*%sTOTAL +[0-9]+ +%s\n" % (
-    WIDE, DAY, NAME, NAME, AMOUNT, WIDE, AMOUNT)
-BILLED_LINES = r"(?:(?:PLUS |MINUS) %s %s +%s +-?%s PERIOD [0-9]+ [0-9a-f]{64} %s\n)*TOTAL +-?%s\n" % (
-    DAY, NAME, NAME, AMOUNT, SHOWN, AMOUNT)
-OFFICE_BILL_COLUMNS = "period,centre,steps,jobs,late,reversed,owed"
-BILL_COLUMNS = "period,day,centre,shift,kind,count,cpu,blocks,amount,of_period,name,job"
+WHOLE_LINE = r"(?=.{100}\n)"
+BILL_TERMS = (
+    r"(?:PRICES\nTARIFF     OF A                         RECORD             CPU     1000 BLOCKS\n"
+    + r"(?:(?=.{78}\n)%s (?:STEP|JOB) (?: +%s){3}\n)+" % (DAY, AMOUNT)
+    + r"PERCENTS\nTARIFF     SHIFT            PERCENT\n(?:(?=.{35}\n)%s %s +[0-9]{1,4}\n)+)?" % (DAY, NAME))
+BILL_PARTS = "".join(
+    r"(?:%s %s\n%s%s +SHIFT            PERCENT      COUNT%sAMOUNT\n(?:%s%s %s +[0-9]+ +[0-9]+ +%s%s\n)+"
+    r"%sTOTAL +[0-9]+ +%s%s\n)?" % (
+        kind, by, WHOLE_LINE, first, "(?: +CPU +BLOCKS)? +" if kind == "JOBS" else " +CPU +BLOCKS +", WHOLE_LINE, DAY, NAME, work, AMOUNT,
+        WHOLE_LINE, work, AMOUNT)
+    for by, first in (("BY SHIFT", "TARIFF"), ("BY DAY", "DAY"))
+    for kind, work in (("STEPS", r"[0-9]+\.[0-9]{2} +[0-9]+ +"), ("JOBS", r"(?:[0-9]+\.[0-9]{2} +[0-9]+ +)?")))
+BILL_RECORDS = "".join(
+    r"(?:%s\n%sDAY        SHIFT            JOB      PROGRAM  JOBID     STEP PERIOD +AMOUNT\n" % (word, WHOLE_LINE)
+    + r"(?:%s %s +%s [ 0-9-]+ +[0-9]+ +%s\n  [0-9a-f]{64}\n)+%sTOTAL +%s\n)?" % (DAY, NAME, SHOWN, AMOUNT, WHOLE_LINE, AMOUNT)
+    for word in ("LATE", "REVERSED"))
+OFFICE_BILL_COLUMNS = "period,centre,steps,jobs,late,reversed,owed,booked"
+BILL_COLUMNS = ("period,day,centre,shift,kind,count,cpu,blocks,amount,of_period,name,job,program,jobid,step,"
+                "percent")
 BILLS = {
-    "bill": "BILL " + BILL_HEAD + OFFICE_COLUMNS + "(?:%s)*%s" % (BILLED % NAME, BILLED % "TOTAL") + HELD_BACK,
-    "centre-bill": "BILL CENTRE %s " % NAME + BILL_HEAD + "STEPS\n" + ROWS % NAME + "JOBS\n" + JOB_ROWS
-                   + "ADJUSTMENTS\n" + BILLED_LINES + HELD_BACK + WIDE + r"OWED +-?%s\n" % AMOUNT,
-    "bill-csv": OFFICE_BILL_COLUMNS + r"\n(?:[0-9]+,%s(?:,%s){4},-?%s\n)*" % (NAME, AMOUNT, AMOUNT),
-    "centre-bill-csv": BILL_COLUMNS + r"\n(?:[0-9]+,%s,%s,%s,(?:%s|%s|%s)\n)*" % (
-        DAY, NAME, NAME, r"STEPS,[0-9]+,[0-9]+\.[0-9]{2},[0-9]+,%s,,," % AMOUNT, "JOBS,[0-9]+,,,%s,,," % AMOUNT,
-        "(?:PLUS|MINUS),,,,-?%s,[0-9]+,[0-9a-f]{64},%s" % (AMOUNT, VALUE))}
+    "bill": "BILL " + BILL_HEAD % "" + SUMS_COLUMNS + "(?:%s)*%s" % (BILLED % NAME, BILLED % "TOTAL") + HELD_BACK
+            + BILL_TERMS,
+    "centre-bill": "BILL CENTRE %s " % NAME + BILL_HEAD % ("-" + NAME) + SUMS_COLUMNS + BILLED % NAME + HELD_BACK
+                   + BILL_TERMS + BILL_PARTS + BILL_RECORDS,
+    "bill-csv": OFFICE_BILL_COLUMNS + r"\n(?:[0-9]+,%s(?:,%s){4},-?%s,%s\n)*" % (NAME, AMOUNT, AMOUNT, BOOKED),
+    "centre-bill-csv": BILL_COLUMNS + r"\n(?:[0-9]+,%s,%s,(?:%s)?,(?:%s|%s|%s|%s|%s)\n)*" % (
+        DAY, NAME, NAME, r"STEPS,[0-9]+,[0-9]+\.[0-9]{2},[0-9]+,%s,,,,,,,[0-9]+" % AMOUNT,
+        r"JOBS,[0-9]+,(?:[0-9]+\.[0-9]{2},[0-9]+|,),%s,,,,,,,[0-9]+" % AMOUNT,
+        "(?:PLUS|MINUS),,,,-?%s,[0-9]+,[0-9a-f]{64},%s,%s,%s,(?:[0-9]+|-)," % (AMOUNT, *3 * (VALUE,)),
+        "(?:STEP|JOB)-PRICE,%s,%s,%s,,,,,,,," % (AMOUNT, AMOUNT, AMOUNT), "PERCENT,,,,,,,,,,,[0-9]+")}
 
 # What a ruling would change: figures of the open period, before it and after it.
 FIGURES = ("%16s %21s %21s\n" % ("", "BEFORE", "AFTER")

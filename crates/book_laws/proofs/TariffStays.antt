@@ -70,12 +70,17 @@ tariffs_at k closes tariffs =
     tariffs_through (slice_get closes k)
     (tariffs_from (option_map day_after (close_at closes k)) (tariffs_seen tariffs))
 
+-- the close before it
+before_is : (k : ℕ) (rulings : Rulings)
+    → through_of (suc k - 1) rulings ≡ close_at rulings.closes k
+before_is k rulings =
+    let place : suc k - 1 ≡ k = omega arith in
+    ap (λ n. through_of n rulings) place ∙ through_at k rulings
+
 pub tariffs_are : (k : ℕ) (rulings : Rulings)
     → tariffs_in (suc k) rulings ≡ tariffs_at k rulings.closes rulings.tariffs
 tariffs_are k rulings =
-    let place : suc k - 1 ≡ k = omega arith in
-    let before : through_of (suc k - 1) rulings ≡ close_at rulings.closes k =
-    ap (λ n. through_of n rulings) place ∙ through_at k rulings in
+    let before = before_is k rulings in
     let at = through_at (suc k) rulings in
     λ i. tariffs_through (at i)
     (tariffs_from (option_map day_after (before i)) (tariffs_seen rulings.tariffs))
@@ -137,16 +142,17 @@ tariff_leaves closes tariffs text terms k rising within later =
     ∙ append-nil (filter (begins_by last) front)
     ∙ sym (ap (λ through. tariffs_through through front) there)
 
--- So the tariffs of a closed period stay, whatever calls follow.
+-- So the tariffs of a closed period stay, whatever calls follow, and the close before it.
 pub record KeepsTariffs (k : ℕ) (old new : Book) : Type 0 where
   pub within : k < length new.rulings.closes
   pub same : tariffs_at k new.rulings.closes new.rulings.tariffs
       ≡ tariffs_at k old.rulings.closes old.rulings.tariffs
+  pub before : close_at new.rulings.closes k ≡ close_at old.rulings.closes k
 
 pub keeps_tariffs : (naming : Naming) (later : List Event) (start : Book) (k : ℕ)
     → IsStrictlySortedBy int_cmp start.rulings.closes → AreMadeOf naming start later
     → k < length start.rulings.closes → KeepsTariffs k start (after_all later start)
-keeps_tariffs naming [] start k rising made within = record { within = within; same = refl }
+keeps_tariffs naming [] start k rising made within = record { within = within; same = refl; before = refl }
 keeps_tariffs naming (PeriodClosed day ∷ later) start k rising made within =
     let before = keeps_tariffs naming later start k rising made.1 within in
     let book : Book = after_all later start in
@@ -155,6 +161,7 @@ keeps_tariffs naming (PeriodClosed day ∷ later) start k rising made within =
       within = omega arith;
       same = close_leaves book.rulings.closes book.rulings.tariffs day k before.within
           ∙ before.same;
+      before = before_stays book.rulings.closes day k before.within ∙ before.before;
     }
 keeps_tariffs naming (RulingGiven (TariffAccepted (Some text) terms) ∷ later) start k rising made
     within =
@@ -166,6 +173,7 @@ keeps_tariffs naming (RulingGiven (TariffAccepted (Some text) terms) ∷ later) 
           (rise_later naming later start rising made.1) before.within
           (calls_go_forward.tariff book text terms made.0)
           ∙ before.same;
+      before = before.before;
     }
 keeps_tariffs naming (RulingGiven (TariffAccepted None terms) ∷ later) start k rising made within =
     let before = keeps_tariffs naming later start k rising made.1 within in
@@ -173,7 +181,7 @@ keeps_tariffs naming (RulingGiven (TariffAccepted None terms) ∷ later) start k
     absurd (omega arith)
 keeps_tariffs naming (event ∷ later) start k rising made within =
     let before = keeps_tariffs naming later start k rising made.1 within in
-    record { within = before.within; same = before.same }
+    record { within = before.within; same = before.same; before = before.before }
 
 pub tariffs_stay : (naming : Naming) (later : List Event) (old : Book) (k : ℕ)
     → IsStrictlySortedBy int_cmp old.rulings.closes → AreMadeOf naming old later
@@ -183,3 +191,12 @@ tariffs_stay naming later old k rising made within =
     tariffs_are k (after_all later old).rulings
     ∙ (keeps_tariffs naming later old k rising made within).same
     ∙ sym (tariffs_are k old.rulings)
+
+pub before_same : (naming : Naming) (later : List Event) (old : Book) (k : ℕ)
+    → IsStrictlySortedBy int_cmp old.rulings.closes → AreMadeOf naming old later
+    → k < length old.rulings.closes
+    → through_of (suc k - 1) (after_all later old).rulings ≡ through_of (suc k - 1) old.rulings
+before_same naming later old k rising made within =
+    before_is k (after_all later old).rulings
+    ∙ (keeps_tariffs naming later old k rising made within).before
+    ∙ sym (before_is k old.rulings)
