@@ -15,6 +15,7 @@ pub mod DetailSums
 pub mod WorkLemmas
 pub mod BillLineLemmas
 pub mod KeptTariffLemmas
+pub mod KnownCentreLemmas
 pub mod BillLemmas
 pub mod FocusLemmas
 pub mod SystemLemmas

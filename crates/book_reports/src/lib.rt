@@ -15,6 +15,7 @@ mod figures;
 mod focus_days;
 mod focus_reports;
 mod held_back;
+mod known_centres;
 mod pages;
 mod period_days;
 mod receipt_lines;
