@@ -9,9 +9,10 @@ use Rattle.book_model.specs.Words.{names_centre, no_event, of_centre, same_bytes
 use Rattle.book_model.specs.Words.{tariffs_through}
 use Rattle.book_core.specs.Words.{Seen, IsCall}
 use Rattle.book_reports.specs.declared.period_days.PeriodDays.{PeriodDays}
-use Rattle.book_reports.proofs.Words.{LedgerFault, Tells, read_then, same_value}
+use Rattle.book_reports.proofs.Words.{LedgerFault, Tells, closed_through, read_then, same_value}
 use Rattle.book_reports.proofs.KeptTariffLemmas.{through_append}
-use Rattle.book_reports.specs.KnownCentres.{is_named, is_named_by, known_outcome, named_outcome}
+use Rattle.book_reports.specs.KnownCentres.{is_named, is_named_by, known_outcome}
+use Rattle.book_reports.specs.KnownCentres.{known_through_outcome, named_outcome}
 use Rattle.book_reports.specs.PeriodDays.{days_outcome}
 
 -- ---- one more tariff
@@ -100,3 +101,11 @@ known_then {show = show} {result = result} number centre answer known call =
     (λ book early. subst (Tells show result)
     (sym (is_open (begun_in number book.rulings) (Some centre) tt tt (answer book) early)))
     known call
+
+-- the day that was answered of a centre is that of its period
+pub its_day : (number : ℕ) (centre : Option (List ℕ)) (book : Book) (through : Option ℤ)
+    → (known_through_outcome number centre book).answer ≡ Ok through
+    → closed_through book number ≡ through
+its_day number centre book through known =
+    same_value (is_passed (begun_in number book.rulings) centre (Ok (closed_through book number))
+    through known)
