@@ -263,6 +263,14 @@ class Rows:
             self.calls_left = None
         return self.calls_left is None
 
+    def is_refused_of(self, asks, period=None, centre=None):
+        """Whether one of so many calls of the books is refused. Of a centre that is named they are asked before whether it is
+        there: for the days of the closes, for each tariff, and for the end. Of one that is not there no more is asked."""
+        if centre is not None:
+            known = 2 + len(self.books.tariffs)
+            asks = known + asks if self.books.has_centre(period, centre) else known
+        return any(self.is_refused() for _ in range(asks))
+
     def take(self, dump):
         """The receipt of a dump. The books are asked of usage records alone."""
         kinds = []
@@ -275,17 +283,18 @@ class Rows:
     def report(self, verb, words):
         """A report, or why there is none."""
         asks = len(list(self.books.rulings())) if verb == "rulings" else ASKS[verb]
-        if any(self.is_refused() for _ in range(asks)):
+        place = (int(words[0]), *words[1:]) if words else ()
+        if self.is_refused_of(asks, *place):
             return office.refused(office.MEMORY)
         if words:
-            return self.books.of_period(getattr(self.books, verb), int(words[0]), *words[1:])
+            return self.books.of_period(getattr(self.books, verb), *place)
         return list(getattr(self.books, verb)())
 
     def details(self, verb, period, centre=None):
         """The details of a period, or of one centre in it, or why there are none."""
         books, period = self.books, int(period)
         asks = DETAILS[verb] + (len(books.counted_in_order(period, centre)) if 0 < period <= books.open else 0)
-        if any(self.is_refused() for _ in range(asks)):
+        if self.is_refused_of(asks, period, centre):
             return office.refused(office.MEMORY)
         return books.of_period(getattr(books, verb.replace("-", "_")), period, centre)
 
@@ -303,7 +312,7 @@ class Rows:
 
     def bill(self, verb, period, centre=None):
         """The bill of a centre for a period, or of all, or why there is none."""
-        if any(self.is_refused() for _ in range(self.bill_asks(int(period), centre))):
+        if self.is_refused_of(self.bill_asks(int(period), centre), int(period), centre):
             return office.refused(office.MEMORY)
         return self.books.of_period(getattr(self.books, BILLS[verb]), int(period), centre)
 
@@ -419,7 +428,7 @@ class Rows:
         text = found(verb, *words) if found else self.report(verb, words)
         if text == office.refused(office.MEMORY):
             return served(503, [])
-        if text == office.refused(office.NO_SUCH_PERIOD):
+        if text in (office.refused(office.NO_SUCH_PERIOD), office.refused(office.NO_SUCH_CENTRE)):
             return served(404, [])
         # Details are read once more, to be gathered before they are sent: those of these rows are short.
         is_refused = verb in DETAILS and self.details(verb, *words) == office.refused(office.MEMORY)
