@@ -231,10 +231,10 @@ def is_in(books, period, day):
 
 
 def disputes(books, period):
-    """Those that have a record dated in the period."""
+    """On the page of the open period all of them, as they hold work back now; else those that have a record dated in it."""
     yield table("disputes", "Disputes", ("Record", "Day", "Amount", "Completion", "Job id", "Program"))
     for identity, members in books.disputed():
-        if any(is_in(books, period, one.day) for one in members):
+        if period == books.open or any(is_in(books, period, one.day) for one in members):
             line = office.dispute_line(identity) + "\n"
             yield "<tr><th colspan='6' scope='rowgroup'>%s</th></tr>\n" % escaped(line)
             for one in members:
