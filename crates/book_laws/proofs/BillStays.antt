@@ -9,7 +9,8 @@ use Rattle.book_model.proofs.Std.{All-cons, All-filter, All-nil, IsPermutation-s
 use Rattle.book_model.proofs.Std.{slice_get-get_or}
 use Rattle.book_model.specs.declared.bill.HeldBack.{HeldBack}
 use Rattle.book_model.specs.declared.fault.LedgerFault.TheVariants.{NoSuchRecord}
-use Rattle.book_model.specs.Words.{day_of, job_of, Priced, Book, Event, IsSound, Naming, Period}
+use Rattle.book_model.specs.Words.{day_of, ended_step_of, job_id_of, job_of, program_of, Priced}
+use Rattle.book_model.specs.Words.{Book, Event, IsSound, Naming, Period}
 use Rattle.book_model.specs.Words.{Records, Rulings, Terms, after_all, bill_of, bill_outcome}
 use Rattle.book_model.specs.Words.{billed_line, billed_lines, billed_tariff, book_after}
 use Rattle.book_model.specs.Words.{charged_before, details_asked, disputes_in, has, held_back_in}
@@ -70,6 +71,9 @@ module _ (naming : Naming) (rulings : Rulings) (P : Line → Type 0) (plus : Boo
     plus = plus;
     name = name_of naming bytes;
     job = job_of bytes;
+    program = program_of bytes;
+    job_id = job_id_of bytes;
+    step = ended_step_of bytes;
     priced = priced;
   }
 

@@ -4,7 +4,7 @@
 ghost use Rattle.std.specs.Prelude.{◌≡◌, ◌++◌, [], All, IfErr, IfOk, OnOk};
 ghost use Rattle.std.specs.List.{cons_option};
 ghost use Rattle.book_model.specs.Words as words;
-ghost use Rattle.book_model.specs.Words.{IsDay, TariffSeen, letterhead_shown};
+ghost use Rattle.book_model.specs.Words.{IsDay, TariffSeen};
 ghost use Rattle.book_core.specs.Calls.{IsCall};
 ghost use Rattle.book_reports.specs.BillTariffs as spec;
 
@@ -20,16 +20,6 @@ use tariff_rules::{Letterhead, TariffFault};
 pub(crate) struct KeptTariffs {
     pub(crate) tariffs: Vec<BilledTariff>,
     pub(crate) letterhead: Letterhead,
-}
-
-/// A letterhead that says nothing.
-fn no_letterhead() -> Letterhead
-    ensures { letterhead_shown result ≡ words.no_letterhead }
-{
-    Letterhead {
-        office: None,
-        currency: None,
-    }
 }
 
 /// A tariff of this day has begun by the first day after a close, where there was one.
@@ -86,7 +76,7 @@ impl KeptTariffs {
     {
         KeptTariffs {
             tariffs: Vec::new(alloc),
-            letterhead: no_letterhead(),
+            letterhead: Letterhead::empty(),
         }
     }
 
@@ -99,7 +89,7 @@ impl KeptTariffs {
             return;
         }
         self.tariffs.clear();
-        self.letterhead = no_letterhead();
+        self.letterhead = Letterhead::empty();
     }
 
     /// One more.

@@ -40,10 +40,14 @@ pub use bill_texts::bill_text;
 pub use centre_amounts::cost_among;
 pub use centres::{
     centre_adjustment_table, centre_adjustments_text, centre_statement_table,
-    centre_statement_text, keep_lines,
+    centre_statement_text, keep_lines, push_centre_title,
 };
-pub use charges::Charges;
-pub use columns::{push_amount, push_number, push_seconds, seconds_text};
+pub use charges::{
+    CentreCharges, Charges, OfficeCharges, charges_of, office_charges, plain_lines, push_owed,
+};
+pub use columns::{
+    push_amount, push_blanks, push_number, push_right_aligned, push_seconds, seconds_text,
+};
 pub use coverage_rows::{
     CoveragePlace, CoverageRow, SystemDetail, coverage_place, coverage_with, empty_coverage,
 };
@@ -56,12 +60,16 @@ pub use dispute_lists::{
 };
 pub use dispute_tables::{dispute_rows, dispute_table, dispute_table_head};
 pub use dry_runs::{TriedRuling, dry_run_text};
+pub use fields::{
+    add_amount, add_day, add_key, add_name, add_number, add_number_or_dash, add_row, add_seconds,
+    add_shown, add_signed,
+};
 pub use figures::{Figures, figures_of, record_count, record_count_from};
 pub use focus_tables::{FocusHead, focus_table};
 pub use life_lines::is_charge;
 pub use office_bills::office_bill_text;
 pub use period_lists::period_list_text;
-pub use periods::push_head;
+pub use periods::{push_head, push_title};
 pub use record_texts::record_text;
 pub use ruling_lists::{push_ruling_line, ruling_list_head};
 pub use statement_tables::statement_table;

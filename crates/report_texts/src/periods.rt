@@ -37,7 +37,7 @@ pub(crate) fn push_title_end(out: &mut Draft, period: u16, through: Option<i32>)
 
 /// Appends the first line of a report on a period.
 #[tactic(auto, unfolding(crate::specs::Periods::title_line, crate::specs::Periods::title_end))]
-pub(crate) fn push_title(out: &mut Draft, report: &str, period: u16, through: Option<i32>)
+pub fn push_title(out: &mut Draft, report: &str, period: u16, through: Option<i32>)
     requires { ForSome through IsDay }
     ensures { out.new ≡ out.old ++ title_line report.now period through }
 {

@@ -99,6 +99,13 @@ impl Tariff {
         self.job
     }
 
+    /// Its shift rules, in the order of its text.
+    pub fn shift_rules(&self) -> &[ShiftRule]
+        ensures { result.now ≡ self.now.shifts }
+    {
+        &self.shifts
+    }
+
     /// The rates for records of a subtype.
     pub(crate) fn rates_for(&self, subtype: u16) -> Rates
         ensures { result ≡ spec.rates_for self.now subtype }

@@ -1,0 +1,2 @@
+-- Booked sums are near what is owed.
+pub mod BookedLemmas
