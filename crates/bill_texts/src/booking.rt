@@ -10,7 +10,7 @@ use text_drafts::Draft;
 
 /// How many ten-thousandths of the money unit the last of so many decimals stands for.
 #[tactic(auto, unfolding(crate::specs::Booked::unit_of))]
-pub fn unit_of(decimals: u8) -> u64
+fn unit_of(decimals: u8) -> u64
     ensures value { result ≡ spec.unit_of decimals }
     ensures some { 0 < result }
 {
@@ -154,7 +154,7 @@ fn push_booked(out: &mut Draft, decimals: u8, booked: i128)
 }
 
 /// Appends what the bill of a centre books.
-pub fn push_booked_by_centre(out: &mut Draft, decimals: u8, charges: &Charges)
+pub(crate) fn push_booked_by_centre(out: &mut Draft, decimals: u8, charges: &Charges)
     requires { FitCharges charges.now }
     ensures { out.new ≡ out.old
         ++ spec.booked_text decimals (spec.booked (spec.unit_of decimals) (spec.owed_of charges.now)) }
@@ -163,7 +163,7 @@ pub fn push_booked_by_centre(out: &mut Draft, decimals: u8, charges: &Charges)
 }
 
 /// Appends what the office books.
-pub fn push_booked_by_all(out: &mut Draft, decimals: u8, each: &[CentreCharges])
+pub(crate) fn push_booked_by_all(out: &mut Draft, decimals: u8, each: &[CentreCharges])
     requires { All (λ one. FitCharges one.charges) each.now }
     ensures { out.new ≡ out.old ++ spec.booked_text decimals
         (spec.booked_of_all (spec.unit_of decimals) (map spec.owed_by each.now)) }

@@ -71,12 +71,17 @@ tariffs_at k closes tariffs =
     tariffs_through (slice_get closes k)
     (tariffs_from (option_map day_after (close_at closes k)) (tariffs_seen tariffs))
 
+-- the close before it
+before_is : (k : ℕ) (rulings : Rulings)
+    → through_of (suc k - 1) rulings ≡ close_at rulings.closes k
+before_is k rulings =
+    let place : suc k - 1 ≡ k = omega arith in
+    ap (λ n. through_of n rulings) place ∙ through_at k rulings
+
 pub tariffs_are : (k : ℕ) (rulings : Rulings)
     → tariffs_in (suc k) rulings ≡ tariffs_at k rulings.closes rulings.tariffs
 tariffs_are k rulings =
-    let place : suc k - 1 ≡ k = omega arith in
-    let before : through_of (suc k - 1) rulings ≡ close_at rulings.closes k =
-    ap (λ n. through_of n rulings) place ∙ through_at k rulings in
+    let before = before_is k rulings in
     let at = through_at (suc k) rulings in
     λ i. tariffs_through (at i)
     (tariffs_from (option_map day_after (before i)) (tariffs_seen rulings.tariffs))
@@ -167,19 +172,21 @@ tariff_comes_late closes tariffs text terms k rising within later =
     (filter_map-append tariff_seen tariffs (accepted ∷ []))
     ∙ late_through (slice_get closes k) last terms.effective text (tariffs_seen tariffs) there after
 
--- So the tariffs of a closed period stay, and those that begin by its last day, whatever calls follow.
+-- So the tariffs of a closed period stay, those that begin by its last day, and the close before it,
+-- whatever calls follow.
 pub record KeepsTariffs (k : ℕ) (old new : Book) : Type 0 where
   pub within : k < length new.rulings.closes
   pub same : tariffs_at k new.rulings.closes new.rulings.tariffs
       ≡ tariffs_at k old.rulings.closes old.rulings.tariffs
   pub begun : begun_at k new.rulings.closes new.rulings.tariffs
       ≡ begun_at k old.rulings.closes old.rulings.tariffs
+  pub before : close_at new.rulings.closes k ≡ close_at old.rulings.closes k
 
 pub keeps_tariffs : (naming : Naming) (later : List Event) (start : Book) (k : ℕ)
     → IsStrictlySortedBy int_cmp start.rulings.closes → AreMadeOf naming start later
     → k < length start.rulings.closes → KeepsTariffs k start (after_all later start)
 keeps_tariffs naming [] start k rising made within =
-    record { within = within; same = refl; begun = refl }
+    record { within = within; same = refl; begun = refl; before = refl }
 keeps_tariffs naming (PeriodClosed day ∷ later) start k rising made within =
     let before = keeps_tariffs naming later start k rising made.1 within in
     let book : Book = after_all later start in
@@ -192,6 +199,7 @@ keeps_tariffs naming (PeriodClosed day ∷ later) start k rising made within =
           ap (λ through. tariffs_through through (tariffs_seen book.rulings.tariffs))
           (slice_get-front book.rulings.closes day k before.within)
           ∙ before.begun;
+      before = before_stays book.rulings.closes day k before.within ∙ before.before;
     }
 keeps_tariffs naming (RulingGiven (TariffAccepted (Some text) terms) ∷ later) start k rising made
     within =
@@ -208,6 +216,7 @@ keeps_tariffs naming (RulingGiven (TariffAccepted (Some text) terms) ∷ later) 
           tariff_comes_late book.rulings.closes book.rulings.tariffs text terms k rise
           before.within forward
           ∙ before.begun;
+      before = before.before;
     }
 keeps_tariffs naming (RulingGiven (TariffAccepted None terms) ∷ later) start k rising made within =
     let before = keeps_tariffs naming later start k rising made.1 within in
@@ -215,7 +224,12 @@ keeps_tariffs naming (RulingGiven (TariffAccepted None terms) ∷ later) start k
     absurd (omega arith)
 keeps_tariffs naming (event ∷ later) start k rising made within =
     let before = keeps_tariffs naming later start k rising made.1 within in
-    record { within = before.within; same = before.same; begun = before.begun }
+    record {
+      within = before.within;
+      same = before.same;
+      begun = before.begun;
+      before = before.before;
+    }
 
 pub tariffs_stay : (naming : Naming) (later : List Event) (old : Book) (k : ℕ)
     → IsStrictlySortedBy int_cmp old.rulings.closes → AreMadeOf naming old later
@@ -234,3 +248,12 @@ begun_stay naming later old k rising made within =
     begun_are k (after_all later old).rulings
     ∙ (keeps_tariffs naming later old k rising made within).begun
     ∙ sym (begun_are k old.rulings)
+
+pub before_same : (naming : Naming) (later : List Event) (old : Book) (k : ℕ)
+    → IsStrictlySortedBy int_cmp old.rulings.closes → AreMadeOf naming old later
+    → k < length old.rulings.closes
+    → through_of (suc k - 1) (after_all later old).rulings ≡ through_of (suc k - 1) old.rulings
+before_same naming later old k rising made within =
+    before_is k (after_all later old).rulings
+    ∙ (keeps_tariffs naming later old k rising made within).before
+    ∙ sym (before_is k old.rulings)

@@ -14,6 +14,7 @@ pub mod RecordNameLemmas
 pub mod DetailSums
 pub mod WorkLemmas
 pub mod BillLineLemmas
+pub mod ShiftLemmas
 pub mod KeptTariffLemmas
 pub mod KnownCentreLemmas
 pub mod BillLemmas

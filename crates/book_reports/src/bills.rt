@@ -15,11 +15,12 @@ use crate::bill_work::period_work;
 use crate::book_texts::made_of;
 use crate::held_back::held_back;
 use crate::known_centres::known_centre;
+use crate::period_days::period_days;
 use crate::report::Report;
 use crate::what_if::StatementForm;
+use bill_texts::{bill_table, bill_text, office_bill_table, office_bill_text};
 use book_core::{Ledger, LedgerFault};
 use book_model::Bill;
-use report_texts::{bill_table, bill_text, office_bill_table, office_bill_text};
 use smf_text::Name;
 use std::alloc::{AllocError, Global};
 
@@ -46,6 +47,7 @@ fn gathered<L: Ledger>(
     let work = period_work(alloc, ledger, period, centre)?;
     let lines = billed_lines(alloc, ledger, period, centre)?;
     let held = held_back(alloc, ledger, period, centre)?;
+    let days = period_days(ledger, period)?;
     let kept = billed_tariffs(alloc, ledger, period)?;
     Ok(PeriodBill {
         through: work.through,
@@ -53,7 +55,9 @@ fn gathered<L: Ledger>(
             work: work.rows,
             lines,
             held_back: held,
+            before: days.before,
             tariffs: kept.tariffs,
+            shifts: kept.shifts,
             letterhead: kept.letterhead,
         },
     })
@@ -91,7 +95,7 @@ fn table_shown(
 {
     match *centre {
         None => office_bill_table(alloc, period, bill),
-        Some(_) => bill_table(alloc, period, bill),
+        Some(centre) => bill_table(alloc, centre, period, bill),
     }
 }
 

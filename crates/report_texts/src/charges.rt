@@ -43,7 +43,7 @@ pub struct OfficeCharges {
 }
 
 /// A bill's lines, as a list of adjustments has them.
-pub fn plain_lines(alloc: Global, billed: &[BilledLine]) -> Result<Vec<Line>, AllocError>
+fn plain_lines(alloc: Global, billed: &[BilledLine]) -> Result<Vec<Line>, AllocError>
     ensures { IfOk result (λ lines. lines.items ≡ spec.plain_lines billed.now) }
 {
     let mut lines = Vec::new(alloc);
@@ -54,7 +54,7 @@ pub fn plain_lines(alloc: Global, billed: &[BilledLine]) -> Result<Vec<Line>, Al
 }
 
 /// What rows of steps, rows of jobs and lines charge.
-pub fn charges_of(steps: &[ChargeRow], jobs: &[ChargeRow], lines: &[Line]) -> Charges
+fn charges_of(steps: &[ChargeRow], jobs: &[ChargeRow], lines: &[Line]) -> Charges
     requires steps { AreRows steps.now }
     requires jobs { AreRows jobs.now }
     requires lines { AreLines lines.now }
@@ -69,6 +69,16 @@ pub fn charges_of(steps: &[ChargeRow], jobs: &[ChargeRow], lines: &[Line]) -> Ch
         late,
         reversed,
     }
+}
+
+/// What a bill charges.
+pub fn bill_charges(alloc: Global, bill: &Bill) -> Result<Charges, AllocError>
+    requires { IsBill (bill_shown bill.now) }
+    ensures charges { IfOk result (λ charges. charges ≡ spec.all_charges (bill_shown bill.now)) }
+    ensures fits { IfOk result (λ charges. FitCharges charges) }
+{
+    let lines = plain_lines(alloc, &bill.lines)?;
+    Ok(charges_of(&bill.work.steps, &bill.work.jobs, &lines))
 }
 
 /// The centres of rows and lines, each once and in order.

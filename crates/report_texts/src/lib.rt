@@ -3,8 +3,6 @@
 
 mod adjustment_lists;
 mod adjustment_tables;
-mod bill_tables;
-mod bill_texts;
 mod centre_amounts;
 mod centres;
 mod charges;
@@ -22,7 +20,6 @@ mod focus_tables;
 mod life_lines;
 mod midnights;
 mod moments;
-mod office_bills;
 mod period_lists;
 mod periods;
 mod reckoning_lines;
@@ -35,15 +32,13 @@ mod what_ifs;
 
 pub use adjustment_lists::{adjustment_list_text, word_of};
 pub use adjustment_tables::adjustment_table;
-pub use bill_tables::{bill_table, office_bill_table};
-pub use bill_texts::bill_text;
 pub use centre_amounts::cost_among;
 pub use centres::{
     centre_adjustment_table, centre_adjustments_text, centre_statement_table,
     centre_statement_text, keep_lines, push_centre_title,
 };
 pub use charges::{
-    CentreCharges, Charges, OfficeCharges, charges_of, office_charges, plain_lines, push_owed,
+    CentreCharges, Charges, OfficeCharges, bill_charges, office_charges, push_owed,
 };
 pub use columns::{
     push_amount, push_blanks, push_number, push_right_aligned, push_seconds, seconds_text,
@@ -67,7 +62,6 @@ pub use fields::{
 pub use figures::{Figures, figures_of, record_count, record_count_from};
 pub use focus_tables::{FocusHead, focus_table};
 pub use life_lines::is_charge;
-pub use office_bills::office_bill_text;
 pub use period_lists::period_list_text;
 pub use periods::{push_head, push_title};
 pub use record_texts::record_text;

@@ -8,13 +8,13 @@ use Rattle.book_reports.proofs.known_centres.known_centre.Goals as goal
 pub returns-in_err-days : goal.returns-in_err-days
 returns-in_err-days g c =
     call_failed c.from_residual.result c.from_residual.ensures.1 (λ book. refl) (λ book. refl)
-    (λ book is. cc is) c.in_err-days.ensures
+    (λ book is. cc is) c.in_err-days.ensures.days
 
 pub returns-in_err-named : goal.returns-in_err-named
 returns-in_err-named g c =
     refused_next c.from_residual-in_err-named.result c.from_residual-in_err-named.ensures.1
     (λ book. refl) (λ book. refl) (λ book known is. cc is)
-    (shown (λ book. refl) c.in_ok-days.ensures) c.in_err-named.ensures
+    (shown (λ book. refl) c.in_ok-days.ensures.days) c.in_err-named.ensures
 
 -- it is not there
 pub returns-then-not-is_there : goal.returns-then-not-is_there
@@ -23,7 +23,7 @@ returns-then-not-is_there g c =
     (λ book known. ap (λ there. if there then Ok tt else Err NoSuchCentre)
     (there_told c.args.period c.args.centre c.in_ok-days.days c.in_ok-named.named c.is_there.result
     book known.first known.next c.is_there.ensures ∙ c.if-not-is_there.true))
-    (both_shown (λ book. refl) (shown (λ book. refl) c.in_ok-days.ensures) c.in_ok-named.ensures)
+    (both_shown (λ book. refl) (shown (λ book. refl) c.in_ok-days.ensures.days) c.in_ok-named.ensures)
 
 -- or it is
 pub returns : goal.returns
@@ -32,4 +32,4 @@ returns g c =
     (λ book known. ap (λ there. if there then Ok tt else Err NoSuchCentre)
     (there_told c.args.period c.args.centre c.in_ok-days.days c.in_ok-named.named c.is_there.result
     book known.first known.next c.is_there.ensures ∙ c.if-not-is_there.false))
-    (both_shown (λ book. refl) (shown (λ book. refl) c.in_ok-days.ensures) c.in_ok-named.ensures)
+    (both_shown (λ book. refl) (shown (λ book. refl) c.in_ok-days.ensures.days) c.in_ok-named.ensures)
