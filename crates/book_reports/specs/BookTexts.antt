@@ -28,11 +28,13 @@ use Rattle.book_reports.specs.declared.report.PeriodReport.TheVariants.{Adjustme
 use Rattle.book_reports.specs.declared.report.PeriodReport.TheVariants.{AdjustmentTable}
 use Rattle.book_reports.specs.declared.report.PeriodReport.TheVariants.{StatementTable}
 use Rattle.book_reports.specs.declared.report.Report.{Report}
-use Rattle.book_reports.specs.declared.report.Report.TheVariants.{Bill, Coverage, DisputeList}
+use Rattle.book_reports.specs.declared.report.Report.TheVariants.{Bill, BillPage, Coverage}
+use Rattle.book_reports.specs.declared.report.Report.TheVariants.{DisputeList}
 use Rattle.book_reports.specs.declared.report.Report.TheVariants.{DisputeTable, Focus, OfPeriod}
 use Rattle.book_reports.specs.declared.report.Report.TheVariants.{OfficePage, PeriodList}
 use Rattle.book_reports.specs.declared.report.Report.TheVariants.{PeriodPage, Record, RulingList}
 use Rattle.book_reports.specs.declared.report.Report.TheVariants.{TariffText}
+use Rattle.book_reports.specs.BillPages.{bill_page_answer}
 use Rattle.book_reports.specs.Bills.{bill_answer}
 use Rattle.book_reports.specs.Coverage.{coverage_answer}
 use Rattle.book_reports.specs.FocusReports.{focus_answer}
@@ -105,6 +107,8 @@ report_answer naming (Record name) book =
     shown_by (record_text name) (trail_outcome naming name book).answer
 report_answer naming (Bill form period centre) book =
     of_centre (begun_in period book.rulings) centre (bill_answer naming form period centre book)
+report_answer naming (BillPage period centre) book =
+    of_centre (begun_in period book.rulings) centre (bill_page_answer naming period centre book)
 report_answer naming (Focus period) book = focus_answer naming period book
 report_answer naming (Coverage form period) book = coverage_answer naming form period book
 report_answer naming OfficePage book = office_page_answer naming book

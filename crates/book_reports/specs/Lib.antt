@@ -15,6 +15,7 @@ pub mod HeldBack
 pub mod BillTariffs
 pub mod KnownCentres
 pub mod Bills
+pub mod BillPages
 pub mod FocusDays
 pub mod FocusReports
 pub mod SystemDetails

@@ -26,14 +26,14 @@ use std::alloc::{AllocError, Global};
 
 /// A bill.
 #[derive(Drop)]
-struct PeriodBill {
+pub(crate) struct PeriodBill {
     /// The day that its period was closed through, `None` if it is open.
-    through: Option<i32>,
-    bill: Bill,
+    pub(crate) through: Option<i32>,
+    pub(crate) bill: Bill,
 }
 
 /// The bill of a period, for the centre that is named or for the whole office.
-fn gathered<L: Ledger>(
+pub(crate) fn gathered<L: Ledger>(
     alloc: Global,
     ledger: &mut L,
     period: u16,

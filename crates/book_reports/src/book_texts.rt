@@ -7,6 +7,7 @@ ghost use Rattle.book_model.specs.Words.{AreLines, AreRows, IsDay};
 ghost use Rattle.book_core.specs.Calls.{IsCall};
 ghost use Rattle.book_reports.specs.BookTexts as spec;
 
+use crate::bill_page_reports::bill_page_report;
 use crate::bills::bill_report;
 use crate::coverage::coverage_report;
 use crate::focus_reports::focus_report;
@@ -232,6 +233,7 @@ pub fn report_text<L: Ledger>(
             period,
             centre,
         } => bill_report(alloc, ledger, form, period, centre),
+        Report::BillPage { period, centre } => bill_page_report(alloc, ledger, period, centre),
         Report::Focus(period) => focus_report(alloc, ledger, period),
         Report::Coverage { form, period } => coverage_report(alloc, ledger, form, period),
         Report::OfficePage => office_page_report(alloc, ledger),

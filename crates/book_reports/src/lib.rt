@@ -3,6 +3,7 @@
 #![tactic(auto)]
 
 mod bill_lines;
+mod bill_page_reports;
 mod bill_shifts;
 mod bill_tariffs;
 mod bill_work;
