@@ -100,7 +100,7 @@ const NUMBER: Argument =
 
 /// The commands in the order of the program's help. The commands of reports have the words that the
 /// rows of `report_rows` give them.
-pub(crate) static KNOWN_COMMANDS: [KnownCommand; 25] = [
+pub(crate) static KNOWN_COMMANDS: [KnownCommand; 26] = [
     KnownCommand {
         name: "trial",
         about: "Prices a dump from standard input in new books, and prints their statement",
@@ -160,6 +160,11 @@ pub(crate) static KNOWN_COMMANDS: [KnownCommand; 25] = [
         name: "bill",
         about: "Prints the bill of a centre for a period, or what each centre owes",
         words: &[BOOK, PERIOD, CSV, CENTRE, WAIT],
+    },
+    KnownCommand {
+        name: "bill-page",
+        about: "Prints the bill of a centre for a period, or of the office, as a page to print",
+        words: &[BOOK, PERIOD, CENTRE, WAIT],
     },
     KnownCommand {
         name: "focus",
