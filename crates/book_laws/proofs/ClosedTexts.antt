@@ -11,11 +11,12 @@ use Rattle.book_reports.specs.declared.report.PeriodReport.{PeriodReport}
 use Rattle.book_reports.specs.declared.report.PeriodReport.TheVariants.{AdjustmentList, Statement}
 use Rattle.book_reports.specs.declared.report.PeriodReport.TheVariants.{AdjustmentTable}
 use Rattle.book_reports.specs.declared.report.PeriodReport.TheVariants.{StatementTable}
-use Rattle.book_reports.specs.declared.report.Report.TheVariants.{Bill, OfPeriod}
+use Rattle.book_reports.specs.declared.report.Report.TheVariants.{Bill, BillPage, OfPeriod}
 use Rattle.book_reports.specs.declared.streamed_details.DetailReport.{DetailReport}
 use Rattle.book_reports.specs.declared.what_if.StatementForm.{StatementForm}
 use Rattle.book_reports.specs.declared.what_if.StatementForm.TheVariants.{Text, Table}
 use Rattle.book_reports.specs.declared.what_if.WhatIf.{WhatIf}
+use Rattle.book_reports.specs.BillPages.{bill_page_in}
 use Rattle.book_reports.specs.Bills.{bill_in, bill_with}
 use Rattle.book_reports.specs.BookTexts.{period_adjustment_table, period_adjustments, period_answer}
 use Rattle.book_reports.specs.BookTexts.{period_statement, period_statement_table, report_answer}
@@ -114,6 +115,15 @@ module _ (naming : Naming) (number : ℕ) (old new : Book)
       λ i. of_centre (alike.begun i) centre (shown_by (bill_in form number centre)
       (shown_by (bill_with (alike.read.day i)) (bill i).answer))
 
+  -- also as a page
+  bill_page_stays : (centre : Option (List ℕ))
+      → report_answer naming (BillPage number centre) new
+      ≡ report_answer naming (BillPage number centre) old
+  bill_page_stays centre =
+      let bill = alike.bill centre in
+      λ i. of_centre (alike.begun i) centre (shown_by (bill_page_in number centre)
+      (shown_by (bill_with (alike.read.day i)) (bill i).answer))
+
 -- the same of the details that are wanted,
 details_stay_so : (naming : Naming) (wanted : DetailReport) (old new : Book)
     → AnswersAlike naming wanted.period old new
@@ -144,6 +154,9 @@ texts_stay Final final = record {
   bills = λ naming form number centre.
       final naming number (report_answer naming (Bill form number centre))
       (λ old new alike. bill_stays naming number old new alike form centre);
+  bill_pages = λ naming number centre.
+      final naming number (report_answer naming (BillPage number centre))
+      (λ old new alike. bill_page_stays naming number old new alike centre);
   details = λ naming wanted.
       final naming wanted.period (detail_answer wanted naming) (details_stay_so naming wanted);
   what_ifs = λ naming asked tariff.
