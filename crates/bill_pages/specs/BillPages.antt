@@ -8,7 +8,7 @@ use Rattle.book_model.specs.Words.{LetterheadSeen, day_text_of, letterhead_shown
 use Rattle.report_texts.specs.Columns.{amount_text}
 use Rattle.html_text.specs.Escaping.{escaped}
 use Rattle.page_texts.specs.Frame.{head_start}
-use Rattle.bill_texts.specs.Sheets.{Fields, PartSeen, PartsSeen, SheetSeen, text_at}
+use Rattle.bill_texts.specs.Sheets.{Fields, PartsSeen, SheetSeen, text_at}
 use Rattle.bill_pages.specs.declared.bill_head.PageHead.{PageHead}
 use Rattle.bill_pages.specs.Grouped.{grouped}
 use Rattle.bill_pages.specs.PageStyle.{bill_style}

@@ -8,7 +8,7 @@ use Rattle.tariff_rules.specs.Price.{applies_to, centre_by, centre_of, has_centr
 use Rattle.tariff_rules.specs.Terms.{CentreRule}
 use Rattle.book_model.proofs.Std.{All-head, All-tail, cons_option, ints, list_any, nat_list_eq_equiv}
 use Rattle.book_model.proofs.Std.{option_map_or, result_ok, same_Some}
-use Rattle.book_model.specs.Words.{AcceptedTerms, Priced, RulingSeen, Rulings, TariffSeen, Terms}
+use Rattle.book_model.specs.Words.{AcceptedTerms, Priced, RulingSeen, TariffSeen, Terms}
 use Rattle.book_model.specs.Words.{begins_by, begun_in, day_of, has_begun, is_centre, is_through}
 use Rattle.book_model.specs.Words.{latest, names_centre, price_by, same_bytes, tariffs_seen}
 use Rattle.book_model.specs.Words.{tariffs_through, through_of}
