@@ -1,4 +1,4 @@
-use Rattle.std.proofs.Common.{◌∙◌, ap, sym, w32}
+use Rattle.std.proofs.Common.{◌≡◌, ◌∙◌, ap, sym, w32}
 use Rattle.book_model.proofs.Std.{list_any, to_z-of_z}
 use Rattle.book_model.specs.Words.{names_centre, text_names}
 use Rattle.book_reports.proofs.Words.{IfOk-weaker}
