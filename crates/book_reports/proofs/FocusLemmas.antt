@@ -1,5 +1,5 @@
 -- The table of a period, whose parts are read from one book.
-use Rattle.std.proofs.Common.{◌≡◌, ℕ, ℤ, All, List, Option, Some, None, Ok, Err, slice_get, subst}
+use Rattle.std.proofs.Common.{◌≡◌, ℕ, ℤ, List, Option, Some, None, Ok, Err}
 use Rattle.std.proofs.Common.{ok_or, option_map}
 use Rattle.book_model.specs.Words.{Book, Naming, Period, adjustments_outcome, charges_outcome}
 use Rattle.book_model.specs.Words.{lines_of, period_of, periods_outcome, rows_for}
