@@ -302,13 +302,13 @@ class Rows:
         """How often a bill asks the books. For its steps and jobs: for the days of the closes, for each detail, and for
         the end, which is all where there is no such period. For its lines: for these, and of a centre for the trail of
         each record. For what is held back: for the days, and while the period is open for each dispute and the end. For
-        its tariffs: for the days, for each tariff, and for the end."""
+        its first day: for the days. For its tariffs: for the days, for each tariff, and for the end."""
         books = self.books
         if not 0 < period <= books.open:
             return 2
         lines = 0 if centre is None else len(books.lines(period, centre))
         disputes = len(books.disputed()) + 1 if period == books.open else 0
-        return 2 + len(books.counted_in_order(period, centre)) + 1 + lines + 1 + disputes + 2 + len(books.tariffs)
+        return 2 + len(books.counted_in_order(period, centre)) + 1 + lines + 1 + disputes + 1 + 2 + len(books.tariffs)
 
     def bill(self, verb, period, centre=None):
         """The bill of a centre for a period, or of all, or why there is none."""

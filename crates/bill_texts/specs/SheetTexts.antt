@@ -1,6 +1,6 @@
 -- A sheet as a text: of a part its title, the words above its columns, a line for each of its rows,
 -- and one for their sums.
-use Rattle.std.specs.Prelude.{ℕ, nat_lt, if◌then◌else◌, List, [], ◌∷◌, ◌++◌, codes, flat_map, length}
+use Rattle.std.specs.Prelude.{ℕ, nat_lt, if◌then◌else◌, List, [], ◌++◌, codes, flat_map, length}
 use Rattle.std.specs.Prelude.{Option, Some, None}
 use Rattle.report_texts.specs.Columns.{left_aligned, newline, right_aligned}
 use Rattle.bill_texts.specs.declared.column.Column.{Column}
@@ -35,8 +35,8 @@ work_heading work =
 -- the words above the columns
 unfoldable pub heading : Layout → List ℕ
 heading laid.Sums =
-    codes "CENTRE                 CHARGED          LATE      REVERSED          OWED"
-    ++ codes "        BOOKED\n"
+    codes "CENTRE                 CHARGED          LATE      REVERSED"
+    ++ codes "          OWED        BOOKED\n"
 heading laid.Prices =
     codes "TARIFF     OF A                         RECORD             CPU"
     ++ codes "     1000 BLOCKS\n"

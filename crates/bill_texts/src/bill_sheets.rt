@@ -1,7 +1,7 @@
 //! The sheet of a bill: one definition of what its text and its page show.
 
-ghost use Rattle.std.specs.Prelude.{◌≡◌, All, IfOk};
-ghost use Rattle.book_model.specs.Words.{IsDay, bill_shown};
+ghost use Rattle.std.specs.Prelude.{◌≡◌, IfOk};
+ghost use Rattle.book_model.specs.Words.{bill_shown};
 ghost use Rattle.report_texts.specs.Charges.{IsBill};
 ghost use Rattle.bill_texts.specs.BillSheets as spec;
 ghost use Rattle.bill_texts.specs.Sheets.{part_shown, parts_shown, sheet_shown};
@@ -57,7 +57,8 @@ pub fn office_sheet(alloc: Global, bill: &Bill) -> Result<Sheet, AllocError>
 /// What came late, or what was reversed, of a bill.
 fn side_of(alloc: Global, late: bool, bill: &Bill, amount: u64) -> Result<Part, AllocError>
     requires { IsBill (bill_shown bill.now) }
-    ensures { IfOk result (λ part. part_shown part ≡ spec.side_of late (bill_shown bill.now) amount) }
+    ensures { IfOk result (λ part.
+        part_shown part ≡ spec.side_of late (bill_shown bill.now) amount) }
 {
     side_part(alloc, late, &bill.lines, amount)
 }

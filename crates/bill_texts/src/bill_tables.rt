@@ -1,6 +1,6 @@
 //! Bills as tables of comma-separated values.
 
-ghost use Rattle.std.specs.Prelude.{◌≡◌, [], ◌∷◌, ◌++◌, All, IfOk, codes, flat_map};
+ghost use Rattle.std.specs.Prelude.{◌≡◌, [], ◌∷◌, ◌++◌, All, IfOk, flat_map};
 ghost use Rattle.book_model.specs.Words.{AreRows, IsDay, bill_shown, day_text_of};
 ghost use Rattle.report_texts.specs.Charges.{FitCharges, IsBill};
 ghost use Rattle.report_texts.specs.Tables.{fields_line};
@@ -304,8 +304,22 @@ pub fn bill_table(
     let has_work = jobs_have_work(&bill.tariffs);
     let mut table = TableDraft::new(alloc);
     add_heading(&mut table);
-    add_all_work(&mut table, period, "STEPS", true, &bill.shifts, &bill.work.steps);
-    add_all_work(&mut table, period, "JOBS", has_work, &bill.shifts, &bill.work.jobs);
+    add_all_work(
+        &mut table,
+        period,
+        "STEPS",
+        true,
+        &bill.shifts,
+        &bill.work.steps,
+    );
+    add_all_work(
+        &mut table,
+        period,
+        "JOBS",
+        has_work,
+        &bill.shifts,
+        &bill.work.jobs,
+    );
     add_lines(&mut table, period, &bill.lines);
     add_tariffs(&mut table, period, centre, &bill.shifts, &bill.tariffs);
     table.finish()

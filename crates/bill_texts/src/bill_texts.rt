@@ -1,6 +1,7 @@
 //! Bills as texts.
 
-ghost use Rattle.std.specs.Prelude.{◌≡◌, ◌++◌, All, IfOk, None, Some, option_map, string_bytes};
+ghost use Rattle.std.specs.Prelude.{◌≡◌, ◌++◌, All, IfOk, None, Some, option_map, slice_get};
+ghost use Rattle.std.specs.Prelude.{string_bytes};
 ghost use Rattle.std.specs.Option.{ForSome};
 ghost use Rattle.book_model.specs.Words.{IsDay, bill_shown};
 ghost use Rattle.report_texts.specs.Charges.{IsBill};
@@ -42,16 +43,32 @@ fn push_paper(out: &mut Draft, through: Option<i32>)
     }
 }
 
+/// The first of some tariffs, if there are some.
+fn first_tariff(tariffs: &[BilledTariff]) -> Option<BilledTariff>
+    ensures { result ≡ slice_get tariffs.now 0 }
+{
+    tariffs.first().copied()
+}
+
+/// The first day of a tariff, if there is one.
+fn begun_on(first: Option<BilledTariff>) -> Option<i32>
+    requires { ForSome first (λ tariff. IsDay tariff.day) }
+    ensures value { result ≡ option_map (λ tariff. tariff.day) first }
+    ensures day { ForSome result IsDay }
+{
+    match first {
+        Some(tariff) => Some(tariff.day),
+        None => None,
+    }
+}
+
 /// The first day of the first of some tariffs.
 fn first_begun(tariffs: &[BilledTariff]) -> Option<i32>
     requires { All (λ tariff. IsDay tariff.day) tariffs.now }
     ensures value { result ≡ spec.first_begun tariffs.now }
     ensures day { ForSome result IsDay }
 {
-    match tariffs.first().copied() {
-        Some(tariff) => Some(tariff.day),
-        None => None,
-    }
+    begun_on(first_tariff(tariffs))
 }
 
 /// The day after a close, if there is one.

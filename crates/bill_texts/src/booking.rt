@@ -36,8 +36,8 @@ fn nearest(unit: u64, amount: u64) -> u128
     (u128::from(amount) + u128::from(unit / 2)) / u128::from(unit)
 }
 
-/// What is booked of what was charged less what was reversed: so many units of the last decimal that
-/// is booked, halves away from zero.
+/// What is booked of what was charged less what was reversed: so many units of the last decimal,
+/// halves away from zero.
 fn booked(unit: u64, charged: u64, reversed: u64) -> i128
     requires { 0 < unit }
     ensures { result ≡ spec.booked unit (pos charged -ℤ pos reversed) }
@@ -156,8 +156,8 @@ fn push_booked(out: &mut Draft, decimals: u8, booked: i128)
 /// Appends what the bill of a centre books.
 pub(crate) fn push_booked_by_centre(out: &mut Draft, decimals: u8, charges: &Charges)
     requires { FitCharges charges.now }
-    ensures { out.new ≡ out.old
-        ++ spec.booked_text decimals (spec.booked (spec.unit_of decimals) (spec.owed_of charges.now)) }
+    ensures { out.new ≡ out.old ++ spec.booked_text decimals
+        (spec.booked (spec.unit_of decimals) (spec.owed_of charges.now)) }
 {
     push_booked(out, decimals, booked_by_centre(unit_of(decimals), charges));
 }

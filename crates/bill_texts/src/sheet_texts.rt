@@ -145,8 +145,8 @@ fn push_heading(out: &mut Draft, layout: Layout)
 {
     match layout {
         Layout::Sums => {
-            out.push_str("CENTRE                 CHARGED          LATE      REVERSED          OWED");
-            out.push_str("        BOOKED\n");
+            out.push_str("CENTRE                 CHARGED          LATE      REVERSED");
+            out.push_str("          OWED        BOOKED\n");
         }
         Layout::Prices => {
             out.push_str("TARIFF     OF A                         RECORD             CPU");

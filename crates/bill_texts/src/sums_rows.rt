@@ -69,7 +69,11 @@ fn centre_rows(
 }
 
 /// The sums of a centre's bill.
-pub(crate) fn centre_sums(alloc: Global, decimals: u8, own: &CentreCharges) -> Result<Part, AllocError>
+pub(crate) fn centre_sums(
+    alloc: Global,
+    decimals: u8,
+    own: &CentreCharges,
+) -> Result<Part, AllocError>
     requires { FitCharges own.now.charges }
     ensures { IfOk result (λ part. part_shown part ≡ spec.centre_sums decimals own.now) }
 {

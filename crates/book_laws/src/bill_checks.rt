@@ -16,16 +16,16 @@ pub fn lines_add_up()
     ensures { LinesAddUp }
 {}
 
-/// The shift that priced a record, with its percent, is one of its tariff's, and in a tariff file no
-/// shift has two percents.
+/// The shift that priced a record, with its percent, is one of its tariff's; and in a tariff file
+/// no shift has two percents.
 pub fn shifts_price()
     ensures listed { ShiftsPrice }
     ensures one { OnePercentAShift }
 {}
 
-/// A row comes to what its sums come to by its prices and its percent, but for half a ten-thousandth
-/// for each record; so does each row of a bill, by the tariff in force on its day, which stands on the
-/// bill.
+/// A row comes to what its sums come to by its prices and its percent, but for half a
+/// ten-thousandth for each record; so does each row of a bill, by the tariff in force on its day,
+/// which stands on the bill.
 pub fn billed_rows_check()
     ensures rows { RowsCheck }
     ensures bills { BilledRowsCheck }

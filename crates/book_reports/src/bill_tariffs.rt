@@ -1,5 +1,5 @@
-//! The tariffs in force on the days of a period, their shifts, and the letterhead of the last of them. They are
-//! read one at a time, in the order of their first days.
+//! The tariffs in force on the days of a period, their shifts, and the letterhead of the last of
+//! them. They are read one at a time, in the order of their first days.
 
 ghost use Rattle.std.specs.Prelude.{◌≡◌, All, IfOk};
 ghost use Rattle.book_model.specs.Words.{IsDay};
@@ -14,8 +14,8 @@ use book_model::{BilledShift, BilledTariff};
 use std::alloc::{AllocError, Global};
 use tariff_rules::{Letterhead, TariffFault};
 
-/// The tariffs that are kept of those that were read, their shifts, and the letterhead of the last of
-/// them.
+/// The tariffs that are kept of those that were read, their shifts, and the letterhead of the last
+/// of them.
 #[derive(Drop)]
 pub(crate) struct KeptTariffs {
     pub(crate) tariffs: Vec<BilledTariff>,

@@ -37,7 +37,7 @@ pub struct Letterhead {
     pub office: Option<String>,
     /// The currency of the amounts, at the key `currency`.
     pub currency: Option<String>,
-    /// How many decimals of it are booked, at the key `decimals`: 0 to 4, and 2 where it is not said.
+    /// How many decimals of it are booked, at the key `decimals`: 0 to 4, and 2 where it says none.
     pub decimals: u8,
 }
 
