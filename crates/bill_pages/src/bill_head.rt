@@ -1,4 +1,5 @@
-//! What stands above the tables of a bill's page: whose bill it is, of which days, and what is owed.
+//! What stands above the tables of a bill's page: whose bill it is, of which days, and what is
+//! owed.
 
 ghost use Rattle.std.specs.Prelude.{◌≡◌, ◌++◌, flat_map, option_map, string_bytes};
 ghost use Rattle.std.specs.Fmt.{decimal};

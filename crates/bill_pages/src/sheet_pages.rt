@@ -81,8 +81,8 @@ fn push_cells(out: &mut Draft, layout: Layout, first: &Draft, row: &StringRecord
 
 /// Appends a row whose first cell is a word.
 fn push_words(out: &mut Draft, layout: Layout, row: &StringRecord)
-    ensures { out.new ≡ out.old
-        ++ spec.row_page layout (escaped (sheets.text_at (fields_of row.now) 0)) (fields_of row.now) }
+    ensures { out.new ≡ out.old ++ spec.row_page layout
+        (escaped (sheets.text_at (fields_of row.now) 0)) (fields_of row.now) }
 {
     let mut first = Draft::new(out.alloc());
     push_escaped(&mut first, text_at(row, 0));

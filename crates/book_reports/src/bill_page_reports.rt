@@ -1,5 +1,5 @@
-//! The page of the bill of a period, which a ledger answers by calls that change nothing: it is as one
-//! call.
+//! The page of the bill of a period, which a ledger answers by calls that change nothing: it is as
+//! one call.
 
 ghost use Rattle.std.specs.Prelude.{◌≡◌, IfOk, None, Some, string_bytes};
 ghost use Rattle.std.specs.Option.{ForSome};

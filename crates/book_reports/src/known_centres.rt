@@ -1,6 +1,6 @@
-//! Which centres are there in a period: those that a tariff has a rule for which begins no later than
-//! the period's last day, and that of the records that no rule applies to. Tariffs are read one at a
-//! time.
+//! Which centres are there in a period: those that a tariff has a rule for which begins no later
+//! than the period's last day, and that of the records that no rule applies to. Tariffs are read
+//! one at a time.
 
 ghost use Rattle.std.specs.Prelude.{◌≡◌, ◌||◌, IfErr, IfOk, Some};
 ghost use Rattle.std.specs.Option.{ForSome};

@@ -179,8 +179,9 @@ impl Lines<Detail> for DetailLines {
 
 /// Writes the details of a period, of the office or of one centre: all of them, or, before a fault,
 /// a prefix of their text that is not the whole. A centre is looked for, and the first detail is
-/// asked for, before anything else, so that a centre or a period that is not there is refused before
-/// any byte; nobody changes the books meanwhile. Nothing is written after a write that failed.
+/// asked for, before anything else, so that a centre or a period that is not there is refused
+/// before any byte; nobody changes the books meanwhile. Nothing is written after a write that
+/// failed.
 pub fn write_details<L: Ledger, W: Writer + Drop>(
     alloc: Global,
     ledger: &mut L,

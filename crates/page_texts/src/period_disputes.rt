@@ -164,8 +164,8 @@ fn push_disputes(out: &mut Draft, before: Option<i32>, through: Option<i32>, dis
     }
 }
 
-/// Appends the disputes of the office that stand on a period's page: of the open one all of them, as
-/// they hold work back now; of a closed one those that have a record dated in it.
+/// Appends the disputes of the office that stand on a period's page: of the open one all of them,
+/// as they hold work back now; of a closed one those that have a record dated in it.
 #[tactic(auto, unfolding(crate::specs::PeriodTables::dispute_part))]
 pub(crate) fn push_dispute_part(
     out: &mut Draft,
