@@ -6,6 +6,7 @@ import hashlib
 import itertools
 import re
 
+import bill_pages
 import office
 import pages
 
@@ -163,7 +164,7 @@ ASKS = {"statement": 2, "table": 1, "adjustments": 2, "adjustment_table": 1, "di
 DETAILS = {"details": 2, "details-table": 2}
 
 # The bills of a period.
-BILLS = {"bill": "bill", "bill-table": "bill_table"}
+BILLS = {"bill": "bill", "bill-table": "bill_table", "bill-page": "bill_page"}
 
 # What is of a period of the whole office alone: its table of cost and usage, and its coverage.
 OF_OFFICE = {"focus": "focus", "coverage": "coverage", "coverage-table": "coverage_table"}
@@ -180,6 +181,7 @@ PATHS = {"statement": ("statement", "plain"), "statement-csv": ("table", "csv"),
          "adjustments": ("adjustments", "plain"), "adjustments-csv": ("adjustment_table", "csv"),
          "details": ("details", "plain"), "details-csv": ("details-table", "csv"), "focus": ("focus", "csv"),
          "coverage": ("coverage", "plain"), "coverage-csv": ("coverage-table", "csv"),
+         "bill": ("bill-page", "html"), "bill-csv": ("bill-table", "csv"),
          "disputes": ("disputes", "plain"), "disputes-csv": ("dispute_table", "csv"),
          "periods": ("periods", "plain"), "rulings": ("rulings", "plain")}
 
@@ -314,7 +316,12 @@ class Rows:
         """The bill of a centre for a period, or of all, or why there is none."""
         if self.is_refused_of(self.bill_asks(int(period), centre), int(period), centre):
             return office.refused(office.MEMORY)
+        if verb == "bill-page":
+            return self.books.of_period(self.bill_page, int(period), centre)
         return self.books.of_period(getattr(self.books, BILLS[verb]), int(period), centre)
+
+    def bill_page(self, period, centre=None):
+        return bill_pages.bill_page(self.books, period, centre).splitlines()
 
     def office_asks(self, verb, period):
         """How often such a text asks the books. FOCUS: for the days of the closes; for the tariffs, which is for the days, for
@@ -418,13 +425,14 @@ class Rows:
         if name not in PATHS:
             return served(404, [])
         verb, form = PATHS[name]
-        has_period = verb in OF_PERIODS or verb in DETAILS or verb in OF_OFFICE
+        has_period = verb in OF_PERIODS or verb in DETAILS or verb in OF_OFFICE or verb in BILLS
         most = 1 if verb in OF_OFFICE else 2
         if bool(words) != has_period or len(words) > most or not all(map(office.is_name, words[1:])):
             return served(404, [])
         if has_period and not NUMBER.fullmatch(words[0]):
             return served(404, [])
-        found = self.details if verb in DETAILS else self.of_office if verb in OF_OFFICE else None
+        found = (self.details if verb in DETAILS else self.of_office if verb in OF_OFFICE
+                 else self.bill if verb in BILLS else None)
         text = found(verb, *words) if found else self.report(verb, words)
         if text == office.refused(office.MEMORY):
             return served(503, [])
@@ -655,6 +663,7 @@ class Rows:
                 "statement": statement,
                 "details": lambda period, *_: of_period(books.details, books.details_table, period),
                 "bill": lambda period, *_: of_period(books.bill, books.bill_table, period),
+                "bill-page": lambda period, *_: of_period(self.bill_page, self.bill_page, period),
                 "focus": lambda period: self.of_office("focus", period),
                 "coverage": lambda period, *_: self.of_office("coverage-table" if "--csv" in given else "coverage", period),
                 "page": self.page,
