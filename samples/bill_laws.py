@@ -208,6 +208,8 @@ class Tried(history.History):
             try_period(books, period, centres)
             try_focus(books, period, centres)
             try_coverage(books, period)
+            holds(all(books.has_centre(period, centre) for centre, _ in books.billed(period)),
+                  "a centre that a period has rows or lines of is there in it")
             if period < books.open:
                 for centre in [None, *centres]:
                     texts = [*books.bill(period, centre), *books.bill_table(period, centre)]

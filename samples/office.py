@@ -36,7 +36,7 @@ RATES = ["%s_%s" % (kind, unit) for kind in ("step", "job") for unit in ("cpu", 
 MEMORY, FULL = 1, 4
 (TARIFF_DATE, TARIFF_EXISTS, _, WRONG_PERIOD, NOT_LATER, NO_SUCH_PERIOD, NO_SUCH_RECORD, NOT_DISPUTED,
  OLD_RULE) = range(6, 15)
-NO_SUCH_TARIFF = 19
+NO_SUCH_TARIFF, NO_SUCH_CENTRE = 19, 20
 # The most that all records of books may cost together.
 MOST_COST = 4000000000000000000
 # The most bytes that a tariff file has.
@@ -958,8 +958,17 @@ class Books:
         """The file of the tariff that begins on a day, if one does."""
         return next((tariff.file for tariff in self.tariffs if tariff.effective == day), None)
 
+    def has_centre(self, period, centre):
+        """A centre is there in a period, if a tariff has a rule for it that begins no later than the period's last day; and that
+        of the work to which no rule applies is."""
+        last = self.closes[period - 1] if 0 < period < self.open else datetime.date.max
+        rules = [rule for tariff in self.tariffs if tariff.effective <= last for rule in tariff.terms.get("centre", ())]
+        return centre == "UNASSIGNED" or any(rule["name"] == centre for rule in rules)
+
     def of_period(self, report, period, centre=None):
-        """A report of a period, if there is such a period: of all centres, or of one."""
+        """A report of a period, if there is such a period: of all centres, or of one that is there."""
+        if centre is not None and not self.has_centre(period, centre):
+            return refused(NO_SUCH_CENTRE)
         if not 0 < period <= self.open:
             return refused(NO_SUCH_PERIOD)
         return list(report(period) if centre is None else report(period, centre))

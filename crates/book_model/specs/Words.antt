@@ -101,6 +101,8 @@ pub use Rattle.book_model.specs.Bills.{is_step, jobs_of, least_for, letterhead_a
 pub use Rattle.book_model.specs.Bills.{line_alone}
 pub use Rattle.book_model.specs.Bills.{period_by_trail, period_of_line, steps_of, tariff_by}
 pub use Rattle.book_model.specs.Bills.{tariffs_from, tariffs_in, tariffs_through, work_rows}
+pub use Rattle.book_model.specs.KnownCentres.{begun_in, is_centre, names_centre, of_centre}
+pub use Rattle.book_model.specs.KnownCentres.{text_names}
 pub use Rattle.book_model.specs.History.{book_after, book_of, charged_in, closes, day_of_close}
 pub use Rattle.book_model.specs.History.{held_before, period_after, periods, rulings}
 pub use Rattle.book_model.specs.MadeByCalls.{AreMadeOf, IsAnswered, IsMadeByCalls}

@@ -56,7 +56,7 @@ from_push None tariffs day text = refl
 from_push (Some close) tariffs day text =
     in_force_push (close +ℤ pos 1) tariffs (TariffSeen day text)
 
-through_append : (through : Option ℤ) (some others : List RulingSeen)
+pub through_append : (through : Option ℤ) (some others : List RulingSeen)
     → tariffs_through through (some ++ others)
     ≡ tariffs_through through some ++ tariffs_through through others
 through_append None some others = refl

@@ -16,6 +16,7 @@ pub mod WorkLemmas
 pub mod BillLineLemmas
 pub mod ShiftLemmas
 pub mod KeptTariffLemmas
+pub mod KnownCentreLemmas
 pub mod BillLemmas
 pub mod FocusLemmas
 pub mod SystemLemmas

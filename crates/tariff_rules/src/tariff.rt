@@ -11,7 +11,7 @@ ghost use Rattle.tariff_rules.specs.Terms as terms;
 mod entry;
 mod file;
 
-use crate::centre::{CentreRule, centre_of, centre_rule};
+use crate::centre::{CentreRule, centre_of, centre_rule, has_centre};
 use crate::rates::Rates;
 use crate::shift::{Shift, ShiftRule, shift_at, shift_rule};
 pub use entry::Entry;
@@ -141,6 +141,13 @@ impl Tariff {
         ensures { result ≡ rule_number (spec.applies_to usage.now) self.now.centres }
     {
         centre_rule(&self.centres, usage)
+    }
+
+    /// Whether some rule is the centre's.
+    pub fn has_centre(&self, centre: &Name) -> bool
+        ensures { result ≡ spec.has_centre centre.now self.now.centres }
+    {
+        has_centre(&self.centres, centre)
     }
 
     /// The centre that pays for the record.
