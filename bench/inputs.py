@@ -192,7 +192,10 @@ REPORTS = [b"/periods", b"/disputes", b"/disputes-csv", b"/rulings", b"/tariff/2
            b"/focus/1", b"/focus/2", b"/coverage/1", b"/coverage/2", b"/coverage-csv/1", b"/coverage-csv/2",
            b"/statement/1", b"/statement/2", b"/statement-csv/1", b"/statement-csv/2",
            b"/adjustments/1", b"/adjustments/2", b"/adjustments-csv/2", b"/statement/1/LEDGER",
-           b"/statement-csv/1/LEDGER", b"/adjustments/2/LEDGER", b"/adjustments-csv/2/LEDGER"]
+           b"/statement-csv/1/LEDGER", b"/adjustments/2/LEDGER", b"/adjustments-csv/2/LEDGER",
+           b"/statement/1/UNASSIGNED", b"/statement-csv/2/UNASSIGNED", b"/adjustments/2/UNASSIGNED",
+           b"/bill/1", b"/bill/2", b"/bill-csv/1", b"/bill-csv/2", b"/bill/1/UNASSIGNED",
+           b"/bill-csv/1/UNASSIGNED", b"/bill/2/LEDGER", b"/bill-csv/2/LEDGER"]
 WHAT_IFS = [b"/what-if/1", b"/what-if/2", b"/what-if/3", b"/what-if-csv/1", b"/what-if/1/LEDGER",
             b"/what-if-csv/2/STORES"]
 PATHS = REPORTS + WHAT_IFS + [b"/import", b"/import-bdw"] * 2
@@ -209,6 +212,7 @@ TARGETS += [b"/statement/3", b"/statement/0", b"/statement/01", b"/statement/999
 TARGETS += [b"/period", b"/period/", b"/period/0", b"/period/01", b"/period/3", b"/period/10000", b"/period/1/",
             b"/period/1/LEDGER", b"/?x", b"//", b"/index.html", b"/favicon.ico"]
 TARGETS += [b"/focus", b"/focus/0", b"/focus/3", b"/focus/1/", b"/focus/1/LEDGER", b"/focus-csv/1", b"/coverage/",
+            b"/bill", b"/bill/", b"/bill/0", b"/bill/3", b"/bill/1/", b"/bill-csv/3/UNASSIGNED", b"/bill-table/1",
             b"/coverage/01", b"/coverage/3", b"/coverage/2/LEDGER", b"/coverage-csv/10000", b"/coverage-table/1"]
 TARGETS += [b"/record/" + b"ab" * 32, b"/record/" + b"zz" * 32, b"/record/" + b"0" * 63, b"/record/",
             b"/record", b"/record/" + HELD_RECORD + b"0", b"/record/" + HELD_RECORD + b"/",
@@ -423,7 +427,7 @@ def other_log(rng):
     return rng.choice((b"x", b"\0", b"\x37")) * rng.choice((1, 40, 41, 42, 55, 56, 57, 5_000))
 
 
-COMMANDS = ("init tariff import close choose adopt statement adjustments details bill focus coverage page disputes "
+COMMANDS = ("init tariff import close choose adopt statement adjustments details bill bill-page focus coverage page disputes "
             "record periods rulings tariff-text upgrade audit trial check explain help serve --help -h --version "
             "-V").split()
 WORDS = ("books nothing tariff dump . .. books/ books-wal 0 1 2 3 65535 65536 -1 1e3 0x1 ١ "
@@ -439,7 +443,7 @@ WORDS += ["", " ", "\n", "é", "x" * 300, "y" * 100_000, "/dev/null/x", "%s%n", 
 # What a command's words are, as often as not: books, a file, a period, a date, a name, a number.
 PLACES = {
     "init": "B", "tariff": "BF", "import": "BF", "close": "BPD", "choose": "BN", "adopt": "B",
-    "statement": "BPO", "details": "BP", "bill": "BPO", "focus": "BP", "coverage": "BPO", "page": "BP",
+    "statement": "BPO", "details": "BP", "bill": "BPO", "bill-page": "BPO", "focus": "BP", "coverage": "BPO", "page": "BP",
     "adjustments": "BP", "disputes": "B", "record": "BN",
     "periods": "B", "rulings": "B", "tariff-text": "BD", "upgrade": "B", "audit": "B", "trial": "",
     "check": "F", "explain": "KP", "serve": "B"}

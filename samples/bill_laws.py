@@ -69,8 +69,39 @@ def try_bill(books, period, centre):
             holds(books.before(named) < one.day <= books.closes[named - 1], "what came late is dated in its period")
 
 
+def totals(rows):
+    """What rows come to."""
+    return [sum(sums[at] for _, sums in rows) for at in range(4)]
+
+
+def try_rows(books, period, centre):
+    """The rows of one centre's bill: each is worked out from what stands on the bill, and those by shift come to those by
+    day."""
+    for is_job, subtype in ((False, b"\0\4"), (True, b"\0\5")):
+        by_shift, by_day = (books.work_rows(period, centre, is_job, by_tariff) for by_tariff in (True, False))
+        holds(totals(by_shift) == totals(by_day), "sums by shift come to those by day")
+        for (day, shift, percent), (count, cpu, blocks, amount) in by_shift + by_day:
+            tariff = books.tariff_on(day)
+            cpu_price, excp_price, record_price = tariff.prices(subtype)
+            parts = (10 * cpu * cpu_price + blocks * excp_price + 1000 * count * record_price) * percent
+            holds(tariff in books.tariffs_in(period) and (shift, percent) in tariff.percents(), "terms stand on the bill")
+            holds(abs(parts - 100000 * amount) <= 50000 * count, "a row checks")
+
+
+def try_booked(books, period, centres):
+    """What the office and its centres book: each the nearest, and the office what they do together."""
+    places = books.booked_decimals(period)
+    unit, owed = 10 ** (4 - places), [office.owed(*books.parts(period, centre)) for centre in centres]
+    units = [office.booked(one, places) for one in owed]
+    holds(all(2 * abs(unit * one - of) <= unit for one, of in zip(units, owed)), "what is booked is the nearest")
+    holds(2 * abs(unit * sum(units) - sum(owed)) <= unit * len(units), "so it is together")
+
+
 def try_period(books, period, centres):
     """The bills of one period."""
+    try_booked(books, period, centres)
+    for centre in centres:
+        try_rows(books, period, centre)
     for centre in centres:
         try_bill(books, period, centre)
     parts = [books.parts(period, centre) for centre in centres]
@@ -177,6 +208,8 @@ class Tried(history.History):
             try_period(books, period, centres)
             try_focus(books, period, centres)
             try_coverage(books, period)
+            holds(all(books.has_centre(period, centre) for centre, _ in books.billed(period)),
+                  "a centre that a period has rows or lines of is there in it")
             if period < books.open:
                 for centre in [None, *centres]:
                     texts = [*books.bill(period, centre), *books.bill_table(period, centre)]

@@ -6,7 +6,8 @@ WIDTH, COLOURS, MOST_NAMED = 10000, 8, 12
 REFERENCES = {"&": "&amp;", "<": "&lt;", ">": "&gt;", '"': "&quot;", "'": "&#39;"}
 # The reports to which a page leads, by their paths.
 OF_ALL = "periods rulings disputes disputes-csv".split()
-OF_PERIODS = "statement statement-csv adjustments adjustments-csv details details-csv focus coverage coverage-csv".split()
+OF_PERIODS = ("bill bill-csv statement statement-csv adjustments adjustments-csv details details-csv focus coverage "
+              "coverage-csv").split()
 
 STYLE = """:root{color-scheme:light dark;--ink:#1d2129;--soft:#626a78;--line:#dfe3ea;--page:#fbfbfa;--card:#fff;--link:#2257a5}
 @media(prefers-color-scheme:dark){:root{--ink:#e8eaee;--soft:#9aa3b2;--line:#333a46;--page:#15181d;--card:#1c2027;--link:#8ab4f0}}
@@ -169,8 +170,9 @@ def office_parts(books):
     yield "<header>\n<p>Chargeback</p>\n<h1>Office</h1>\n</header>\n"
     yield table("office", "Periods", "Period State Records Charged Added Reversed Owed".split())
     for period in periods:
-        records, *amounts = told[period]
-        yield table_row(period_link(period), books.head(period), records, *map(amount, amounts))
+        records, *amounts, owed = told[period]
+        yield table_row(period_link(period), books.head(period), records, *map(amount, amounts),
+                        "<a href='/bill/%d'>%s</a>" % (period, amount(owed)))
     yield TABLE_END
     yield table("bars", "Cost by centre", ("Period", "Cost", "Charged"))
     for period in periods:
@@ -231,10 +233,10 @@ def is_in(books, period, day):
 
 
 def disputes(books, period):
-    """Those that have a record dated in the period."""
+    """On the page of the open period all of them, as they hold work back now; else those that have a record dated in it."""
     yield table("disputes", "Disputes", ("Record", "Day", "Amount", "Completion", "Job id", "Program"))
     for identity, members in books.disputed():
-        if any(is_in(books, period, one.day) for one in members):
+        if period == books.open or any(is_in(books, period, one.day) for one in members):
             line = office.dispute_line(identity) + "\n"
             yield "<tr><th colspan='6' scope='rowgroup'>%s</th></tr>\n" % escaped(line)
             for one in members:

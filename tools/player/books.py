@@ -30,6 +30,7 @@ FAR_DAYS, NEAR_DAYS = 366, 7
 # The command of a report of a period.
 REPORTS = {"statement": ["statement"], "table": ["statement", "--csv"], "adjustments": ["adjustments"],
            "details": ["details"], "details-table": ["details", "--csv"], "bill": ["bill"], "bill-table": ["bill", "--csv"],
+           "bill-page": ["bill-page"],
            "focus": ["focus"], "coverage": ["coverage"], "coverage-table": ["coverage", "--csv"], "page": ["page"]}
 LISTS = frozenset("disputes periods record".split())
 OTHER_PRICES = frozenset("what-if what-if-table".split())

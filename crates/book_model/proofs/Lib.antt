@@ -41,5 +41,6 @@ pub mod OrderLemmas
 pub mod DetailOrder
 pub mod DetailLemmas
 pub mod CountedDays
+pub mod KnownCentreLemmas
 pub mod Std
 pub mod Lemmas

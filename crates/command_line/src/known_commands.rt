@@ -135,7 +135,7 @@ const NUMBER: Argument = Argument::InPlaceOr(
 
 /// The commands in the order of the program's help. The commands of reports have the words that the
 /// rows of `report_rows` give them.
-pub(crate) static KNOWN_COMMANDS: [KnownCommand; 25] = [
+pub(crate) static KNOWN_COMMANDS: [KnownCommand; 26] = [
     KnownCommand {
         name: "trial",
         about: "Prices a dump from standard input in new books, and prints their statement",
@@ -195,6 +195,11 @@ pub(crate) static KNOWN_COMMANDS: [KnownCommand; 25] = [
         name: "bill",
         about: "Prints the bill of a centre for a period, or what each centre owes",
         words: &[BOOK, PERIOD, CSV, CENTRE, WAIT, EXPLAIN],
+    },
+    KnownCommand {
+        name: "bill-page",
+        about: "Prints the bill of a centre for a period, or of the office, as a page to print",
+        words: &[BOOK, PERIOD, CENTRE, WAIT, EXPLAIN],
     },
     KnownCommand {
         name: "focus",

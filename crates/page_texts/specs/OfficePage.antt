@@ -11,7 +11,7 @@ use Rattle.html_text.specs.Escaping.{escaped}
 use Rattle.page_texts.specs.Bars.{bars_from, greatest, most_colours, picture}
 use Rattle.page_texts.specs.Figures.{FiguresSeen, owed_text}
 use Rattle.page_texts.specs.Frame.{page_start, table_end}
-use Rattle.page_texts.specs.Markup.{period_link, table_row}
+use Rattle.page_texts.specs.Markup.{bill_link, period_link, table_row}
 
 -- the rows of periods, the last one first; so many come before the first of the list
 abbrev pub last_first : (ℕ → FiguresSeen → List ℕ) → ℕ → List FiguresSeen → List ℕ
@@ -19,13 +19,14 @@ last_first row before [] = []
 last_first row before (figures ∷ periods) =
     last_first row (before + 1) periods ++ row (before + 1) figures
 
--- the row of a period: its number, whether it is open, how many records it counts, and its amounts
+-- the row of a period: its number, whether it is open, how many records it counts, and its amounts, of
+-- which the last leads to its bill
 unfoldable pub office_row : ℕ → Option ℤ → FiguresSeen → List ℕ
 office_row period through figures =
     table_row
     (period_link period ∷ head_text through ∷ decimal figures.records
     ∷ amount_text figures.charged ∷ amount_text figures.added ∷ amount_text figures.reversed
-    ∷ owed_text figures ∷ [])
+    ∷ bill_link period (owed_text figures) ∷ [])
 
 abbrev pub office_rows : List ℤ → List FiguresSeen → List ℕ
 office_rows closes periods =

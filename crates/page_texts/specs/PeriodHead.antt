@@ -45,9 +45,9 @@ report_link period path =
 -- the reports on a period as texts and as comma-separated values
 abbrev pub report_paths : List (List ℕ)
 report_paths =
-    codes "statement" ∷ codes "statement-csv" ∷ codes "adjustments" ∷ codes "adjustments-csv"
-    ∷ codes "details" ∷ codes "details-csv" ∷ codes "focus" ∷ codes "coverage"
-    ∷ codes "coverage-csv" ∷ []
+    codes "bill" ∷ codes "bill-csv" ∷ codes "statement" ∷ codes "statement-csv"
+    ∷ codes "adjustments" ∷ codes "adjustments-csv" ∷ codes "details" ∷ codes "details-csv"
+    ∷ codes "focus" ∷ codes "coverage" ∷ codes "coverage-csv" ∷ []
 
 -- the links to them and back, and the end of the page
 unfoldable pub period_foot : ℕ → List ℕ

@@ -63,7 +63,7 @@ const STYLE: &str = "\
 
 /// Appends what stands above the title.
 #[tactic(auto, unfolding(crate::specs::Frame::head_start))]
-fn push_head_start(out: &mut Draft)
+pub fn push_head_start(out: &mut Draft)
     ensures { out.new ≡ out.old ++ spec.head_start }
 {
     out.push_str(HEAD_START);

@@ -19,5 +19,6 @@ mod period_statement;
 
 pub use closes::close_of;
 pub use figures::{PeriodFigures, period_figures};
+pub use frame::push_head_start;
 pub use office::office_page;
 pub use period::period_page;

@@ -6,7 +6,7 @@ ghost use Rattle.book_model.specs.Words.{IsDay};
 ghost use Rattle.report_texts.specs.Periods.{head_text};
 ghost use Rattle.page_texts.specs.Bars.{greatest};
 ghost use Rattle.page_texts.specs.Figures.{figures_seen, owed_text};
-ghost use Rattle.page_texts.specs.Markup.{cell};
+ghost use Rattle.page_texts.specs.Markup.{bill_link, cell};
 ghost use Rattle.page_texts.specs.OfficePage as spec;
 
 use crate::amounts::push_head;
@@ -52,13 +52,26 @@ fn push_state_cell(out: &mut Draft, through: Option<i32>)
     out.push_str("</td>");
 }
 
-/// Appends a cell of what is owed.
+/// Appends what is owed, which leads to the bill.
+#[tactic(auto, unfolding(crate::specs::Markup::bill_link))]
+fn push_bill_link(out: &mut Draft, period: u64, figures: &PeriodFigures)
+    ensures { out.new ≡ out.old ++ bill_link period (owed_text (figures_seen figures.now)) }
+{
+    out.push_str("<a href='/bill/");
+    out.push_number(period);
+    out.push_str("'>");
+    push_owed(out, figures);
+    out.push_str("</a>");
+}
+
+/// Appends a cell of that.
 #[tactic(auto, unfolding(crate::specs::Markup::cell))]
-fn push_owed_cell(out: &mut Draft, figures: &PeriodFigures)
-    ensures { out.new ≡ out.old ++ cell (owed_text (figures_seen figures.now)) }
+fn push_owed_cell(out: &mut Draft, period: u64, figures: &PeriodFigures)
+    ensures { out.new
+        ≡ out.old ++ cell (bill_link period (owed_text (figures_seen figures.now))) }
 {
     out.push_str("<td>");
-    push_owed(out, figures);
+    push_bill_link(out, period, figures);
     out.push_str("</td>");
 }
 
@@ -76,7 +89,7 @@ fn push_office_row(out: &mut Draft, period: u64, through: Option<i32>, figures: 
     push_money_cell(out, figures.charged);
     push_money_cell(out, figures.added);
     push_money_cell(out, figures.reversed);
-    push_owed_cell(out, figures);
+    push_owed_cell(out, period, figures);
     out.push_str("</tr>\n");
 }
 

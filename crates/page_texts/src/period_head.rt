@@ -101,7 +101,9 @@ fn push_links(out: &mut Draft, period: u16, paths: &[&str])
 pub(crate) fn push_period_foot(out: &mut Draft, period: u16)
     ensures { out.new ≡ out.old ++ spec.period_foot period }
 {
-    let paths: [&str; 9] = [
+    let paths: [&str; 11] = [
+        "bill",
+        "bill-csv",
         "statement",
         "statement-csv",
         "adjustments",

@@ -74,7 +74,13 @@ row_of report.Details =
     record (table_row (codes "details") OfCentre (codes "/details/") (codes "/details-csv/")) {
       streamed = true;
     }
-row_of report.Bill = record (text_row (codes "bill") OfCentre None) { csv = true }
+row_of report.Bill =
+    record (text_row (codes "bill") OfCentre None) {
+      csv = true;
+      csv_path = Some (codes "/bill-csv/");
+    }
+row_of report.BillPage =
+    record (text_row (codes "bill-page") OfCentre (Some (codes "/bill/"))) { kind = body.Page }
 row_of report.Focus =
     record (text_row (codes "focus") OfPeriod (Some (codes "/focus/"))) { kind = body.Csv }
 row_of report.Coverage =
@@ -94,9 +100,9 @@ row_of report.TariffText =
 
 -- the reports in the order of the program's help
 abbrev pub reports : List ReportName
-reports = report.Statement ∷ report.Adjustments ∷ report.Details ∷ report.Bill ∷ report.Focus
-    ∷ report.Coverage ∷ report.Page ∷ report.Disputes ∷ report.Record ∷ report.Periods
-    ∷ report.Rulings ∷ report.TariffText ∷ []
+reports = report.Statement ∷ report.Adjustments ∷ report.Details ∷ report.Bill ∷ report.BillPage
+    ∷ report.Focus ∷ report.Coverage ∷ report.Page ∷ report.Disputes ∷ report.Record
+    ∷ report.Periods ∷ report.Rulings ∷ report.TariffText ∷ []
 
 -- the text is the word of the report
 abbrev pub has_word : List ℕ → ReportName → Bool
@@ -131,6 +137,7 @@ report_of_centre report.Statement form period centre =
 report_of_centre report.Adjustments form period centre =
     Some (made.OfPeriod (adjustments_in form) period centre)
 report_of_centre report.Bill form period centre = Some (made.Bill form period centre)
+report_of_centre report.BillPage form.Text period centre = Some (made.BillPage period centre)
 report_of_centre name form period centre = None
 
 -- of a period of the whole office: coverage alone has two forms

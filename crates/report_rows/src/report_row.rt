@@ -19,6 +19,8 @@ pub enum ReportName {
     Details,
     /// A bill: that of a centre, or what each centre owes.
     Bill,
+    /// A bill as a page for a browser and for paper.
+    BillPage,
     /// A period as a table of cost and usage by FOCUS 1.0.
     Focus,
     /// How many records a period counts of each day and system.
@@ -149,11 +151,20 @@ pub const DETAILS: ReportRow = ReportRow {
     ..PLAIN
 };
 
-/// A bill. It is not served.
+/// A bill. Its text is not served: its page is.
 pub const BILL: ReportRow = ReportRow {
     word: "bill",
     shape: Shape::OfCentre,
     csv: true,
+    csv_path: Some("/bill-csv/"),
+    ..PLAIN
+};
+
+pub const BILL_PAGE: ReportRow = ReportRow {
+    word: "bill-page",
+    shape: Shape::OfCentre,
+    path: Some("/bill/"),
+    kind: BodyKind::Page,
     ..PLAIN
 };
 
@@ -230,6 +241,7 @@ pub fn row_of(name: ReportName) -> ReportRow
         ReportName::Adjustments => ADJUSTMENTS,
         ReportName::Details => DETAILS,
         ReportName::Bill => BILL,
+        ReportName::BillPage => BILL_PAGE,
         ReportName::Focus => FOCUS,
         ReportName::Coverage => COVERAGE,
         ReportName::Page => PAGE,
@@ -242,11 +254,12 @@ pub fn row_of(name: ReportName) -> ReportRow
 }
 
 /// The reports in the order of the program's help.
-static REPORTS: [ReportName; 12] = [
+static REPORTS: [ReportName; 13] = [
     ReportName::Statement,
     ReportName::Adjustments,
     ReportName::Details,
     ReportName::Bill,
+    ReportName::BillPage,
     ReportName::Focus,
     ReportName::Coverage,
     ReportName::Page,
@@ -300,6 +313,10 @@ fn report_of_centre(
             period,
             centre,
         }),
+        ReportName::BillPage => match form {
+            StatementForm::Text => Some(Report::BillPage { period, centre }),
+            StatementForm::Table => None,
+        },
         _ => None,
     }
 }

@@ -15,11 +15,12 @@ mod rules;
 mod shift;
 mod tariff;
 
+pub use centre::is_unassigned;
 pub use fault::TariffFault;
 pub use key::Key;
 pub use letterhead::Letterhead;
 pub use priced::{Priced, price};
 pub use rates::{MAX_RATE, Rates};
 pub use reckoning::{Reckoning, reckon};
-pub use shift::MAX_PERCENT;
+pub use shift::{MAX_PERCENT, Shift, ShiftRule};
 pub use tariff::{Entry, MAX_CENTRES, MAX_SHIFTS, MAX_TEXT, Tariff};

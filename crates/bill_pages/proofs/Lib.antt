@@ -1,0 +1,2 @@
+-- Figures are read up to their point.
+pub mod GroupedLemmas
