@@ -10,8 +10,8 @@ use crate::booking::push_booked_by_centre;
 use crate::work_rows::{add_blocks, add_cpu, jobs_have_work, percent_on};
 use book_model::{Bill, BilledLine, BilledShift, BilledTariff, ChargeRow};
 use report_texts::{
-    CentreCharges, Charges, add_amount, add_day, add_key, add_name, add_number,
-    add_number_or_dash, add_row, add_shown, add_signed, office_charges, push_owed, word_of,
+    CentreCharges, Charges, add_amount, add_day, add_key, add_name, add_number, add_number_or_dash,
+    add_row, add_shown, add_signed, office_charges, push_owed, word_of,
 };
 use smf_text::Name;
 use std::alloc::{AllocError, Global};
@@ -169,14 +169,7 @@ fn add_lines(table: &mut TableDraft, period: u16, billed: &[BilledLine])
 
 /// Adds the row of some prices.
 #[tactic(auto, unfolding(crate::specs::BillTables::price_row))]
-fn add_prices(
-    table: &mut TableDraft,
-    period: u16,
-    centre: Name,
-    day: i32,
-    kind: &str,
-    rates: Rates,
-)
+fn add_prices(table: &mut TableDraft, period: u16, centre: Name, day: i32, kind: &str, rates: Rates)
     requires { IsDay day }
     ensures { table.new
         ≡ table.old ++ spec.price_row period centre (day_text_of day) kind.now rates }
@@ -219,13 +212,7 @@ fn add_percent(table: &mut TableDraft, period: u16, centre: Name, shift: &Billed
 
 /// Adds it, where it is a shift of the tariff that begins on a day.
 #[tactic(auto, unfolding(crate::specs::BillTables::percent_rows))]
-fn add_percent_of(
-    table: &mut TableDraft,
-    period: u16,
-    centre: Name,
-    day: i32,
-    shift: &BilledShift,
-)
+fn add_percent_of(table: &mut TableDraft, period: u16, centre: Name, day: i32, shift: &BilledShift)
     requires { IsDay shift.now.day }
     ensures { table.new ≡ table.old ++ spec.percent_rows period centre day shift.now }
 {
@@ -236,13 +223,7 @@ fn add_percent_of(
 
 /// Adds the rows of the percents of the tariff that begins on a day.
 #[tactic(auto, using(std::proofs::lemmas::List::flat_map_more))]
-fn add_percents(
-    table: &mut TableDraft,
-    period: u16,
-    centre: Name,
-    day: i32,
-    shifts: &[BilledShift],
-)
+fn add_percents(table: &mut TableDraft, period: u16, centre: Name, day: i32, shifts: &[BilledShift])
     requires { All (λ shift. IsDay shift.day) shifts.now }
     ensures { table.new
         ≡ table.old ++ flat_map (spec.percent_rows period centre day) shifts.now }

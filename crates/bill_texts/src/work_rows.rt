@@ -61,7 +61,11 @@ fn is_shift_on(day: i32, name: Name, shift: &BilledShift) -> bool
 fn percent_by(day: i32, name: Name, found: u16, shift: &BilledShift) -> u16
     ensures { result ≡ spec.percent_by day name found shift.now }
 {
-    if is_shift_on(day, name, shift) { shift.percent } else { found }
+    if is_shift_on(day, name, shift) {
+        shift.percent
+    } else {
+        found
+    }
 }
 
 /// A shift's percent on a day.
