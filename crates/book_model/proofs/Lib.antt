@@ -6,6 +6,7 @@ pub mod ListLemmas
 pub mod SumsAlike
 pub mod SumLemmas
 pub mod SetLemmas
+pub mod KeyLemmas
 pub mod RecordSets
 pub mod MapLemmas
 pub mod FilterMapLemmas

@@ -51,7 +51,7 @@ pub use Rattle.book_model.specs.Charged.{is_chosen, is_dated_after, is_dated_thr
 pub use Rattle.book_model.specs.Charged.{is_unrivalled, last_chosen, share_identity}
 pub use Rattle.book_model.specs.Periods.{Period, period_by}
 pub use Rattle.book_model.specs.Rows.{AreRows, FitSums, by_key, charged_at, key_of, keys_of, row_at}
-pub use Rattle.book_model.specs.Rows.{rows_for, rows_of, same_key}
+pub use Rattle.book_model.specs.Rows.{row_key, rows_for, rows_of, same_key}
 pub use Rattle.book_model.specs.Lines.{AreLines, by_line, line_with, lines_for, lines_of, plus_first}
 pub use Rattle.book_model.specs.Disputes.{AreDisputes, Disputed, IsDispute, ShowsDispute, by_name}
 pub use Rattle.book_model.specs.Disputes.{dispute_at, dispute_from, dispute_shown, disputes_in}
