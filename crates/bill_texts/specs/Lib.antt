@@ -1,6 +1,7 @@
--- Read in this order: booked sums, the parts of a sheet, the rows of each part, the sheet of a bill, a
--- sheet as a text, and bills as texts and as tables.
+-- Read in this order: booked sums, sums by tariff and shift, the parts of a sheet, the rows of each
+-- part, the sheet of a bill, a sheet as a text, and bills as texts and as tables.
 pub mod Booked
+pub mod ShiftSums
 pub mod Sheets
 pub mod SumsRows
 pub mod TermsRows

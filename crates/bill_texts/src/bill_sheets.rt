@@ -4,6 +4,7 @@ ghost use Rattle.std.specs.Prelude.{◌≡◌, IfOk};
 ghost use Rattle.book_model.specs.Words.{bill_shown};
 ghost use Rattle.report_texts.specs.Charges.{IsBill};
 ghost use Rattle.bill_texts.specs.BillSheets as spec;
+ghost use Rattle.bill_texts.specs.ShiftSums.{ShiftsAddUp};
 ghost use Rattle.bill_texts.specs.Sheets.{part_shown, parts_shown, sheet_shown};
 
 use crate::part::{CentreParts, Part, PartName, Sheet};
@@ -113,7 +114,7 @@ fn job_parts(alloc: Global, bill: &Bill) -> Result<(Part, Part), AllocError>
 }
 
 /// What the sums of a centre are made of.
-pub fn centre_parts(alloc: Global, bill: &Bill) -> Result<CentreParts, AllocError>
+fn parts_of(alloc: Global, bill: &Bill) -> Result<CentreParts, AllocError>
     requires { IsBill (bill_shown bill.now) }
     ensures { IfOk result (λ parts. parts_shown parts ≡ spec.centre_parts (bill_shown bill.now)) }
 {
@@ -130,4 +131,14 @@ pub fn centre_parts(alloc: Global, bill: &Bill) -> Result<CentreParts, AllocErro
         late,
         reversed,
     })
+}
+
+/// What the sums of a centre are made of. Work by tariff and shift adds up to work by day and shift.
+pub fn centre_parts(alloc: Global, bill: &Bill) -> Result<CentreParts, AllocError>
+    requires { IsBill (bill_shown bill.now) }
+    ensures parts { IfOk result (λ parts.
+        parts_shown parts ≡ spec.centre_parts (bill_shown bill.now)) }
+    ensures add_up { ShiftsAddUp }
+{
+    parts_of(alloc, bill)
 }

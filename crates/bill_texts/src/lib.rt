@@ -9,6 +9,7 @@ mod column;
 mod part;
 mod record_rows;
 mod sheet_texts;
+mod shift_sums;
 mod sums_rows;
 mod terms_rows;
 mod work_rows;

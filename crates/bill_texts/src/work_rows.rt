@@ -1,7 +1,6 @@
 //! The rows of work: what steps or jobs cost, by day and shift, and by tariff and shift.
 
-ghost use Rattle.std.specs.Prelude.{◌≡◌, ◌∷◌, ◌++◌, [], All, IfOk, OnOk, cond, filter};
-ghost use Rattle.std.specs.Prelude.{if◌then◌else◌};
+ghost use Rattle.std.specs.Prelude.{◌≡◌, ◌∷◌, ◌++◌, [], All, IfOk, if◌then◌else◌};
 ghost use Rattle.std.specs.Fmt.{decimal};
 ghost use Rattle.book_model.specs.Words.{AreRows, IsDay};
 ghost use Rattle.report_texts.specs.Columns.{seconds_text};
@@ -9,13 +8,14 @@ ghost use Rattle.bill_texts.specs.Sheets.{part_shown};
 ghost use Rattle.bill_texts.specs.WorkRows as spec;
 
 use crate::part::{Layout, Part, PartName};
+use crate::shift_sums::by_tariff;
 use book_model::{BilledShift, BilledTariff, ChargeRow};
 use report_texts::{add_amount, add_day, add_number, add_seconds, row_sums};
 use smf_text::Name;
 use std::alloc::{AllocError, Global};
 use text_drafts::RowDraft;
 
-/// Work of a day, or of the tariff that begins on it, in one shift.
+/// Work of a day, or of the tariff that begins on it, in one shift, with the shift's percent.
 #[derive(Clone, Copy)]
 pub(crate) struct WorkRow {
     /// Days since 1970-01-01.
@@ -29,25 +29,6 @@ pub(crate) struct WorkRow {
     pub(crate) blocks: u64,
     /// In ten-thousandths of the money unit.
     pub(crate) amount: u64,
-}
-
-/// The first day of a tariff, if it has begun by a day, else what was found before.
-fn begun_by(day: i32, found: i32, tariff: &BilledTariff) -> i32
-    ensures { result ≡ spec.begun_by day found tariff.now }
-{
-    if day < tariff.day { found } else { tariff.day }
-}
-
-/// The first day of the tariff in force on a day.
-#[tactic(auto, unfolding(crate::specs::WorkRows::since))]
-fn since(tariffs: &[BilledTariff], day: i32) -> i32
-    ensures { result ≡ spec.since tariffs.now day }
-{
-    let mut found = day;
-    for tariff in tariffs {
-        found = begun_by(day, found, tariff);
-    }
-    found
 }
 
 /// The entry is the shift's, of a tariff that has begun by a day.
@@ -94,64 +75,6 @@ fn day_row(shifts: &[BilledShift], row: &ChargeRow) -> WorkRow
         blocks: row.blocks,
         amount: row.amount,
     }
-}
-
-/// The row is of the shift, by the tariff in force on its day.
-fn is_of(tariffs: &[BilledTariff], shift: &BilledShift, row: &ChargeRow) -> bool
-    ensures { result ≡ spec.is_of tariffs.now shift.now row.now }
-{
-    since(tariffs, row.day) == shift.day && row.shift == shift.shift
-}
-
-/// A row joins others, if it is one of them.
-fn push_if(rows: &mut Vec<ChargeRow>, row: &ChargeRow, is_one: bool) -> Result<(), AllocError>
-    ensures { OnOk result (rows.new.items ≡ rows.old.items ++ cond is_one (row.now ∷ []) []) }
-{
-    if is_one {
-        rows.push(*row)?;
-    }
-    Ok(())
-}
-
-/// The rows of a shift of a tariff.
-#[tactic(auto, using(std::proofs::lemmas::List::Elements::filter_more))]
-fn own_rows(
-    alloc: Global,
-    tariffs: &[BilledTariff],
-    rows: &[ChargeRow],
-    shift: &BilledShift,
-) -> Result<Vec<ChargeRow>, AllocError>
-    ensures { IfOk result (λ own. own.items ≡ filter (spec.is_of tariffs.now shift.now) rows.now) }
-{
-    let mut own = Vec::new(alloc);
-    for row in rows {
-        push_if(&mut own, row, is_of(tariffs, shift, row))?;
-    }
-    Ok(own)
-}
-
-/// The sums of the rows of a shift of a tariff.
-#[tactic(auto, unfolding(crate::specs::WorkRows::shift_row))]
-fn shift_row(
-    alloc: Global,
-    tariffs: &[BilledTariff],
-    rows: &[ChargeRow],
-    shift: &BilledShift,
-) -> Result<WorkRow, AllocError>
-    requires { AreRows rows.now }
-    ensures { IfOk result (λ row. row ≡ spec.shift_row tariffs.now rows.now shift.now) }
-{
-    let own = own_rows(alloc, tariffs, rows, shift)?;
-    let (count, cpu, blocks, amount) = row_sums(&own);
-    Ok(WorkRow {
-        day: shift.day,
-        shift: shift.shift,
-        percent: shift.percent,
-        count,
-        cpu,
-        blocks,
-        amount,
-    })
 }
 
 /// Adds CPU time, where it has a price.
@@ -209,69 +132,12 @@ fn day_rows(
     shifts: &[BilledShift],
     rows: &[ChargeRow],
 ) -> Result<Vec<RowDraft>, AllocError>
-    requires { AreRows rows.now }
+    requires { All (λ row. IsDay row.day) rows.now }
     ensures { IfOk result (λ made. made.items ≡ spec.day_rows has_work shifts.now rows.now) }
 {
     let mut made = Vec::new(alloc);
     for row in rows {
         made.push(day_fields(alloc, has_work, shifts, row))?;
-    }
-    Ok(made)
-}
-
-/// The fields of a row join others, if it has work.
-#[tactic(auto, unfolding(crate::specs::WorkRows::worked_fields))]
-fn push_worked(
-    alloc: Global,
-    made: &mut Vec<RowDraft>,
-    has_work: bool,
-    row: &WorkRow,
-) -> Result<(), AllocError>
-    requires { IsDay row.now.day }
-    ensures { OnOk result (made.new.items ≡ made.old.items ++ spec.worked_fields has_work row.now) }
-{
-    if 0 < row.count {
-        made.push(work_fields(alloc, has_work, row))?;
-    }
-    Ok(())
-}
-
-/// The row of a shift joins others, if it has work.
-#[tactic(auto, unfolding(crate::specs::WorkRows::shift_row))]
-fn push_shift(
-    alloc: Global,
-    made: &mut Vec<RowDraft>,
-    has_work: bool,
-    tariffs: &[BilledTariff],
-    rows: &[ChargeRow],
-    shift: &BilledShift,
-) -> Result<(), AllocError>
-    requires day { IsDay shift.now.day }
-    requires rows { AreRows rows.now }
-    ensures { OnOk result (made.new.items ≡ made.old.items
-        ++ spec.worked_fields has_work (spec.shift_row tariffs.now rows.now shift.now)) }
-{
-    let row = shift_row(alloc, tariffs, rows, shift)?;
-    push_worked(alloc, made, has_work, &row)
-}
-
-/// The rows of work by tariff and shift.
-#[tactic(auto, using(std::proofs::lemmas::List::flat_map_more))]
-fn shift_rows(
-    alloc: Global,
-    has_work: bool,
-    tariffs: &[BilledTariff],
-    shifts: &[BilledShift],
-    rows: &[ChargeRow],
-) -> Result<Vec<RowDraft>, AllocError>
-    requires days { All (λ shift. IsDay shift.day) shifts.now }
-    requires rows { AreRows rows.now }
-    ensures { IfOk result (λ made.
-        made.items ≡ spec.shift_rows has_work tariffs.now shifts.now rows.now) }
-{
-    let mut made = Vec::new(alloc);
-    for shift in shifts {
-        push_shift(alloc, &mut made, has_work, tariffs, rows, shift)?;
     }
     Ok(made)
 }
@@ -361,12 +227,13 @@ pub(crate) fn by_shift(
     shifts: &[BilledShift],
     rows: &[ChargeRow],
 ) -> Result<Part, AllocError>
-    requires days { All (λ shift. IsDay shift.day) shifts.now }
+    requires tariffs { All (λ tariff. IsDay tariff.day) tariffs.now }
     requires rows { AreRows rows.now }
     ensures { IfOk result (λ part. part_shown part ≡ spec.work_part name has_work rows.now
         (spec.shift_rows has_work tariffs.now shifts.now rows.now)) }
 {
-    let made = shift_rows(alloc, has_work, tariffs, shifts, rows)?;
+    let sums = by_tariff(alloc, tariffs, rows)?;
+    let made = day_rows(alloc, has_work, shifts, &sums)?;
     Ok(Part {
         name,
         layout: work_layout(has_work),

@@ -1,6 +1,6 @@
 use Rattle.std.proofs.Common.{◌≡◌, fold, take}
-use Rattle.bill_texts.specs.WorkRows.{begun_by}
-use Rattle.bill_texts.proofs.work_rows.since.Given as goal
+use Rattle.bill_texts.specs.ShiftSums.{begun_by}
+use Rattle.bill_texts.proofs.shift_sums.since.Given as goal
 
 -- it is that of the last so far that has begun
 abbrev pub invariant-loop-tariff : goal.invariant-loop-tariff
