@@ -1,7 +1,8 @@
--- Each row of a bill checks by the tariff in force on its day, which stands on the bill.
+-- Each row of a bill checks by a tariff that stands on the bill: by day by the tariff in force on its
+-- day, and by shift by the one that begins on its day.
 use Rattle.std.proofs.Common.{◌≡◌, ◌∙◌, ℕ, ℤ, Bool, true, false, true≢false, cond, not, ◌||◌, List, []}
 use Rattle.std.proofs.Common.{◌∷◌, Option, Some, None, Ok, refl, sym, ap, subst, map, filter, is_some}
-use Rattle.std.proofs.Common.{option_map, int_lt, All, Contains, nat_lt, length, get_or, if◌then◌else◌}
+use Rattle.std.proofs.Common.{option_map, All, Contains, nat_lt, length, get_or, if◌then◌else◌}
 use Rattle.std.proofs.Common.{◌==◌, is_eq}
 use Rattle.std.proofs.lemmas.Bool.{eqb-true}
 use Rattle.std.proofs.lemmas.List.Elements.{All-contains_itself}
@@ -17,29 +18,30 @@ use Rattle.tariff_rules.specs.Terms.{RatesOf}
 use Rattle.tariff_rules.specs.declared.shift.Shift.{Shift}
 use Rattle.book_model.proofs.Std.{All-cons, All-filter, All-head, All-map, All-nil}
 use Rattle.book_model.proofs.Std.{All-tail, All-weaker, eq_by_cmp, list_any, list_any_at}
-use Rattle.book_model.proofs.Std.{option_map_or, same_Some, tells_apart, tied_itself}
-use Rattle.book_model.specs.Rulings.{later_of}
+use Rattle.book_model.proofs.Std.{same_Some, tells_apart, tied_itself}
 use Rattle.book_model.specs.declared.bill.BilledTariff.{BilledTariff}
 use Rattle.book_model.specs.declared.detail.Detail.{Detail}
-use Rattle.book_model.specs.declared.row.RowKey.{RowKey}
-use Rattle.book_model.specs.Words.{AcceptedTerms, AreHeld, Book, Naming, Period, Priced, Terms, bill_of}
+use Rattle.book_model.specs.Words.{AreHeld, Book, Naming, Period, Priced, Terms, are_rising, bill_of}
 use Rattle.book_model.specs.Words.{by_key, charged_at, day_of, detail_by, detail_of, details_asked}
-use Rattle.book_model.specs.Words.{details_of, has, has_begun, in_force, is_step, key_of, keys_of, latest}
-use Rattle.book_model.specs.Words.{members, period_of, price_by, row_at, same_bytes, same_key}
-use Rattle.book_model.specs.Words.{subtype_of, tariff_by, terms_in, time_of}
+use Rattle.book_model.specs.Words.{details_of, has, in_force, is_step, key_of, keys_of, members}
+use Rattle.book_model.specs.Words.{period_of, price_by, row_at, rows_of, same_bytes, same_key}
+use Rattle.book_model.specs.Words.{shifts_of, subtype_of, terms_in, time_of, work_rows}
 use Rattle.book_model.proofs.DetailLemmas.{read_once}
 use Rattle.book_model.proofs.GivenLemmas.{contains_given}
 use Rattle.book_model.proofs.Lemmas.{any_tied-members, by_key_exact, by_key_total, same_key_ties}
 use Rattle.table_model.proofs.HeldPeriods.{all_held}
 use Rattle.table_model.specs.Readable.{IsReadable, IsTexted}
+use Rattle.bill_texts.specs.ShiftSums.{by_tariff, dated_since, places_of, since, sums_at}
+use Rattle.book_laws.specs.CheckLaws.{BeginsOn, BilledRowsCheck, ChecksByTariff, IsInForceOn}
+use Rattle.book_laws.specs.CheckLaws.{IsPricedBy, RowsCheckBy}
 use Rattle.book_laws.proofs.BillLemmas.{of_period}
-use Rattle.book_laws.proofs.BilledTariffs.{billed_tariffs_price}
-use Rattle.book_laws.proofs.ReadLemmas.{named}
-use Rattle.book_laws.specs.CheckLaws.{BilledRowsCheck, ChecksByTariff, IsInForceOn, IsPricedBy}
-use Rattle.book_model.specs.declared.row.ChargeRow.{ChargeRow}
-use Rattle.book_model.specs.Words.{rows_of, shifts_of, work_rows}
+use Rattle.book_laws.proofs.BilledTariffs.{IsBilledOn, billed_on}
 use Rattle.book_laws.proofs.CheckLemmas.{rows_check}
+use Rattle.book_laws.proofs.InForceLemmas.{in_force_has, same_effective}
 use Rattle.book_laws.proofs.PercentLemmas.{one_percent_a_shift, shifts_price}
+use Rattle.book_laws.proofs.ReadLemmas.{named}
+use Rattle.book_laws.proofs.ShiftRows.{row_moved, same_places}
+use Rattle.book_laws.proofs.Words.{ChargeRow, RowKey}
 
 -- ---- steps and jobs
 
@@ -100,39 +102,6 @@ unfolding ended_step_of
 job_rates terms bytes usage ended =
     ap (rates_for terms) (eqb-true _ _ (is_second (subtype_of bytes == job_end) _ ended))
 
--- ---- the tariff in force
-
--- what all tariffs have, the latest of them has
-latest_has : (P : AcceptedTerms → Type 0) (tariffs : List AcceptedTerms) (found : AcceptedTerms)
-    → All P tariffs → latest tariffs ≡ Some found → P found
-latest_has P [] found all is = cc is
-latest_has P (one ∷ others) found all is =
-    by (latest others) (λ later some. latest_has P others later (All-tail P one others all) some) is
-  where
-    by : (rest : Option AcceptedTerms) → ((later : AcceptedTerms) → rest ≡ Some later → P later)
-        → Some (option_map_or (later_of one) rest one) ≡ Some found → P found
-    by None others_have is = subst P (same_Some _ _ is) (All-head P one others all)
-    by (Some later) others_have is =
-        subst P (same_Some _ _ is)
-        (elim (int_lt one.terms.effective later.terms.effective) as (λ b. P (cond b later one)) [
-          | true ↦ others_have later refl
-          | false ↦ All-head P one others all
-        ])
-
--- so terms that are in force have what the terms of all tariffs have
-in_force_has : (P : Terms → Type 0) (day : ℤ) (tariffs : List AcceptedTerms) (terms : Terms)
-    → All (λ tariff. P tariff.terms) tariffs → in_force day tariffs ≡ Some terms → P terms
-in_force_has P day tariffs terms all ruled =
-    by (latest (filter (has_begun day) tariffs)) refl ruled
-  where
-    by : (found : Option AcceptedTerms) → latest (filter (has_begun day) tariffs) ≡ found
-        → option_map (λ (tariff : AcceptedTerms). tariff.terms) found ≡ Some terms → P terms
-    by None is ruled = cc ruled
-    by (Some tariff) is ruled =
-        subst P (same_Some _ _ ruled)
-        (latest_has (λ tariff. P tariff.terms) (filter (has_begun day) tariffs) tariff
-        (All-filter (has_begun day) (λ tariff. P tariff.terms) tariffs all) is)
-
 -- terms that a text says
 abbrev IsSaid : Terms → Type 0
 IsSaid terms = (text : List ℕ) × (terms_in text ≡ Ok terms)
@@ -144,7 +113,7 @@ record HasPrice (rates_in : Terms → RatesOf) (book : Book) (tariffs : List Bil
     (detail : Detail) : Type 0 where
   terms : Terms
   rules : in_force detail.priced.day book.rulings.tariffs ≡ Some terms
-  stands : Contains tariffs (tariff_by terms.effective terms)
+  billed : IsBilledOn detail.priced.day tariffs terms
   said : IsSaid terms
   shift : Shift
   its : Contains (shifts_of terms) shift
@@ -212,7 +181,7 @@ module _ (rates_in : Terms → RatesOf) (book : Book) (tariffs : List BilledTari
   row_checks one its details all = record {
     terms = its.terms;
     its = of_its one its;
-    stands = its.stands;
+    stands = its.billed.among;
     percent = its.shift.percent;
     shift = subst
         (λ name. Contains (shifts_of its.terms) (record { name = name; percent = its.shift.percent }))
@@ -243,7 +212,16 @@ module _ (rates_in : Terms → RatesOf) (book : Book) (tariffs : List BilledTari
             found_at key details (All-tail Priceds detail details all) among
       ] refl among
 
-  -- so all rows of priced details check
+  -- so does the row of any place of a detail,
+  checks_at : (details : List Detail) → All Priceds details → (key : RowKey)
+      → list_any (eq_by_cmp by_key key) (map key_of (ps details)) ≡ true
+      → ChecksHere (row_at (ps details) key)
+  checks_at details all key among =
+      let found = found_at key details all among in
+      subst (λ key. ChecksHere (row_at (ps details) key)) found.there
+      (row_checks found.one found.its details all)
+
+  -- and of all places
   all_check : (details : List Detail) → All Priceds details
       → All ChecksHere (rows_of (ps details))
   all_check details all =
@@ -253,10 +231,36 @@ module _ (rates_in : Terms → RatesOf) (book : Book) (tariffs : List BilledTari
       let own : RowKey = get_or keys k key in
       let itself : eq_by_cmp by_key own own ≡ true = ap is_eq (tied_itself by_key_total own) in
       let among = list_any_at (eq_by_cmp by_key own) keys k key within itself in
-      let found = found_at own details all
-      (sym (any_tied-members by_key_total (map key_of (ps details)) own) ∙ among) in
-      subst (λ key. ChecksHere (row_at (ps details) key)) found.there
-      (row_checks found.one found.its details all))
+      checks_at details all own
+      (sym (any_tied-members by_key_total (map key_of (ps details)) own) ∙ among))
+
+-- ---- by tariff
+
+module _ (rates_in : Terms → RatesOf) (book : Book) (tariffs : List BilledTariff)
+    (rising : are_rising book.rulings.tariffs ≡ true) where
+  -- prices of tariffs that begin on one day are by one tariff
+  one_tariff : (one other : Detail) (its : HasPrice rates_in book tariffs one)
+      (others : HasPrice rates_in book tariffs other)
+      → since tariffs other.priced.day ≡ since tariffs one.priced.day → others.terms ≡ its.terms
+  one_tariff one other its others same =
+      same_effective book.rulings.tariffs other.priced.day one.priced.day others.terms its.terms
+      rising others.rules its.rules (sym others.billed.begun ∙ same ∙ its.billed.begun)
+
+  -- so all rows by tariff check
+  shifts_check : (details : List Detail) → All (HasPrice rates_in book tariffs) details
+      → All (ChecksByTariff BeginsOn rates_in tariffs) (by_tariff tariffs (work_rows details))
+  shifts_check details all =
+      let dated : List ChargeRow = map (dated_since tariffs) (work_rows details) in
+      let places : List RowKey = places_of dated in
+      let Here : ChargeRow → Type 0 = ChecksByTariff BeginsOn rates_in tariffs in
+      All-map Here (sums_at dated) places
+      (λ k place within.
+      let own : RowKey = get_or places k place in
+      let itself : eq_by_cmp by_key own own ≡ true = ap is_eq (tied_itself by_key_total own) in
+      let among = list_any_at (eq_by_cmp by_key own) places k place within itself in
+      subst Here (sym (row_moved tariffs details own))
+      (checks_at rates_in book tariffs (since tariffs) BeginsOn (λ detail its. its.billed.begun)
+      one_tariff details all own (same_places tariffs details own ∙ among)))
 
 -- ---- the bill
 
@@ -290,8 +294,7 @@ module _ (naming : Naming) (book : Book) (number : ℕ) (period : Period) (centr
         subst (HasPrice rates_in book tariffs_on) made (record {
           terms = terms;
           rules = ruled;
-          stands = billed_tariffs_price naming book number period centre bytes terms whole is counted
-              ruled;
+          billed = billed_on naming book number period bytes terms whole is counted ruled;
           said = in_force_has IsSaid (day_of bytes) book.rulings.tariffs terms texts ruled;
           shift = shift;
           its = shifts_price terms (day_of bytes) (time_of bytes);
@@ -340,19 +343,23 @@ module _ (naming : Naming) (book : Book) (number : ℕ) (period : Period) (centr
         (Contains (details_of naming book.rulings period)) (details_of naming book.rulings period)
         (All-contains_itself (details_of naming book.rulings period))
 
-    -- the rows of the kind check
-    checks_of : All (ChecksByTariff (IsInForceOn book.rulings) rates_in tariffs_on)
+    -- the rows of the kind check, by day and by shift
+    checks_of : RowsCheckBy rates_in book.rulings tariffs_on
         (work_rows (filter kind (details_asked centre (details_of naming book.rulings period))))
     checks_of =
         let details : List Detail = filter kind
         (details_asked centre (details_of naming book.rulings period)) in
-        all_check rates_in book tariffs_on (λ day. day) (IsInForceOn book.rulings)
-        (λ detail its. its.rules)
-        (λ one other its others same.
-        same_Some _ _
-        (sym others.rules ∙ ap (λ day. in_force day book.rulings.tariffs) same ∙ its.rules))
-        details
-        (of_kind (details_asked centre (details_of naming book.rulings period)) (asked_among centre))
+        let all = of_kind (details_asked centre (details_of naming book.rulings period))
+        (asked_among centre) in
+        record {
+          by_day = all_check rates_in book tariffs_on (λ day. day) (IsInForceOn book.rulings)
+              (λ detail its. its.rules)
+              (λ one other its others same.
+              same_Some _ _
+              (sym others.rules ∙ ap (λ day. in_force day book.rulings.tariffs) same ∙ its.rules))
+              details all;
+          by_shift = shifts_check rates_in book tariffs_on whole.rising details all;
+        }
 
 -- the law
 pub billed_rows_check : BilledRowsCheck

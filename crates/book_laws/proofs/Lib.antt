@@ -45,6 +45,8 @@ pub mod BookedLemmas
 pub mod LinePartLemmas
 pub mod CheckLemmas
 pub mod PercentLemmas
+pub mod InForceLemmas
+pub mod ShiftRows
 pub mod BillChecks
 pub mod TariffTexts
 pub mod PageLemmas

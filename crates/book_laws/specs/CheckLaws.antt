@@ -12,6 +12,7 @@ use Rattle.book_model.specs.declared.row.ChargeRow.{ChargeRow}
 use Rattle.book_model.specs.declared.row.RowKey.{RowKey}
 use Rattle.book_model.specs.Words.{BillSeen, Book, Naming, Period, Rulings, bill_of, charged_at}
 use Rattle.book_model.specs.Words.{in_force, period_of, row_at, shifts_of, tariff_by}
+use Rattle.bill_texts.specs.ShiftSums.{by_tariff}
 use Rattle.table_model.specs.Readable.{IsReadable}
 
 -- what so much work comes to by rates and a percent, in parts of a ten-thousandth
@@ -67,15 +68,23 @@ pub record ChecksByTariff (IsOf : ℤ → Terms → Type 0) (rates_in : Terms �
   pub shift : Contains (shifts_of terms) (record { name = row.shift; percent = percent })
   pub checks : Checks (rates_in terms) percent row
 
--- the tariff is in force on the day
+-- the tariff is in force on the day; and it begins on the day
 abbrev pub IsInForceOn : Rulings → ℤ → Terms → Type 0
 IsInForceOn rulings day terms = in_force day rulings.tariffs ≡ Some terms
 
--- the rows of a bill check: those of steps by the rates of steps, those of jobs by the rates of jobs.
--- One tariff is in force on a day, so none has two prices.
+abbrev pub BeginsOn : ℤ → Terms → Type 0
+BeginsOn day terms = day ≡ terms.effective
+
+-- Rows check, by day and by shift. One tariff is in force on a day, so none has two prices.
+pub record RowsCheckBy (rates_in : Terms → RatesOf) (rulings : Rulings)
+    (tariffs : List BilledTariff) (rows : List ChargeRow) : Type 0 where
+  pub by_day : All (ChecksByTariff (IsInForceOn rulings) rates_in tariffs) rows
+  pub by_shift : All (ChecksByTariff BeginsOn rates_in tariffs) (by_tariff tariffs rows)
+
+-- the rows of a bill check: those of steps by the rates of steps, those of jobs by the rates of jobs
 pub record BillChecks (rulings : Rulings) (bill : BillSeen) : Type 0 where
-  pub steps : All (ChecksByTariff (IsInForceOn rulings) (λ terms. terms.step) bill.tariffs) bill.steps
-  pub jobs : All (ChecksByTariff (IsInForceOn rulings) (λ terms. terms.job) bill.tariffs) bill.jobs
+  pub steps : RowsCheckBy (λ terms. terms.step) rulings bill.tariffs bill.steps
+  pub jobs : RowsCheckBy (λ terms. terms.job) rulings bill.tariffs bill.jobs
 
 -- so it is in books that can be read back
 abbrev pub BilledRowsCheck : Type 0

@@ -23,8 +23,8 @@ pub fn shifts_price()
 {}
 
 /// A row comes to what its sums come to by its prices and its percent, but for half a
-/// ten-thousandth for each record; so does each row of a bill, by the tariff in force on its day,
-/// which stands on the bill.
+/// ten-thousandth for each record; so does each row of a bill, by day and by shift, by a tariff
+/// that stands on the bill.
 pub fn billed_rows_check()
     ensures rows { RowsCheck }
     ensures bills { BilledRowsCheck }
