@@ -5,6 +5,7 @@ ghost use Rattle.std.specs.Option.{ForSome};
 ghost use Rattle.book_model.specs.Words.{IsDay};
 ghost use Rattle.bill_texts.specs.Sheets.{parts_shown, sheet_shown};
 ghost use Rattle.bill_pages.specs.BillPages as spec;
+ghost use Rattle.bill_pages.specs.ShownAlike.{SheetsAreShownAlike};
 
 use crate::bill_head::{
     PageHead, push_bill_name, push_bill_path, push_box_of, push_head, push_held, push_page_start,
@@ -112,7 +113,7 @@ pub fn office_bill_page(
     page.finish()
 }
 
-/// The page of the bill of a centre.
+/// The page of the bill of a centre. Each row of its parts stands there and in the bill's text.
 pub fn centre_bill_page(
     alloc: Global,
     head: &PageHead<'_>,
@@ -121,9 +122,10 @@ pub fn centre_bill_page(
 ) -> Result<String, AllocError>
     requires first { ForSome head.now.first IsDay }
     requires through { ForSome head.now.through IsDay }
-    ensures { IfOk result (λ page. string_bytes page
+    ensures page { IfOk result (λ page. string_bytes page
         ≡ spec.centre_bill_page (spec.head_shown head.now) (sheet_shown sheet.now)
         (parts_shown parts.now)) }
+    ensures alike { SheetsAreShownAlike }
 {
     let mut period = Draft::new(alloc);
     period.push_number(u64::from(head.period));
