@@ -95,6 +95,8 @@ const CSV: Argument = Argument::Flag("csv", Help::Csv);
 
 const DISPUTE_CSV: Argument = Argument::Flag("csv", Help::DisputeCsv);
 
+const HTML: Argument = Argument::Flag("html", Help::Html);
+
 const WAIT: Argument = Argument::NamedOr("wait", Help::Wait, ValueKind::AtMost(MOST_WAIT), "10");
 
 const CENTRE: Argument = Argument::NamedIfGiven("centre", Help::Centre, ValueKind::Text);
@@ -135,7 +137,7 @@ const NUMBER: Argument = Argument::InPlaceOr(
 
 /// The commands in the order of the program's help. The commands of reports have the words that the
 /// rows of `report_rows` give them.
-pub(crate) static KNOWN_COMMANDS: [KnownCommand; 26] = [
+pub(crate) static KNOWN_COMMANDS: [KnownCommand; 25] = [
     KnownCommand {
         name: "trial",
         about: "Prices a dump from standard input in new books, and prints their statement",
@@ -194,12 +196,7 @@ pub(crate) static KNOWN_COMMANDS: [KnownCommand; 26] = [
     KnownCommand {
         name: "bill",
         about: "Prints the bill of a centre for a period, or what each centre owes",
-        words: &[BOOK, PERIOD, CSV, CENTRE, WAIT, EXPLAIN],
-    },
-    KnownCommand {
-        name: "bill-page",
-        about: "Prints the bill of a centre for a period, or of the office, as a page to print",
-        words: &[BOOK, PERIOD, CENTRE, WAIT, EXPLAIN],
+        words: &[BOOK, PERIOD, CSV, HTML, CENTRE, WAIT, EXPLAIN],
     },
     KnownCommand {
         name: "focus",
