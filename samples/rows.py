@@ -617,6 +617,12 @@ class Rows:
                 return ["chargectl: word"]
             return books.of_period(table if "--csv" in given else report, int(period), centre)
 
+        def bill(period, *_):
+            """A bill as a text or a table, or as a page. As both at once it is asked for by wrong words."""
+            if {"--csv", "--html"} <= given.keys():
+                raise NotKnown
+            return of_period(self.bill_page if "--html" in given else books.bill, books.bill_table, period)
+
         def statement(period, *_):
             """A statement, or what it would say by a tariff file. The name of the centre is looked at before the file, and
             the file before the books."""
@@ -670,8 +676,7 @@ class Rows:
                 "audit": lambda: list(Tables(books).audit()),
                 "statement": statement,
                 "details": lambda period, *_: of_period(books.details, books.details_table, period),
-                "bill": lambda period, *_: of_period(books.bill, books.bill_table, period),
-                "bill-page": lambda period, *_: of_period(self.bill_page, self.bill_page, period),
+                "bill": bill,
                 "focus": lambda period: self.of_office("focus", period),
                 "coverage": lambda period, *_: self.of_office("coverage-table" if "--csv" in given else "coverage", period),
                 "page": self.page,
