@@ -7,7 +7,6 @@ ghost use Rattle.tariff_rules.specs.Letterhead as spec;
 ghost use Rattle.tariff_rules.specs.Limits.{most_decimals};
 
 use crate::document::member_at;
-use crate::tariff::document_in;
 use std::alloc::{AllocError, Global};
 use toml::Table;
 
@@ -105,7 +104,7 @@ impl Letterhead {
     }
 
     /// The letterhead of a document.
-    fn of_document(alloc: Global, document: &Table) -> Result<Letterhead, AllocError>
+    pub(crate) fn of_document(alloc: Global, document: &Table) -> Result<Letterhead, AllocError>
         ensures { IfOk result (λ letterhead.
             spec.letterhead_shown letterhead ≡ spec.letterhead_of (table_view document.now)) }
     {
@@ -114,17 +113,5 @@ impl Letterhead {
             currency: letters_at(alloc, document, CURRENCY)?,
             decimals: decimals_at(document),
         })
-    }
-
-    /// The letterhead of a tariff file. A text that is no document has neither part; nothing but
-    /// want of memory fails.
-    pub fn parse(alloc: Global, text: &str) -> Result<Letterhead, AllocError>
-        ensures { IfOk result (λ letterhead.
-            spec.letterhead_shown letterhead ≡ spec.letterhead_in text.now) }
-    {
-        match document_in(alloc, text)? {
-            Some(document) => Letterhead::of_document(alloc, &document),
-            None => Ok(Letterhead::empty()),
-        }
     }
 }

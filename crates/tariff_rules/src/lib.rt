@@ -5,6 +5,7 @@ mod centre;
 mod clock;
 mod document;
 mod fault;
+mod headed;
 mod key;
 mod letterhead;
 mod prefix;
@@ -17,6 +18,7 @@ mod tariff;
 
 pub use centre::is_unassigned;
 pub use fault::TariffFault;
+pub use headed::HeadedTariff;
 pub use key::Key;
 pub use letterhead::Letterhead;
 pub use priced::{Priced, price};
