@@ -12,7 +12,7 @@ use book_core::{Ledger, LedgerFault, Tariff, is_through};
 use book_lists::{ListedTariff, Step, TariffCursor, fold};
 use book_model::{BilledShift, BilledTariff};
 use std::alloc::{AllocError, Global};
-use tariff_rules::{Letterhead, TariffFault};
+use tariff_rules::{HeadedTariff, Letterhead};
 
 /// The tariffs that are kept of those that were read, their shifts, and the letterhead of the last
 /// of them.
@@ -34,10 +34,10 @@ fn has_begun_after(before: Option<i32>, day: i32) -> bool
 }
 
 impl KeptTariffs {
-    ghost use Rattle.std.specs.Prelude.{◌≡◌, ◌++◌, ◌∷◌, [], IfErr, OnOk};
+    ghost use Rattle.std.specs.Prelude.{◌≡◌, ◌++◌, ◌∷◌, [], IfErr, OnOk, option_map};
     ghost use Rattle.std.specs.List.{cons_option};
-    ghost use Rattle.book_model.specs.Words.{IsDay, TariffSeen, billed_shifts, billed_tariff};
-    ghost use Rattle.book_model.specs.Words.{shifts_by, tariff_by};
+    ghost use Rattle.book_model.specs.Std.{option_map_or};
+    ghost use Rattle.book_model.specs.Words.{IsDay, TariffSeen, shifts_by, tariff_by};
     ghost use Rattle.book_reports.specs.BillTariffs.{HasKept, Tariffs, kept_of, left_by};
 
     /// None yet.
@@ -81,21 +81,24 @@ impl KeptTariffs {
         Ok(())
     }
 
-    /// What a tariff's text says joins, if it says something.
-    fn push_text(&mut self, alloc: Global, day: i32, text: &str) -> Result<(), LedgerFault>
+    /// What a tariff says joins, if there is one.
+    fn push_found(
+        &mut self,
+        alloc: Global,
+        day: i32,
+        found: &Option<Tariff>,
+    ) -> Result<(), AllocError>
         ensures tariffs { OnOk result (self.new.tariffs.items ≡ self.old.tariffs.items
-            ++ cons_option (billed_tariff (TariffSeen day text.now)) []) }
+            ++ cons_option (option_map (tariff_by day) found.now) []) }
         ensures shifts { OnOk result (self.new.shifts.items
-            ≡ self.old.shifts.items ++ billed_shifts (TariffSeen day text.now)) }
-        ensures memory { IfErr result (λ fault. fault ≡ LedgerFault.Memory) }
+            ≡ self.old.shifts.items ++ option_map_or (shifts_by day) found.now []) }
     {
-        match Tariff::parse(alloc, text) {
-            Ok(tariff) => {
-                self.push_terms(alloc, day, &tariff)?;
+        match found {
+            Some(tariff) => {
+                self.push_terms(alloc, day, tariff)?;
                 Ok(())
             }
-            Err(TariffFault::Memory) => Err(LedgerFault::Memory),
-            Err(_) => Ok(()),
+            None => Ok(()),
         }
     }
 
@@ -106,9 +109,9 @@ impl KeptTariffs {
             → HasKept self.new (read ++ TariffSeen day text.now ∷ [])) }
         ensures memory { IfErr result (λ fault. fault ≡ LedgerFault.Memory) }
     {
-        let letterhead = Letterhead::parse(alloc, text)?;
-        self.push_text(alloc, day, text)?;
-        self.letterhead = letterhead;
+        let headed = HeadedTariff::read(alloc, text)?;
+        self.push_found(alloc, day, &headed.tariff)?;
+        self.letterhead = headed.letterhead;
         Ok(())
     }
 
