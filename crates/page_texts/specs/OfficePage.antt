@@ -1,5 +1,5 @@
 -- The page of the office: its periods, the open one first, and what each centre costs in each.
-use Rattle.std.specs.Prelude.{ℕ, ◌+◌, ◌-◌, ◌%◌, nat_le, ℤ, if◌then◌else◌, Option}
+use Rattle.std.specs.Prelude.{ℕ, ◌+◌, ◌-◌, nat_le, ℤ, if◌then◌else◌, Option}
 use Rattle.std.specs.Prelude.{List, [], ◌∷◌, ◌++◌, codes, flat_map, length, map, take}
 use Rattle.std.specs.Fmt.{decimal}
 use Rattle.std.specs.BTreeSet.{insert_key}
@@ -8,7 +8,7 @@ use Rattle.book_model.specs.Words.{by_bytes, close_of, members, set_of}
 use Rattle.report_texts.specs.Columns.{amount_text}
 use Rattle.report_texts.specs.Periods.{head_text}
 use Rattle.html_text.specs.Escaping.{escaped}
-use Rattle.page_texts.specs.Bars.{bars_from, greatest, most_colours, picture}
+use Rattle.page_texts.specs.Bars.{bars_from, colour_of, greatest, most_colours, picture}
 use Rattle.page_texts.specs.Figures.{FiguresSeen, owed_text}
 use Rattle.page_texts.specs.Frame.{page_start, table_end}
 use Rattle.page_texts.specs.Markup.{bill_link, period_link, table_row}
@@ -62,15 +62,11 @@ cost_row most centres period figures =
 abbrev pub cost_rows : ℕ → List (List ℕ) → List FiguresSeen → List ℕ
 cost_rows most centres periods = last_first (cost_row most centres) 0 periods
 
--- the most centres that the legend names
-abbrev pub most_named : ℕ
-most_named = 12
-
 -- the line of a centre in the legend
 unfoldable pub legend_item : ℕ → List ℕ → List ℕ
 legend_item index centre =
     concat
-    (codes "<li class='c" ∷ decimal (index % most_colours) ∷ codes "'>" ∷ escaped centre
+    (codes "<li class='c" ∷ decimal (colour_of index) ∷ codes "'>" ∷ escaped centre
     ∷ codes "</li>\n" ∷ [])
 
 -- the lines of centres, of which the first has that index
@@ -79,17 +75,17 @@ legend_from index [] = []
 legend_from index (centre ∷ centres) =
     legend_item index centre ++ legend_from (index + 1) centres
 
--- how many of so many it does not name, where there are such
+-- how many of so many share the last colour, where there are such: these it does not name
 unfoldable pub legend_rest : ℕ → List ℕ
 legend_rest count =
-    if nat_le count most_named then []
+    if nat_le count most_colours then []
     else concat
-    (codes "<li class='more'>and " ∷ decimal (count - most_named) ∷ codes " more</li>\n" ∷ [])
+    (codes "<li class='c8'>and " ∷ decimal (count - most_colours) ∷ codes " more</li>\n" ∷ [])
 
 -- which colour is whose
 unfoldable pub legend : List (List ℕ) → List ℕ
 legend centres =
-    codes "<ul>\n" ++ legend_from 0 (take most_named centres) ++ legend_rest (length centres)
+    codes "<ul>\n" ++ legend_from 0 (take most_colours centres) ++ legend_rest (length centres)
     ++ codes "</ul>\n"
 
 -- what stands above the rows of periods

@@ -18,8 +18,15 @@ const PICTURE_WIDTH: u64 = 10_000;
 pub(crate) const PICTURE_START: &str =
     "<svg viewBox='0 0 10000 1' preserveAspectRatio='none' role='img' aria-label='";
 
-/// How many colours there are.
+/// How many centres have a colour of their own.
 pub(crate) const COLOURS: usize = 8;
+
+/// The colour of the centre of an index: those after them share one, which is grey.
+pub(crate) fn colour_of(index: usize) -> usize
+    ensures { result ≡ spec.colour_of index }
+{
+    if index < COLOURS { index } else { COLOURS }
+}
 
 /// How long an amount is where the greatest has the whole width.
 #[tactic(auto, unfolding(crate::specs::Bars::bar_length))]
@@ -97,7 +104,7 @@ fn push_centre_bar(out: &mut Draft, index: usize, start: u64, long: u64, centre:
     }
     let mut label = Draft::new(out.alloc());
     push_escaped(&mut label, centre.text());
-    push_bar(out, index % COLOURS, start, long, &label, amount);
+    push_bar(out, colour_of(index), start, long, &label, amount);
 }
 
 /// Appends the bars of centres, one after the other, by what each costs.

@@ -19,7 +19,7 @@ const STYLE: &str = "\
     @media(prefers-color-scheme:dark){:root{--ink:#e8eaee;--soft:#9aa3b2;--line:#333a46;\
     --page:#15181d;--card:#1c2027;--link:#8ab4f0}}\n\
     .c0{--c:#4c78a8}.c1{--c:#e08a2e}.c2{--c:#54a24b}.c3{--c:#b279a2}.c4{--c:#d8544f}\
-    .c5{--c:#5ea8a3}.c6{--c:#d9b53c}.c7{--c:#9d755d}\n\
+    .c5{--c:#5ea8a3}.c6{--c:#d9b53c}.c7{--c:#9d755d}.c8{--c:#8d95a3}\n\
     *{box-sizing:border-box}\n\
     body{margin:0;background:var(--page);color:var(--ink);\
     font:16px/1.5 system-ui,-apple-system,'Segoe UI',Roboto,sans-serif}\n\
