@@ -17,7 +17,7 @@ mod period_head;
 mod period_pictures;
 mod period_statement;
 
-pub use closes::close_of;
+pub use closes::{close_of, day_after};
 pub use figures::{PeriodFigures, period_figures};
 pub use frame::push_head_start;
 pub use office::office_page;
