@@ -104,8 +104,8 @@ fn centres_of(
     centres.into_iter().collect(alloc)
 }
 
-/// What each centre of rows and lines is charged.
-fn each_charges(
+/// What each centre of rows and lines is charged, in the order of the centres.
+pub fn each_charges(
     alloc: Global,
     steps: &[ChargeRow],
     jobs: &[ChargeRow],

@@ -35,7 +35,9 @@ pub use centres::{
     centre_adjustment_table, centre_adjustments_text, centre_statement_table,
     centre_statement_text, keep_lines, push_centre_title,
 };
-pub use charges::{CentreCharges, Charges, OfficeCharges, bill_charges, office_charges, push_owed};
+pub use charges::{
+    CentreCharges, Charges, OfficeCharges, bill_charges, each_charges, office_charges, push_owed,
+};
 pub use columns::{
     push_amount, push_blanks, push_count, push_left, push_number, push_right_aligned, push_seconds,
     seconds_text,
