@@ -51,11 +51,14 @@ unfoldable pub bar_picture : ℕ → List ℕ → ℕ → List ℕ
 bar_picture long label amount =
     let title = cost_title label amount in picture title (bar 0 0 long title)
 
--- the row of what an amount is charged for: its text, its bar and the amount
+-- what an amount is charged for: its text, its bar and the amount
+abbrev pub bar_cells : ℕ → List ℕ → ℕ → List (List ℕ)
+bar_cells most label amount =
+    label ∷ bar_picture (bar_length most amount) label amount ∷ amount_text amount ∷ []
+
+-- the row of these
 unfoldable pub bar_row : ℕ → List ℕ → ℕ → List ℕ
-bar_row most label amount =
-    table_row
-    (label ∷ bar_picture (bar_length most amount) label amount ∷ amount_text amount ∷ [])
+bar_row most label amount = table_row (bar_cells most label amount)
 
 -- the bar of the centre of an index; one without cost has none
 unfoldable pub centre_bar : ℕ → ℕ → ℕ → List ℕ → ℕ → List ℕ

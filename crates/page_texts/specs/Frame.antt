@@ -32,7 +32,7 @@ style =
     ++ codes "tbody:empty::after{content:'None';color:var(--soft)}\n"
     ++ codes "tr>:last-child{padding-right:0}\n"
     ++ codes ".office tr>:nth-child(n+3),.statement tr>:nth-child(n+4),.adjustments tr>:nth-child(5),"
-    ++ codes ".disputes tr>:nth-child(3),.bars tr>:nth-child(3){text-align:right}\n"
+    ++ codes ".disputes tr>:nth-child(3),.bars tr>:nth-child(n+3){text-align:right}\n"
     ++ codes ".bars td:nth-child(2){width:100%}.disputes tbody th{padding-top:1rem;font-weight:500}\n"
     ++ codes "td a[href^='/record/']{display:inline-block;max-width:13ch;overflow:hidden;"
     ++ codes "text-overflow:ellipsis;vertical-align:bottom}\n"

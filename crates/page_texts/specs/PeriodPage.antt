@@ -18,7 +18,7 @@ abbrev pub period_page_text :
 period_page_text period closes rows lines disputes coverage =
     page_start (period_title period)
     ++ period_head (period_title period) (close_of period closes) (figures_of rows lines)
-    ++ gaps_figure coverage ++ day_part rows ++ centre_part rows
+    ++ gaps_figure coverage ++ day_part rows ++ centre_part rows lines
     ++ statement_part rows ++ adjustment_part lines
     ++ dispute_part (close_of (period - 1) closes) (close_of period closes) disputes
     ++ period_foot period

@@ -1,7 +1,8 @@
 //! Pictures: amounts as bars.
 
-ghost use Rattle.std.specs.Prelude.{◌≡◌, ◌≤◌, ◌++◌};
+ghost use Rattle.std.specs.Prelude.{◌≡◌, ◌≤◌, ◌++◌, flat_map};
 ghost use Rattle.page_texts.specs.Bars as spec;
+ghost use Rattle.page_texts.specs.Markup.{cell};
 
 use crate::amounts::push_money;
 use crate::markup::push_money_cell;
@@ -80,17 +81,26 @@ fn push_bar_picture(out: &mut Draft, long: u64, label: &Draft, amount: u64)
     out.push_str("</svg>");
 }
 
-/// Appends the row of what an amount is charged for: its text, its bar and the amount.
-#[tactic(auto, unfolding(crate::specs::Bars::bar_row, crate::specs::Markup::table_row, crate::specs::Markup::cell))]
-pub(crate) fn push_bar_row(out: &mut Draft, most: u64, label: &Draft, amount: u64)
-    ensures { out.new ≡ out.old ++ spec.bar_row most label.now amount }
+/// Appends the cells of what an amount is charged for: its text, its bar and the amount.
+#[tactic(auto, unfolding(crate::specs::Markup::cell))]
+pub(crate) fn push_bar_cells(out: &mut Draft, most: u64, label: &Draft, amount: u64)
+    ensures { out.new ≡ out.old ++ flat_map cell (spec.bar_cells most label.now amount) }
 {
-    out.push_str("<tr><td>");
+    out.push_str("<td>");
     out.push_draft(label);
     out.push_str("</td><td>");
     push_bar_picture(out, bar_length(most, amount), label, amount);
     out.push_str("</td>");
     push_money_cell(out, amount);
+}
+
+/// Appends the row of these.
+#[tactic(auto, unfolding(crate::specs::Bars::bar_row, crate::specs::Markup::table_row))]
+pub(crate) fn push_bar_row(out: &mut Draft, most: u64, label: &Draft, amount: u64)
+    ensures { out.new ≡ out.old ++ spec.bar_row most label.now amount }
+{
+    out.push_str("<tr>");
+    push_bar_cells(out, most, label, amount);
     out.push_str("</tr>\n");
 }
 

@@ -44,17 +44,6 @@ fn costs_of(alloc: Global, rows: &[ChargeRow]) -> Result<BTreeMap<Name, u64>, Al
     Ok(costs)
 }
 
-/// The same as a list.
-pub(crate) fn centre_costs(
-    alloc: Global,
-    rows: &[ChargeRow],
-) -> Result<Vec<(Name, u64)>, AllocError>
-    requires { AreRows rows.now }
-    ensures { IfOk result (λ costs. costs.items ≡ spec.costs_of rows.now) }
-{
-    costs_of(alloc, rows)?.into_iter().collect(alloc)
-}
-
 /// What each day costs that has rows, in their order.
 fn day_sums(alloc: Global, rows: &[ChargeRow]) -> Result<BTreeMap<i32, u64>, AllocError>
     requires { AreRows rows.now }

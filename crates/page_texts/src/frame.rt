@@ -39,7 +39,7 @@ const STYLE: &str = "\
     tbody:empty::after{content:'None';color:var(--soft)}\n\
     tr>:last-child{padding-right:0}\n\
     .office tr>:nth-child(n+3),.statement tr>:nth-child(n+4),.adjustments tr>:nth-child(5),\
-    .disputes tr>:nth-child(3),.bars tr>:nth-child(3){text-align:right}\n\
+    .disputes tr>:nth-child(3),.bars tr>:nth-child(n+3){text-align:right}\n\
     .bars td:nth-child(2){width:100%}.disputes tbody th{padding-top:1rem;font-weight:500}\n\
     td a[href^='/record/']{display:inline-block;max-width:13ch;overflow:hidden;\
     text-overflow:ellipsis;vertical-align:bottom}\n\

@@ -5,7 +5,7 @@ ghost use Rattle.book_model.specs.Words.{AreDisputes, AreLines, AreRows, IsDay, 
 ghost use Rattle.page_texts.specs.PeriodPage as spec;
 
 use crate::closes::close_of;
-use crate::figures::{centre_costs, day_costs, period_figures};
+use crate::figures::{day_costs, period_figures};
 use crate::frame::push_page_start;
 use crate::period_adjustments::push_adjustment_part;
 use crate::period_disputes::push_dispute_part;
@@ -14,6 +14,7 @@ use crate::period_pictures::{push_centre_table, push_day_table};
 use crate::period_statement::push_statement_part;
 use book_model::{ChargeRow, Dispute, Line};
 use coverage_texts::CoverageRow;
+use report_texts::each_charges;
 use std::alloc::{AllocError, Global};
 use text_drafts::Draft;
 
@@ -43,7 +44,7 @@ pub fn period_page(
     let through = close_of(closes, number);
     let figures = period_figures(alloc, rows, lines)?;
     let days = day_costs(alloc, rows)?;
-    let centres = centre_costs(alloc, rows)?;
+    let centres = each_charges(alloc, rows, &[], lines)?;
     let title = period_title(alloc, period);
     let mut page = Draft::new(alloc);
     push_page_start(&mut page, &title);
