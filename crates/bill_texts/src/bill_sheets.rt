@@ -133,7 +133,8 @@ fn parts_of(alloc: Global, bill: &Bill) -> Result<CentreParts, AllocError>
     })
 }
 
-/// What the sums of a centre are made of. Work by tariff and shift adds up to work by day and shift.
+/// What the sums of a centre are made of. Work by tariff and shift adds up to work by day and
+/// shift.
 pub fn centre_parts(alloc: Global, bill: &Bill) -> Result<CentreParts, AllocError>
     requires { IsBill (bill_shown bill.now) }
     ensures parts { IfOk result (λ parts.

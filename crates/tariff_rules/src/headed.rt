@@ -1,5 +1,5 @@
-//! A tariff file as a bill takes it: its tariff, and what it says of the office. Its document is read
-//! once for both.
+//! A tariff file as a bill takes it: its tariff, and what it says of the office. Its document is
+//! read once for both.
 
 ghost use Rattle.std.specs.Prelude.{◌≡◌, IfOk};
 ghost use Rattle.toml.specs.View.{table_view};
