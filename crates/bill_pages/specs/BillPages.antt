@@ -8,6 +8,7 @@ use Rattle.book_model.specs.Words.{LetterheadSeen, day_text_of, letterhead_shown
 use Rattle.report_texts.specs.Columns.{amount_text}
 use Rattle.html_text.specs.Escaping.{escaped}
 use Rattle.page_texts.specs.Frame.{head_start}
+use Rattle.page_texts.specs.Letterheads.{office_name}
 use Rattle.bill_texts.specs.Sheets.{Fields, PartsSeen, SheetSeen, text_at}
 use Rattle.bill_pages.specs.declared.bill_head.PageHead.{PageHead}
 use Rattle.bill_pages.specs.Grouped.{grouped}
@@ -57,11 +58,6 @@ page_start name =
     head_start ++ name ++ codes "</title>\n<style>\n" ++ bill_style
     ++ codes "@page{@bottom-left{content:'" ++ name ++ codes "'}}\n</style>\n</head>\n<body>\n<main>\n"
 
--- the office's name, if it says one
-unfoldable pub office_page : Option (List ℕ) → List ℕ
-office_page None = codes "Chargeback"
-office_page (Some office) = escaped office
-
 -- whose bill it is
 unfoldable pub centre_page : Option (List ℕ) → List ℕ
 centre_page None = codes "All centres"
@@ -79,7 +75,8 @@ state_page (Some day) = codes "closed through " ++ day_text_of day
 -- all of these
 unfoldable pub head_page : List ℕ → HeadSeen → List ℕ
 head_page name head =
-    codes "<header>\n<p>" ++ office_page head.letterhead.office ++ codes "</p>\n<p>" ++ name
+    codes "<header>\n<p>" ++ office_name (codes "Chargeback") head.letterhead.office
+    ++ codes "</p>\n<p>" ++ name
     ++ codes "</p>\n</header>\n<h1>" ++ centre_page head.centre ++ codes "</h1>\n<p>Period "
     ++ decimal head.period ++ first_page head.first ++ codes ", " ++ state_page head.through
     ++ codes "</p>\n"

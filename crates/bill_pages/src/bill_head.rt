@@ -17,7 +17,7 @@ use bill_texts::{Part, text_at};
 use book_model::HeldBack;
 use csv::StringRecord;
 use html_text::push_escaped;
-use page_texts::push_head_start;
+use page_texts::{push_head_start, push_office_name};
 use report_texts::push_amount;
 use smf_text::Name;
 use tariff_rules::Letterhead;
@@ -96,18 +96,6 @@ pub(crate) fn push_page_start(out: &mut Draft, name: &Draft)
     out.push_str("'}}\n</style>\n</head>\n<body>\n<main>\n");
 }
 
-/// Appends the office's name, if it says one.
-#[tactic(auto, unfolding(crate::specs::BillPages::office_page))]
-fn push_office(out: &mut Draft, office: &Option<String>)
-    ensures { out.new ≡ out.old
-        ++ spec.office_page (option_map (λ text. string_bytes text) office.now) }
-{
-    match office {
-        None => out.push_str("Chargeback"),
-        Some(office) => push_escaped(out, office.as_str()),
-    }
-}
-
 /// Appends whose bill it is.
 #[tactic(auto, unfolding(crate::specs::BillPages::centre_page))]
 fn push_centre(out: &mut Draft, centre: Option<Name>)
@@ -154,7 +142,7 @@ pub(crate) fn push_head(out: &mut Draft, name: &Draft, head: &PageHead<'_>)
     ensures { out.new ≡ out.old ++ spec.head_page name.now (spec.head_shown head.now) }
 {
     out.push_str("<header>\n<p>");
-    push_office(out, &head.letterhead.office);
+    push_office_name(out, "Chargeback", &head.letterhead.office);
     out.push_str("</p>\n<p>");
     out.push_draft(name);
     out.push_str("</p>\n</header>\n<h1>");

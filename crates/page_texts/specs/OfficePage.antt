@@ -4,13 +4,14 @@ use Rattle.std.specs.Prelude.{List, [], ◌∷◌, ◌++◌, codes, flat_map, le
 use Rattle.std.specs.Fmt.{decimal}
 use Rattle.std.specs.BTreeSet.{insert_key}
 use Rattle.std.specs.List.{concat, fold}
-use Rattle.book_model.specs.Words.{by_bytes, close_of, members, set_of}
+use Rattle.book_model.specs.Words.{LetterheadSeen, by_bytes, close_of, members, set_of}
 use Rattle.report_texts.specs.Columns.{amount_text}
 use Rattle.report_texts.specs.Periods.{head_text}
 use Rattle.html_text.specs.Escaping.{escaped}
 use Rattle.page_texts.specs.Bars.{bars_from, colour_of, greatest, most_colours, picture}
 use Rattle.page_texts.specs.Figures.{FiguresSeen, owed_text}
 use Rattle.page_texts.specs.Frame.{page_start, table_end}
+use Rattle.page_texts.specs.Letterheads.{currency_figure, office_name}
 use Rattle.page_texts.specs.Markup.{bill_link, period_link, table_row}
 
 -- the rows of periods, the last one first; so many come before the first of the list
@@ -88,11 +89,18 @@ legend centres =
     codes "<ul>\n" ++ legend_from 0 (take most_colours centres) ++ legend_rest (length centres)
     ++ codes "</ul>\n"
 
+-- what stands above the tables: the office's name, the currency, and how many disputes are open
+unfoldable pub office_head : LetterheadSeen → ℕ → List ℕ
+office_head letterhead disputes =
+    concat
+    (codes "<header>\n<p>" ∷ office_name (codes "Chargeback") letterhead.office
+    ∷ codes "</p>\n<h1>Office</h1>\n</header>\n<dl>\n" ∷ currency_figure letterhead.currency
+    ∷ codes "<div><dt>Disputes</dt><dd>" ∷ decimal disputes ∷ codes "</dd></div>\n</dl>\n" ∷ [])
+
 -- what stands above the rows of periods
-unfoldable pub office_head : List ℕ
-office_head =
-    codes "<header>\n<p>Chargeback</p>\n<h1>Office</h1>\n</header>\n"
-    ++ codes "<div class='scroll'>\n<table class='office'>\n<caption>Periods</caption>\n<thead><tr>"
+unfoldable pub periods_head : List ℕ
+periods_head =
+    codes "<div class='scroll'>\n<table class='office'>\n<caption>Periods</caption>\n<thead><tr>"
     ++ codes "<th scope='col'>Period</th><th scope='col'>State</th><th scope='col'>Records</th>"
     ++ codes "<th scope='col'>Charged</th><th scope='col'>Added</th><th scope='col'>Reversed</th>"
     ++ codes "<th scope='col'>Owed</th></tr></thead>\n<tbody>"
@@ -121,10 +129,11 @@ cost_table centres periods =
 unfoldable pub cost_part : List FiguresSeen → List ℕ
 cost_part periods = cost_table (all_centres periods) periods
 
--- the page, by the days that periods were closed through and by the figures of all periods from 1
--- on, the open one last
-abbrev pub office_page_text : List ℤ → List FiguresSeen → List ℕ
-office_page_text closes periods =
+-- the page, by what the last tariff of the open period says of the office, how many disputes are open,
+-- the days that periods were closed through, and the figures of all periods from 1 on, the open one last
+abbrev pub office_page_text : LetterheadSeen → ℕ → List ℤ → List FiguresSeen → List ℕ
+office_page_text letterhead disputes closes periods =
     page_start (codes "Office")
-    ++ office_head ++ office_rows closes periods ++ table_end
+    ++ office_head letterhead disputes
+    ++ periods_head ++ office_rows closes periods ++ table_end
     ++ cost_part periods ++ office_foot
