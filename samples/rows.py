@@ -341,12 +341,14 @@ class Rows:
         return self.books.of_period(getattr(self.books, OF_OFFICE[verb]), int(period))
 
     def page_asks(self, period):
-        """How often a page asks the books. That of the office: for the days of the closes, and for the rows and the lines of
-        each period. That of a period: for its coverage, which is all where there is no such period, for its rows and its
-        lines, for the disputes, and for the days of the closes."""
+        """How often a page asks the books. That of the office: for the days of the closes, for the rows and the lines of each
+        period, for the tariffs, and for each dispute and the end. That of a period: for its coverage, which is all where there
+        is no such period, for its rows and its lines, for the disputes, for the days of the closes, and for the tariffs. For
+        tariffs it asks for the days, for each of them, and for the end."""
+        books, tariffs = self.books, 2 + len(self.books.tariffs)
         if period is None:
-            return 1 + 2 * self.books.open
-        return self.office_asks("coverage", period) + 4 * (0 < period <= self.books.open)
+            return 1 + 2 * books.open + tariffs + len(books.disputed()) + 1
+        return self.office_asks("coverage", period) + (4 + tariffs) * (0 < period <= books.open)
 
     def page(self, period=None):
         """The page of a period, or of the office, or why there is none."""
