@@ -1,5 +1,5 @@
 -- Each row of what a bill's sums are made of stands in the bill's text.
-use Rattle.std.proofs.Common.{◌≡◌, Contains, List, ℕ, ◌++◌, flat_map, length, nat_lt, refl, subst, sym}
+use Rattle.std.proofs.Common.{◌≡◌, Contains, ◌++◌, flat_map, length, nat_lt, refl, subst, sym}
 use Rattle.bill_texts.specs.SheetTexts.{heading, part_lines, part_text, parts_text, row_text, title}
 use Rattle.bill_texts.specs.SheetTexts.{total_text}
 use Rattle.bill_texts.specs.Sheets.{Fields, PartSeen, PartsSeen}
