@@ -1,5 +1,5 @@
 -- Elements by their keys: keys that join others one after another, and what is summed at each key.
-use Rattle.std.proofs.Common.{◌≡◌, ◌∙◌, ℕ, ◌+◌, List, [], ◌∷◌, ◌++◌, refl, sym, ap, Bool, true, cond}
+use Rattle.std.proofs.Common.{◌≡◌, ◌∙◌, ℕ, List, [], ◌∷◌, ◌++◌, refl, sym, ap, Bool, true, cond}
 use Rattle.std.proofs.Common.{◌||◌, Ordering, append-nil, append_assoc, arith, filter, fold, length}
 use Rattle.std.proofs.Common.{map, sum_by}
 use Rattle.std.proofs.Math.Bool.{or-true}

@@ -131,36 +131,40 @@ module _ (centre : List ℕ) (through : Option ℤ) where
       → is_through through found.terms.effective ≡ true
       → has_centre centre found.terms.centres ≡ true → Named (tariffs_seen tariffs)
   force_named p [] found said is begun has = cc
-  force_named p (tariff ∷ tariffs) found said is begun has = by (p tariff) is
+  force_named p (tariff ∷ tariffs) found said is begun has =
+      by (p tariff)
+      (λ later. more_named tariff tariffs
+      (force_named p tariffs found (All-tail SaysTerms tariff tariffs said) later begun has)) is
     where
-      rest : latest (filter p tariffs) ≡ Some found → Named (tariffs_seen (tariff ∷ tariffs))
-      rest is =
-          more_named tariff tariffs
-          (force_named p tariffs found (All-tail SaysTerms tariff tariffs said) is begun has)
-
       this : tariff ≡ found → Named (tariffs_seen (tariff ∷ tariffs))
       this same =
           this_named tariff tariffs (All-head SaysTerms tariff tariffs said)
           (subst (λ (one : AcceptedTerms). is_through through one.terms.effective ≡ true) (sym same) begun)
           (subst (λ (one : AcceptedTerms). has_centre centre one.terms.centres ≡ true) (sym same) has)
 
-      later_is : (b : Bool) (other : AcceptedTerms) → latest (filter p tariffs) ≡ Some other
-          → cond b other tariff ≡ found → Named (tariffs_seen (tariff ∷ tariffs))
-      later_is true other at same = rest (at ∙ ap Some same)
-      later_is false other at same = this same
+      later_is : (b : Bool) (other : AcceptedTerms)
+          → (latest (filter p tariffs) ≡ Some found → Named (tariffs_seen (tariff ∷ tariffs)))
+          → latest (filter p tariffs) ≡ Some other → cond b other tariff ≡ found
+          → Named (tariffs_seen (tariff ∷ tariffs))
+      later_is true other rest at same = rest (at ∙ ap Some same)
+      later_is false other rest at same = this same
 
-      either : (other : Option AcceptedTerms) → latest (filter p tariffs) ≡ other
+      either : (other : Option AcceptedTerms)
+          → (latest (filter p tariffs) ≡ Some found → Named (tariffs_seen (tariff ∷ tariffs)))
+          → latest (filter p tariffs) ≡ other
           → Some (option_map_or (later_of tariff) other tariff) ≡ Some found
           → Named (tariffs_seen (tariff ∷ tariffs))
-      either None at is = this (same_Some _ _ is)
-      either (Some other) at is =
-          later_is (int_lt tariff.terms.effective other.terms.effective) other at (same_Some _ _ is)
+      either None rest at is = this (same_Some _ _ is)
+      either (Some other) rest at is =
+          later_is (int_lt tariff.terms.effective other.terms.effective) other rest at
+          (same_Some _ _ is)
 
       by : (b : Bool)
+          → (latest (filter p tariffs) ≡ Some found → Named (tariffs_seen (tariff ∷ tariffs)))
           → latest (cond b (tariff ∷ filter p tariffs) (filter p tariffs)) ≡ Some found
           → Named (tariffs_seen (tariff ∷ tariffs))
-      by true is = either (latest (filter p tariffs)) refl is
-      by false is = rest is
+      by true rest is = either (latest (filter p tariffs)) rest refl is
+      by false rest is = rest is
 
 -- of two tests one holds, or by the second another
 or_then : (a b c : Bool) → (a || b) ≡ true → (b ≡ true → c ≡ true) → (a || c) ≡ true
