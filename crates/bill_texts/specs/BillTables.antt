@@ -9,6 +9,7 @@ use Rattle.tariff_rules.specs.Terms.{RatesOf}
 use Rattle.book_model.specs.declared.bill.BilledLine.{BilledLine}
 use Rattle.book_model.specs.declared.bill.BilledShift.{BilledShift}
 use Rattle.book_model.specs.declared.bill.BilledTariff.{BilledTariff}
+use Rattle.book_model.specs.declared.line.Line.{Line}
 use Rattle.book_model.specs.declared.row.ChargeRow.{ChargeRow}
 use Rattle.book_model.specs.Words.{BillSeen, day_text_of, show_text}
 use Rattle.report_texts.specs.AdjustmentLists.{charged_amount, reversed_amount, signed_text}
@@ -46,20 +47,22 @@ work_row period kind has_work shifts row =
     fields_line (decimal period ∷ row_key_fields row
     ++ work_fields kind has_work (percent_on shifts row.day row.shift) row)
 
+-- what a line does, and its amount
+unfoldable pub line_fields : Line → Fields
+line_fields line =
+    word_of line.plus ∷ [] ∷ [] ∷ []
+    ∷ signed_text (charged_amount line) (reversed_amount line) ∷ []
+
 -- the period that a line speaks of, and which record it is of
-abbrev pub record_fields : BilledLine → Fields
+unfoldable pub record_fields : BilledLine → Fields
 record_fields billed =
     number_text billed.period ∷ encode_lower billed.line.name ∷ show_text billed.line.job
     ∷ show_text billed.line.program ∷ show_text billed.line.job_id
     ∷ number_text billed.line.step ∷ []
 
--- a line with its amount
+-- all of these; it has no percent
 unfoldable pub billed_fields : BilledLine → Fields
-billed_fields billed =
-    let line = billed.line in
-    word_of line.plus ∷ [] ∷ [] ∷ []
-    ∷ signed_text (charged_amount line) (reversed_amount line) ∷ record_fields billed
-    ++ [] ∷ []
+billed_fields billed = line_fields billed.line ++ record_fields billed ++ [] ∷ []
 
 unfoldable pub billed_row : ℕ → BilledLine → List ℕ
 billed_row period billed =
@@ -73,11 +76,15 @@ price_row period centre day kind rates =
     ∷ amount_text rates.cpu ∷ amount_text rates.excp
     ∷ [] ∷ [] ∷ [] ∷ [] ∷ [] ∷ [] ∷ [] ∷ [] ∷ [])
 
--- and the percent of one of its shifts
+-- and the percent of one of its shifts, and its line
+unfoldable pub percent_fields : ℕ → Fields
+percent_fields percent =
+    codes "PERCENT" ∷ [] ∷ [] ∷ [] ∷ [] ∷ [] ∷ [] ∷ [] ∷ [] ∷ [] ∷ [] ∷ decimal percent ∷ []
+
 unfoldable pub percent_row : ℕ → List ℕ → BilledShift → List ℕ
 percent_row period centre shift =
-    fields_line (decimal period ∷ day_text_of shift.day ∷ centre ∷ shift.shift ∷ codes "PERCENT"
-    ∷ [] ∷ [] ∷ [] ∷ [] ∷ [] ∷ [] ∷ [] ∷ [] ∷ [] ∷ [] ∷ decimal shift.percent ∷ [])
+    fields_line (decimal period ∷ day_text_of shift.day ∷ centre ∷ shift.shift
+    ∷ percent_fields shift.percent)
 
 -- where it is a shift of the tariff that begins on a day
 unfoldable pub percent_rows : ℕ → List ℕ → ℤ → BilledShift → List ℕ

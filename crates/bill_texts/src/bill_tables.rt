@@ -8,7 +8,7 @@ ghost use Rattle.bill_texts.specs.BillTables as spec;
 
 use crate::booking::push_booked_by_centre;
 use crate::work_rows::{add_blocks, add_cpu, jobs_have_work, percent_on};
-use book_model::{Bill, BilledLine, BilledShift, BilledTariff, ChargeRow};
+use book_model::{Bill, BilledLine, BilledShift, BilledTariff, ChargeRow, Line};
 use report_texts::{
     CentreCharges, Charges, add_amount, add_day, add_key, add_name, add_number, add_number_or_dash,
     add_row, add_shown, add_signed, office_charges, push_owed, word_of,
@@ -118,7 +118,18 @@ fn add_all_work(
     }
 }
 
+/// Adds what a line does, and its amount.
+#[tactic(auto, unfolding(crate::specs::BillTables::line_fields))]
+fn add_side(fields: &mut RowDraft, line: &Line)
+    ensures { fields.new ≡ fields.old ++ spec.line_fields line.now }
+{
+    fields.add_str(word_of(line));
+    add_blanks(fields);
+    add_signed(fields, line);
+}
+
 /// Adds which record a line is of.
+#[tactic(auto, unfolding(crate::specs::BillTables::record_fields))]
 fn add_record(fields: &mut RowDraft, billed: &BilledLine)
     ensures { fields.new ≡ fields.old ++ spec.record_fields billed.now }
 {
@@ -131,14 +142,12 @@ fn add_record(fields: &mut RowDraft, billed: &BilledLine)
     add_number_or_dash(fields, line.step);
 }
 
-/// Adds the amount of a line, the period that it speaks of, and which record it is of.
+/// Adds all of these. A line has no percent.
 #[tactic(auto, unfolding(crate::specs::BillTables::billed_fields))]
 fn add_line(fields: &mut RowDraft, billed: &BilledLine)
     ensures { fields.new ≡ fields.old ++ spec.billed_fields billed.now }
 {
-    fields.add_str(word_of(&billed.line));
-    add_blanks(fields);
-    add_signed(fields, &billed.line);
+    add_side(fields, &billed.line);
     add_record(fields, billed);
     fields.add_str("");
 }
@@ -190,9 +199,22 @@ fn add_prices(table: &mut TableDraft, period: u16, centre: Name, day: i32, kind:
     add_row(table, &fields);
 }
 
+/// Adds a percent. It has nothing else.
+#[tactic(auto, unfolding(crate::specs::BillTables::percent_fields))]
+fn add_percent(fields: &mut RowDraft, percent: u16)
+    ensures { fields.new ≡ fields.old ++ spec.percent_fields percent }
+{
+    fields.add_str("PERCENT");
+    add_blanks(fields);
+    add_blanks(fields);
+    add_blanks(fields);
+    fields.add_str("");
+    add_number(fields, u64::from(percent));
+}
+
 /// Adds the row of a shift's percent.
 #[tactic(auto, unfolding(crate::specs::BillTables::percent_row))]
-fn add_percent(table: &mut TableDraft, period: u16, centre: Name, shift: &BilledShift)
+fn add_percent_row(table: &mut TableDraft, period: u16, centre: Name, shift: &BilledShift)
     requires { IsDay shift.now.day }
     ensures { table.new ≡ table.old ++ spec.percent_row period centre shift.now }
 {
@@ -201,12 +223,7 @@ fn add_percent(table: &mut TableDraft, period: u16, centre: Name, shift: &Billed
     add_day(&mut fields, shift.day);
     fields.add_str(centre.text());
     fields.add_str(shift.shift.text());
-    fields.add_str("PERCENT");
-    add_blanks(&mut fields);
-    add_blanks(&mut fields);
-    add_blanks(&mut fields);
-    fields.add_str("");
-    add_number(&mut fields, u64::from(shift.percent));
+    add_percent(&mut fields, shift.percent);
     add_row(table, &fields);
 }
 
@@ -217,7 +234,7 @@ fn add_percent_of(table: &mut TableDraft, period: u16, centre: Name, day: i32, s
     ensures { table.new ≡ table.old ++ spec.percent_rows period centre day shift.now }
 {
     if shift.day == day {
-        add_percent(table, period, centre, shift);
+        add_percent_row(table, period, centre, shift);
     }
 }
 

@@ -129,6 +129,14 @@ fn push_title(out: &mut Draft, name: PartName)
     }
 }
 
+/// Appends two texts.
+fn push_both(out: &mut Draft, first: &str, second: &str)
+    ensures { out.new ≡ out.old ++ (first.now ++ second.now) }
+{
+    out.push_str(first);
+    out.push_str(second);
+}
+
 /// Appends the words above the columns of work.
 fn push_work_heading(out: &mut Draft, work: &str)
     ensures { out.new ≡ out.old ++ spec.work_heading work.now }
@@ -144,21 +152,24 @@ fn push_heading(out: &mut Draft, layout: Layout)
     ensures { out.new ≡ out.old ++ spec.heading layout }
 {
     match layout {
-        Layout::Sums => {
-            out.push_str("CENTRE                 CHARGED          LATE      REVERSED");
-            out.push_str("          OWED        BOOKED\n");
-        }
-        Layout::Prices => {
-            out.push_str("TARIFF     OF A                         RECORD             CPU");
-            out.push_str("     1000 BLOCKS\n");
-        }
+        Layout::Sums => push_both(
+            out,
+            "CENTRE                 CHARGED          LATE      REVERSED",
+            "          OWED        BOOKED\n",
+        ),
+        Layout::Prices => push_both(
+            out,
+            "TARIFF     OF A                         RECORD             CPU",
+            "     1000 BLOCKS\n",
+        ),
         Layout::Percents => out.push_str("TARIFF     SHIFT            PERCENT\n"),
         Layout::Work => push_work_heading(out, "             CPU          BLOCKS"),
         Layout::Counts => push_work_heading(out, "                                "),
-        Layout::Records => {
-            out.push_str("DAY        SHIFT            JOB      PROGRAM  JOBID     STEP PERIOD");
-            out.push_str("                           AMOUNT\n");
-        }
+        Layout::Records => push_both(
+            out,
+            "DAY        SHIFT            JOB      PROGRAM  JOBID     STEP PERIOD",
+            "                           AMOUNT\n",
+        ),
     }
 }
 

@@ -2,7 +2,8 @@
 //! that what stands together has one price and one percent.
 
 ghost use Rattle.std.specs.Prelude.{◌≡◌, ◌∷◌, ◌++◌, [], All, IfOk, OnOk, cond, map};
-ghost use Rattle.book_model.specs.Words.{AreRows, IsDay, row_key, same_key};
+ghost use Rattle.std.specs.BTreeSet.{insert_key};
+ghost use Rattle.book_model.specs.Words.{AreRows, IsDay, by_key, row_key, same_key};
 ghost use Rattle.bill_texts.specs.ShiftSums as spec;
 
 use book_model::{BilledTariff, ChargeRow, RowKey};
@@ -70,13 +71,21 @@ fn place_of(row: &ChargeRow) -> RowKey
     }
 }
 
+/// The place of a row joins others.
+fn add_place(places: &mut BTreeSet<RowKey>, row: &ChargeRow) -> Result<(), AllocError>
+    ensures { OnOk result (places.new.keys ≡ insert_key by_key places.old.keys (row_key row.now)) }
+{
+    places.insert(place_of(row))?;
+    Ok(())
+}
+
 /// The places of some rows, each once and in order.
 fn places_of(alloc: Global, rows: &[ChargeRow]) -> Result<Vec<RowKey>, AllocError>
     ensures { IfOk result (λ places. places.items ≡ spec.places_of rows.now) }
 {
     let mut places = BTreeSet::new(alloc);
     for row in rows {
-        places.insert(place_of(row))?;
+        add_place(&mut places, row)?;
     }
     places.into_iter().collect(alloc)
 }
