@@ -4,17 +4,13 @@ use Rattle.bill_pages.proofs.grouped.whole_length.Goals as goal
 
 pub returns-then-not-is_whole : goal.returns-then-not-is_whole
 returns-then-not-is_whole c =
-    let byte = c.index-text-before in
-    counted_all c.args.text.now c.loop-before.before byte.result c.loop-before-test.true
-    c.loop-before.invariant
-    (rw (← byte.is) (sym c.is_whole.ensures ∙ c.if-not-is_whole.true))
+    counted_all c.args.text.now c.loop-before.before 0 c.loop-before-test.true
+    c.loop-before.invariant (sym c.is_whole.ensures ∙ c.if-not-is_whole.true)
 
 pub loop-before-preserved : goal.loop-before-preserved
 loop-before-preserved c =
-    let byte = c.index-text-before in
-    counted_more c.args.text.now c.loop-before.before byte.result c.loop-before-test.true
-    c.loop-before.invariant
-    (rw (← byte.is) (sym c.is_whole.ensures ∙ c.if-not-is_whole.false))
+    counted_more c.args.text.now c.loop-before.before 0 c.loop-before-test.true
+    c.loop-before.invariant (sym c.is_whole.ensures ∙ c.if-not-is_whole.false)
 
 pub returns : goal.returns
 returns c =
