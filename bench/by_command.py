@@ -298,6 +298,7 @@ class Commands:
                 ("bill", "bill", "2"), ("bill", "bill-csv", "1", "--csv"),
                 ("bill", "centre-bill", "1", "--centre", "LEDGER"),
                 ("bill", "centre-bill-csv", "2", "--csv", "--centre", "LEDGER"),
+                ("bill", "bill-page", "1", "--html", "--centre", "LEDGER"), ("bill", "bill-page", "2", "--centre", "LEDGER", "--html"),
                 ("focus", "focus", "1"), ("focus", "focus", "2"), ("coverage", "coverage", "1"),
                 ("coverage", "coverage-csv", "2", "--csv"), ("page", "page", "1"), ("page", "page", "2"),
                 ("adjustments", "adjustments", "2"),

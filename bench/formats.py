@@ -196,7 +196,7 @@ FIELD = re.compile(rb"([^:\r\n]+):([^\r\n]*)\r?\n")
 PATH = re.compile(rb"/(?:(?P<office>)"
                   rb"|(?P<undivided>period|focus|coverage|coverage-csv)/(?P<number>[1-9][0-9]{0,3})"
                   rb"|(?P<whole>periods|disputes|disputes-csv|rulings)"
-                  rb"|(?:(?P<report>(?:statement|adjustments)(?:-csv)?)"
+                  rb"|(?:(?P<report>(?:statement|adjustments|bill)(?:-csv)?)"
                   rb"|(?P<tried>what-if(?:-csv)?))"
                   rb"/(?P<period>[1-9][0-9]{0,3})(?:/(?P<centre>[A-Z0-9-]{1,16}))?"
                   rb"|(?P<dump>import)(?P<blocks>-bdw)?"
@@ -214,6 +214,9 @@ PHRASES = {200: "OK", 400: "Bad Request", 403: "Forbidden", 404: "Not Found",
 Asked = collections.namedtuple("Asked", "status allow report layout body", defaults=(None,) * 4)
 TARIFF = "tariff", 0, None
 TARIFF_DAY = b"2024-01-01"
+
+# The centre of the records that no rule applies to.
+NO_CENTRE = "UNASSIGNED"
 
 # A record that all books here hold, one of the two of January that contradict each other.
 HELD_RECORD = b"3c624f4eaf77558d6d39e098bf4e625a2a494aac158483dc62a837330bbbafe9"
@@ -292,13 +295,16 @@ def asked(request, last_period):
         return Asked(200, report=("office-page", 0, None))
     if path["undivided"] == b"period":
         return asked_of(path, b"page", last_period)
+    if path["report"] == b"bill":
+        return asked_of(path, b"bill-page", last_period)
     return asked_of(path, path["whole"] or path["report"] or path["undivided"], last_period)
 
 
 def asked_of(path, name, last_period, body=None):
-    """The report that a path names, or 404 where it names a period that is not there."""
+    """The report that a path names, or 404 where it names a period or a centre that is not there: the tariff of the books has
+    a rule for none. What another tariff would make of a centre may be asked of any."""
     period, centre = int(path["period"] or path["number"] or 0), path["centre"] and path["centre"].decode()
-    found = period <= last_period
+    found = period <= last_period and (body is not None or centre in (None, NO_CENTRE))
     report = (name.decode(), period, centre) if found else None
     return Asked(200 if found else 404, report=report, body=body)
 
@@ -441,20 +447,23 @@ def undivided_form(name, period):
 UNDIVIDED = "focus", "coverage", "coverage-csv"
 
 
-def html(title, one):
+def html(title, one, more=""):
     """The form of a page: a style, and below it tags that are known, no attribute of which can hold a script or lead away from
-    here, and texts of such bytes, of which none is markup."""
-    text = r"(?:%s|&(?:amp|lt|gt|quot|#39);)" % one
-    tag = (r"<(?:/?(?:header|p|h1|div|table|caption|thead|tbody|tfoot|tr|th|td|dl|dt|dd|ul|li|nav|svg|rect|title|a)"
+    here, and texts of such bytes, of which none is markup. Some pages have more tags."""
+    text = r"(?:%s|&(?:amp|lt|gt|quot|#39|#160|#215|#247);)" % one
+    tags = "header|p|h1|div|table|caption|thead|tbody|tfoot|tr|th|td|dl|dt|dd|ul|li|nav|svg|rect|title|a" + more
+    tag = (r"<(?:/?(?:" + tags + r")"
            r"(?: (?:class|scope|colspan|viewBox|preserveAspectRatio|role|aria-label|x|width|height)='%s*'"
-           r"| href='/(?:[a-z-]+(?:/(?:[0-9]+|[0-9a-f]{64}))?)?')*)>") % text
+           r"| href='/(?:[a-z-]+(?:/(?:[0-9]+(?:/[A-Z0-9-]{1,16})?|[0-9a-f]{64}))?)?')*)>") % text
     return (r"<!DOCTYPE html>\n<html lang='en'>\n<head>\n<meta charset='us-ascii'>\n<meta name='viewport' [^<>\n]*>\n"
             r"<meta http-equiv='Content-Security-Policy' content=\"default-src 'none'; style-src 'unsafe-inline'\">\n"
             r"<title>%s</title>\n<style>\n[^<]*</style>\n</head>\n<body>\n<main>\n(?:%s|%s)*</main>\n</body>\n</html>\n"
             % (title, text, tag))
 
 
-PAGES = {"office-page": html("Office", r"[ !#-%(-;=?-~\n]"), "page": html("Period [0-9]+", r"[ !#-%(-;=?-~\n]")}
+ONE = r"[ !#-%(-;=?-~\n]"
+OF_BILL = "(?:Bill|Draft of bill) [0-9]+(?:-%s)?" % NAME
+PAGES = {"office-page": html("Office", ONE), "page": html("Period [0-9]+", ONE), "bill-page": html(OF_BILL, ONE, "|b|small")}
 WHOLE = {"disputes": DISPUTES, "disputes-csv": DISPUTE_TABLE, "periods": PERIODS,
          "record": RECORD, "rulings": RULINGS, **PAGES}
 SOUND = "SOUND\n" + "".join(
@@ -480,33 +489,48 @@ def report_form(name, period=0, centre=None):
         return form(name.upper() + title + " " + OF_PERIOD[period] + TEXTS[name] % (centre or NAME))
     if name in TABLES:
         return form(TABLES[name] % (period or "[0-9]+", centre or NAME))
+    if name == "bill-csv":
+        return form(BILLS["centre-bill-csv" if centre else name])
     return undivided_form(name, period) if name in UNDIVIDED else form(WHOLE[name])
 
 
 # Bills, of the office and of a centre.
-BILL_HEAD = (OF_PERIOD[0] + r"(?:OFFICE [ -~]{1,40}\n)?(?:CURRENCY [ -~]{1,40}\n)?"
-             + r"(?:TARIFF %s STEP CPU %s BLOCKS %s RECORD %s JOB CPU %s BLOCKS %s RECORD %s\n)*"
-             % (DAY, *6 * (AMOUNT,)))
+BOOKED = r"-?[0-9]+(?:\.[0-9]{1,4})?"
+BILL_HEAD = (OF_PERIOD[0] + r"(?:DRAFT|NUMBER) [0-9]+%%s\n(?:FROM %s\n)?" % DAY
+             + r"(?:OFFICE [ -~]{1,40}\n)?(?:CURRENCY [ -~]{1,40}\n)?")
+SUMS_COLUMNS = "%-16s %13s %13s %13s %13s %13s\n" % ("CENTRE", "CHARGED", "LATE", "REVERSED", "OWED", "BOOKED")
+BILLED = r"(?=.{86,}\n)%%s(?: +%s){3} +-?%s +%s\n" % (AMOUNT, AMOUNT, BOOKED)
 HELD_BACK = r"(?:DISPUTES [0-9]+ LEAST %s GREATEST %s\n)?" % (AMOUNT, AMOUNT)
-OFFICE_COLUMNS = "%-16s %21s %21s %21s %21s %21s\n" % (
-    "CENTRE", "STEPS", "JOBS", "LATE", "REVERSED", "OWED")
-BILLED = r"(?=.{126}\n)%%s(?: +%s){4} +-?%s\n" % (AMOUNT, AMOUNT)
-JOB_COLUMNS = ("%-10s %-16s %-16s %8s %19s %18s %21s\n"
-               % ("DAY", "CENTRE", "SHIFT", "COUNT", "", "", "AMOUNT"))
-JOB_ROWS = JOB_COLUMNS + r"(?:%s%s %s +%s +[0-9]+ +%s\n)*%sTOTAL +[0-9]+ +%s\n" % (
-    WIDE, DAY, NAME, NAME, AMOUNT, WIDE, AMOUNT)
-BILLED_LINES = r"(?:(?:PLUS |MINUS) %s %s +%s +-?%s PERIOD [0-9]+ [0-9a-f]{64} %s\n)*TOTAL +-?%s\n" % (
-    DAY, NAME, NAME, AMOUNT, SHOWN, AMOUNT)
-OFFICE_BILL_COLUMNS = "period,centre,steps,jobs,late,reversed,owed"
-BILL_COLUMNS = "period,day,centre,shift,kind,count,cpu,blocks,amount,of_period,name,job"
+WHOLE_LINE = r"(?=.{100}\n)"
+BILL_TERMS = (
+    r"(?:PRICES\nTARIFF     OF A                         RECORD             CPU     1000 BLOCKS\n"
+    + r"(?:(?=.{78}\n)%s (?:STEP|JOB) (?: +%s){3}\n)+" % (DAY, AMOUNT)
+    + r"PERCENTS\nTARIFF     SHIFT            PERCENT\n(?:(?=.{35}\n)%s %s +[0-9]{1,4}\n)+)?" % (DAY, NAME))
+BILL_PARTS = "".join(
+    r"(?:%s %s\n%s%s +SHIFT            PERCENT      COUNT%sAMOUNT\n(?:%s%s %s +[0-9]+ +[0-9]+ +%s%s\n)+"
+    r"%sTOTAL +[0-9]+ +%s%s\n)?" % (
+        kind, by, WHOLE_LINE, first, "(?: +CPU +BLOCKS)? +" if kind == "JOBS" else " +CPU +BLOCKS +", WHOLE_LINE, DAY, NAME, work, AMOUNT,
+        WHOLE_LINE, work, AMOUNT)
+    for by, first in (("BY SHIFT", "TARIFF"), ("BY DAY", "DAY"))
+    for kind, work in (("STEPS", r"[0-9]+\.[0-9]{2} +[0-9]+ +"), ("JOBS", r"(?:[0-9]+\.[0-9]{2} +[0-9]+ +)?")))
+BILL_RECORDS = "".join(
+    r"(?:%s\n%sDAY        SHIFT            JOB      PROGRAM  JOBID     STEP PERIOD +AMOUNT\n" % (word, WHOLE_LINE)
+    + r"(?:%s %s +%s [ 0-9-]+ +[0-9]+ +%s\n  [0-9a-f]{64}\n)+%sTOTAL +%s\n)?" % (DAY, NAME, SHOWN, AMOUNT, WHOLE_LINE, AMOUNT)
+    for word in ("LATE", "REVERSED"))
+OFFICE_BILL_COLUMNS = "period,centre,steps,jobs,late,reversed,owed,booked"
+BILL_COLUMNS = ("period,day,centre,shift,kind,count,cpu,blocks,amount,of_period,name,job,program,jobid,step,"
+                "percent")
 BILLS = {
-    "bill": "BILL " + BILL_HEAD + OFFICE_COLUMNS + "(?:%s)*%s" % (BILLED % NAME, BILLED % "TOTAL") + HELD_BACK,
-    "centre-bill": "BILL CENTRE %s " % NAME + BILL_HEAD + "STEPS\n" + ROWS % NAME + "JOBS\n" + JOB_ROWS
-                   + "ADJUSTMENTS\n" + BILLED_LINES + HELD_BACK + WIDE + r"OWED +-?%s\n" % AMOUNT,
-    "bill-csv": OFFICE_BILL_COLUMNS + r"\n(?:[0-9]+,%s(?:,%s){4},-?%s\n)*" % (NAME, AMOUNT, AMOUNT),
-    "centre-bill-csv": BILL_COLUMNS + r"\n(?:[0-9]+,%s,%s,%s,(?:%s|%s|%s)\n)*" % (
-        DAY, NAME, NAME, r"STEPS,[0-9]+,[0-9]+\.[0-9]{2},[0-9]+,%s,,," % AMOUNT, "JOBS,[0-9]+,,,%s,,," % AMOUNT,
-        "(?:PLUS|MINUS),,,,-?%s,[0-9]+,[0-9a-f]{64},%s" % (AMOUNT, VALUE))}
+    "bill": "BILL " + BILL_HEAD % "" + SUMS_COLUMNS + "(?:%s)*%s" % (BILLED % NAME, BILLED % "TOTAL") + HELD_BACK
+            + BILL_TERMS,
+    "centre-bill": "BILL CENTRE %s " % NAME + BILL_HEAD % ("-" + NAME) + SUMS_COLUMNS + BILLED % NAME + HELD_BACK
+                   + BILL_TERMS + BILL_PARTS + BILL_RECORDS,
+    "bill-csv": OFFICE_BILL_COLUMNS + r"\n(?:[0-9]+,%s(?:,%s){4},-?%s,%s\n)*" % (NAME, AMOUNT, AMOUNT, BOOKED),
+    "centre-bill-csv": BILL_COLUMNS + r"\n(?:[0-9]+,%s,%s,(?:%s)?,(?:%s|%s|%s|%s|%s)\n)*" % (
+        DAY, NAME, NAME, r"STEPS,[0-9]+,[0-9]+\.[0-9]{2},[0-9]+,%s,,,,,,,[0-9]+" % AMOUNT,
+        r"JOBS,[0-9]+,(?:[0-9]+\.[0-9]{2},[0-9]+|,),%s,,,,,,,[0-9]+" % AMOUNT,
+        "(?:PLUS|MINUS),,,,-?%s,[0-9]+,[0-9a-f]{64},%s,%s,%s,(?:[0-9]+|-)," % (AMOUNT, *3 * (VALUE,)),
+        "(?:STEP|JOB)-PRICE,%s,%s,%s,,,,,,,," % (AMOUNT, AMOUNT, AMOUNT), "PERCENT,,,,,,,,,,,[0-9]+")}
 
 # What a ruling would change: figures of the open period, before it and after it.
 FIGURES = ("%16s %21s %21s\n" % ("", "BEFORE", "AFTER")
@@ -547,12 +571,13 @@ OF_DAMAGED = OF_COMMANDS | {
         ("periods", "PERIODS [0-9]+"), ("record", "RECORD [0-9a-f]{64}"), ("rulings", "RULINGS"))}
 # Nor does it make markup then.
 OF_DAMAGED["page"] = form(html("Period [0-9]+", r"[^<>&'\"]"))
+OF_DAMAGED["bill-page"] = form(html(OF_BILL, r"[^<>&'\"]", "|b|small"))
 
 # A line on standard error, by its status: 1, 4, 5, and 3 for any other.
 ERROR = re.compile(
     rb"chargectl: (?:(io)|(unsound|busy|ledger 2|ledger 3|ledger 1[678])|(ledger 1)|exists"
     rb"|frame [1-8]|tariff [1-6](?: [a-z_]+)?|(?:word|ledger 4|ledger 1[23])(?: line [0-9]+)?"
-    rb"|ledger (?:[5-7]|9 [0-9]+|1[01]|19))\n")
+    rb"|ledger (?:[5-7]|9 [0-9]+|1[01]|19|20))\n")
 
 
 # What a command notices, after what it says; and the last line of one that leaves pages in the log of

@@ -16,6 +16,7 @@ import dumps
 from loopback import CHARGECTL, ROOT, SLACK, Server, asked, chargectl, get, post, serving
 
 sys.path.append(str(ROOT / "samples"))
+import bill_pages
 import office
 import pages
 
@@ -90,13 +91,18 @@ def begun(book):
 # ---- Reports, as they have to be
 
 def of_period(report):
-    return lambda model, period: model.of_period(getattr(model, report), int(period))
+    return lambda model, period, *centre: model.of_period(getattr(model, report), int(period), *centre)
+
+
+def bill_page(model, period, *centre):
+    return model.of_period(lambda *place: bill_pages.bill_page(model, *place).splitlines(), int(period), *centre)
 
 
 REPORTS = {
     "statement": of_period("statement"), "statement-csv": of_period("table"), "adjustments": of_period("adjustments"),
     "adjustments-csv": of_period("adjustment_table"), "details": of_period("details"), "focus": of_period("focus"),
-    "coverage": of_period("coverage"), "coverage-csv": of_period("coverage_table"),
+    "coverage": of_period("coverage"), "coverage-csv": of_period("coverage_table"), "bill": bill_page,
+    "bill-csv": of_period("bill_table"),
     "disputes": lambda model: list(model.disputes()), "periods": lambda model: list(model.periods()),
     "rulings": lambda model: list(model.rulings()), "": lambda model: pages.office_page(model).splitlines(),
     "period": lambda model, period: model.of_period(
@@ -107,7 +113,8 @@ def due(model, path):
     """The status and the body of a report of such books."""
     name, *words = path[1:].split("/")
     lines = REPORTS[name](model, *words)
-    return (404, b"404 Not Found\n") if lines == office.refused(office.NO_SUCH_PERIOD) else (200, bytes_of(lines))
+    absent = [office.refused(number) for number in (office.NO_SUCH_PERIOD, office.NO_SUCH_CENTRE)]
+    return (404, b"404 Not Found\n") if lines in absent else (200, bytes_of(lines))
 
 
 # ---- Work beside clients

@@ -192,7 +192,10 @@ REPORTS = [b"/periods", b"/disputes", b"/disputes-csv", b"/rulings", b"/tariff/2
            b"/focus/1", b"/focus/2", b"/coverage/1", b"/coverage/2", b"/coverage-csv/1", b"/coverage-csv/2",
            b"/statement/1", b"/statement/2", b"/statement-csv/1", b"/statement-csv/2",
            b"/adjustments/1", b"/adjustments/2", b"/adjustments-csv/2", b"/statement/1/LEDGER",
-           b"/statement-csv/1/LEDGER", b"/adjustments/2/LEDGER", b"/adjustments-csv/2/LEDGER"]
+           b"/statement-csv/1/LEDGER", b"/adjustments/2/LEDGER", b"/adjustments-csv/2/LEDGER",
+           b"/statement/1/UNASSIGNED", b"/statement-csv/2/UNASSIGNED", b"/adjustments/2/UNASSIGNED",
+           b"/bill/1", b"/bill/2", b"/bill-csv/1", b"/bill-csv/2", b"/bill/1/UNASSIGNED",
+           b"/bill-csv/1/UNASSIGNED", b"/bill/2/LEDGER", b"/bill-csv/2/LEDGER"]
 WHAT_IFS = [b"/what-if/1", b"/what-if/2", b"/what-if/3", b"/what-if-csv/1", b"/what-if/1/LEDGER",
             b"/what-if-csv/2/STORES"]
 PATHS = REPORTS + WHAT_IFS + [b"/import", b"/import-bdw"] * 2
@@ -209,6 +212,7 @@ TARGETS += [b"/statement/3", b"/statement/0", b"/statement/01", b"/statement/999
 TARGETS += [b"/period", b"/period/", b"/period/0", b"/period/01", b"/period/3", b"/period/10000", b"/period/1/",
             b"/period/1/LEDGER", b"/?x", b"//", b"/index.html", b"/favicon.ico"]
 TARGETS += [b"/focus", b"/focus/0", b"/focus/3", b"/focus/1/", b"/focus/1/LEDGER", b"/focus-csv/1", b"/coverage/",
+            b"/bill", b"/bill/", b"/bill/0", b"/bill/3", b"/bill/1/", b"/bill-csv/3/UNASSIGNED", b"/bill-table/1",
             b"/coverage/01", b"/coverage/3", b"/coverage/2/LEDGER", b"/coverage-csv/10000", b"/coverage-table/1"]
 TARGETS += [b"/record/" + b"ab" * 32, b"/record/" + b"zz" * 32, b"/record/" + b"0" * 63, b"/record/",
             b"/record", b"/record/" + HELD_RECORD + b"0", b"/record/" + HELD_RECORD + b"/",
@@ -428,7 +432,7 @@ COMMANDS = ("init tariff import close choose adopt statement adjustments details
             "-V").split()
 WORDS = ("books nothing tariff dump . .. books/ books-wal 0 1 2 3 65535 65536 -1 1e3 0x1 ١ "
          "2024-01-31 2024-02-30 2024-02-29 2024-1-1 --layout --layout=bdw --layout=xyz rdw bdw "
-         "--quiet --quiet=1 --whole --names --near --explain --dry-run --csv --cpu --cpu=100000000 --cpu=100000001 --excp --record "
+         "--quiet --quiet=1 --whole --names --near --explain --dry-run --csv --html --cpu --cpu=100000000 --cpu=100000001 --excp --record "
          "--record=-1 -- - -q --help -h --port --requests --from --tariff "
          "--tariff=tariff --tariff=dump "
          "--centre --centre=LEDGER --wait --wait=0 --wait=3601 frame ledger tariff damaged").split()
@@ -450,7 +454,7 @@ PLACED = {
     "P": ("0", "1", "2", "3", "17", "65535", "65536", "-1", "x"),
     "D": ("2024-01-01", "2024-01-31", "2024-02-29", "2023-02-29", "2099-12-31", "1899-12-31", "2024-1-31", ""),
     "N": (HELD_RECORD.decode(), "0" * 64, "ab" * 32, "AB" * 32, "zz" * 32, "0" * 63, ""),
-    "O": ("--csv", "--tariff=tariff", "--tariff=dump", "--tariff=nothing", "--centre=LEDGER"),
+    "O": ("--csv", "--html", "--tariff=tariff", "--tariff=dump", "--tariff=nothing", "--centre=LEDGER"),
     "K": ("frame", "ledger", "tariff", "damaged", "io", "busy", "exists", "word", "unsound", "log",
           "layout", "far", "torn", "other")}
 

@@ -4,9 +4,10 @@ random histories of imports, closes, choices, tariffs that come late, and, in tw
 Some of the steps run on another system.
 
     bill_laws.py HISTORIES CALLS [SCRIPT]   tries so many histories of so many calls: 400 of 60 take some minutes. With
-                                            SCRIPT it also writes them there as rows, which ask at the end for the bills
-                                            of each period and centre, for cost and usage, and for coverage, for
-                                            tests_books to play
+                                            SCRIPT it also writes them there as rows, which ask after each ruling for the
+                                            bills of each period and centre, and at the end for these as tables and pages,
+                                            for cost and usage, for coverage, and for the office's pages, for tests_books
+                                            to play
 
 After each call: the steps and jobs of a bill are the rows of its centre's statement; what it comes to is that statement's
 total with the centre's adjustments; the centres' bills come to the office's; each record that a period counts has its
@@ -28,8 +29,10 @@ import sys
 
 sys.dont_write_bytecode = True
 
+import bill_pages
 import history
 import office
+import pages
 
 
 class Broken(Exception):
@@ -69,8 +72,39 @@ def try_bill(books, period, centre):
             holds(books.before(named) < one.day <= books.closes[named - 1], "what came late is dated in its period")
 
 
+def totals(rows):
+    """What rows come to."""
+    return [sum(sums[at] for _, sums in rows) for at in range(4)]
+
+
+def try_rows(books, period, centre):
+    """The rows of one centre's bill: each is worked out from what stands on the bill, and those by shift come to those by
+    day."""
+    for is_job, subtype in ((False, b"\0\4"), (True, b"\0\5")):
+        by_shift, by_day = (books.work_rows(period, centre, is_job, by_tariff) for by_tariff in (True, False))
+        holds(totals(by_shift) == totals(by_day), "sums by shift come to those by day")
+        for (day, shift, percent), (count, cpu, blocks, amount) in by_shift + by_day:
+            tariff = books.tariff_on(day)
+            cpu_price, excp_price, record_price = tariff.prices(subtype)
+            parts = (10 * cpu * cpu_price + blocks * excp_price + 1000 * count * record_price) * percent
+            holds(tariff in books.tariffs_in(period) and (shift, percent) in tariff.percents(), "terms stand on the bill")
+            holds(abs(parts - 100000 * amount) <= 50000 * count, "a row checks")
+
+
+def try_booked(books, period, centres):
+    """What the office and its centres book: each the nearest, and the office what they do together."""
+    places = books.booked_decimals(period)
+    unit, owed = 10 ** (4 - places), [office.owed(*books.parts(period, centre)) for centre in centres]
+    units = [office.booked(one, places) for one in owed]
+    holds(all(2 * abs(unit * one - of) <= unit for one, of in zip(units, owed)), "what is booked is the nearest")
+    holds(2 * abs(unit * sum(units) - sum(owed)) <= unit * len(units), "so it is together")
+
+
 def try_period(books, period, centres):
     """The bills of one period."""
+    try_booked(books, period, centres)
+    for centre in centres:
+        try_rows(books, period, centre)
     for centre in centres:
         try_bill(books, period, centre)
     parts = [books.parts(period, centre) for centre in centres]
@@ -177,6 +211,8 @@ class Tried(history.History):
             try_period(books, period, centres)
             try_focus(books, period, centres)
             try_coverage(books, period)
+            holds(all(books.has_centre(period, centre) for centre, _ in books.billed(period)),
+                  "a centre that a period has rows or lines of is there in it")
             if period < books.open:
                 for centre in [None, *centres]:
                     texts = [*books.bill(period, centre), *books.bill_table(period, centre)]
@@ -184,25 +220,35 @@ class Tried(history.History):
                     holds(self.stands.setdefault((period, centre), texts) == texts, "a closed period's bill stays")
         try_disputes(books, self.numbers, centres)
 
-    def ask_bills_of_all(self):
-        """Each bill, as rows ask for it: of each centre, also of those that a period has nothing of."""
+    def bill_page(self, period, centre=None):
+        return bill_pages.bill_page(self.books, period, centre).splitlines()
+
+    def ask_bills_of_all(self, *forms):
+        """Each bill in these forms, as rows ask for it: of each centre, also of those that a period has nothing of."""
+        made = {"bill": self.books.bill, "bill-table": self.books.bill_table, "bill-page": self.bill_page}
         for period in range(1, self.books.open + 1):
             for centre in [None, *self.centres()]:
                 place = " ".join([str(period)] + [centre] * (centre is not None))
-                self.ask("bill " + place, self.books.of_period(self.books.bill, period, centre))
-                self.ask("bill-table " + place, self.books.of_period(self.books.bill_table, period, centre))
+                for form in forms:
+                    self.ask(form + " " + place, self.books.of_period(made[form], period, centre))
 
     def ask_of_all_periods(self):
-        """Each bill, each table of cost and usage, and each coverage."""
-        self.ask_bills_of_all()
+        """Each bill, each table of cost and usage, each coverage, and each page."""
+        self.ask_bills_of_all("bill", "bill-table", "bill-page")
         for period in range(1, self.books.open + 2):
             self.ask_of_office(period)
+        self.ask("office-page", pages.office_page(self.books).splitlines())
+        for period in range(1, self.books.open + 1):
+            self.ask("page %d" % period, pages.period_page(self.books, period).splitlines())
 
     def play_all(self):
         for turn in range(self.calls):
             words = "adopt 2" if turn == self.adopted_at else self.words(turn)
-            self.ask(words, self.answer(words))
+            answer = list(self.answer(words))
+            self.ask(words, answer)
             self.try_all()
+            if answer == ["DONE"]:
+                self.ask_bills_of_all("bill")
         self.ask_of_all_periods()
 
 

@@ -18,8 +18,8 @@ Record = collections.namedtuple(
 ADJUSTMENT_COLUMNS = "period,action,day,centre,shift,amount,name,job"
 STATEMENT_COLUMNS = "period,day,centre,shift,count,cpu,blocks,"
 DETAIL_COLUMNS = "period,day,centre,shift,time,job,program,jobid,step,cpu,blocks,amount,name"
-BILL_COLUMNS = "period,day,centre,shift,kind,count,cpu,blocks,amount,of_period,name,job"
-OFFICE_BILL_COLUMNS = "period,centre,steps,jobs,late,reversed,owed"
+BILL_COLUMNS = "period,day,centre,shift,kind,count,cpu,blocks,amount,of_period,name,job,program,jobid,step,percent"
+OFFICE_BILL_COLUMNS = "period,centre,steps,jobs,late,reversed,owed,booked"
 COVERAGE_COLUMNS = "period,day,system,count,first,last"
 # The columns of FOCUS 1.0 that have something to say of a period, by their public names.
 FOCUS_COLUMNS = (
@@ -36,7 +36,7 @@ RATES = ["%s_%s" % (kind, unit) for kind in ("step", "job") for unit in ("cpu", 
 MEMORY, FULL = 1, 4
 (TARIFF_DATE, TARIFF_EXISTS, _, WRONG_PERIOD, NOT_LATER, NO_SUCH_PERIOD, NO_SUCH_RECORD, NOT_DISPUTED,
  OLD_RULE) = range(6, 15)
-NO_SUCH_TARIFF = 19
+NO_SUCH_TARIFF, NO_SUCH_CENTRE = 19, 20
 # The most that all records of books may cost together.
 MOST_COST = 4000000000000000000
 # The most bytes that a tariff file has.
@@ -217,10 +217,19 @@ class Tariff:
         prefix = "step" if subtype == b"\0\4" else "job"
         return [self.terms["rates"]["%s_%s" % (prefix, unit)] for unit in ("cpu", "excp", "record")]
 
-    def rates(self):
-        """The line of its prices, on a bill."""
-        prices = [decimals(price, 4) for subtype in (b"\0\4", b"\0\5") for price in self.prices(subtype)]
-        return "TARIFF %s STEP CPU %s BLOCKS %s RECORD %s JOB CPU %s BLOCKS %s RECORD %s" % (self.effective, *prices)
+    def prices_of(self, subtype):
+        """What a record, a second of CPU time and 1,000 blocks cost, as a bill shows it."""
+        cpu, excp, record = (decimals(price, 4) for price in self.prices(subtype))
+        return record, cpu, excp
+
+    def percents(self):
+        """Its shifts with their percents, and BASE, each once and by name."""
+        return sorted({("BASE", 100)} | {(shift["name"], shift["percent"]) for shift in self.terms.get("shift", ())})
+
+    def booked_decimals(self):
+        """How many decimals are booked: 0 to 4, or else 2."""
+        said = self.terms.get("decimals")
+        return said if type(said) is int and 0 <= said <= 4 else 2
 
     def letterhead(self, key):
         """Whose bills are made by it, for the key `office`, or of which money, for `currency`: where that is a text of 1 to 40
@@ -261,7 +270,7 @@ class Tariff:
 
 def decimals(number, places):
     digits = str(abs(number)).rjust(places + 1, "0")
-    return ("-" if number < 0 else "") + digits[:-places] + "." + digits[-places:]
+    return ("-" if number < 0 else "") + (digits[:-places] + "." + digits[-places:] if places else digits)
 
 
 def charge_rows(records, centre=None):
@@ -299,19 +308,32 @@ def row_lines(rows):
     yield total_line("TOTAL", rows)
 
 
-def job_lines(rows):
-    """Charge rows of jobs below the names of their columns, and their total: their work is that of their steps, so
-    that it is left out."""
-    yield columns("DAY", "CENTRE", "SHIFT", "COUNT", "", "", "AMOUNT")
-    for place, (count, _, _, amount) in rows:
-        yield columns(*place, count, "", "", decimals(amount, 4))
-    count, amount = (sum(sums[at] for _, sums in rows) for at in (0, 3))
-    yield columns("TOTAL", "", "", count, "", "", decimals(amount, 4))
+def placed(widths, cells):
+    """Cells with a blank between: a negative width has its cell at the left. Blanks at the end of a line are none."""
+    return " ".join(str(cell).ljust(-width) if width < 0 else str(cell).rjust(width)
+                    for width, cell in zip(widths, cells)).rstrip()
 
 
-def office_columns(centre, *amounts):
-    """A line of the office's bill."""
-    return " ".join(["%-16s" % centre] + ["%21s" % amount for amount in amounts])
+def sums_columns(*cells):
+    """A line of sums: a centre, and five amounts."""
+    return placed((-16, 13, 13, 13, 13, 13), cells)
+
+
+def work_columns(*cells):
+    """A line of work, of prices or of percents."""
+    return placed((-10, -16, 7, 10, 15, 15, 21), cells)
+
+
+def record_columns(*cells):
+    """A line of a record that came late or was reversed."""
+    return placed((-10, -16, -8, -8, -8, 5, 6, 32), cells)
+
+
+def booked(amount, places):
+    """So many units of the last of some decimals, the nearest ones: halves go away from zero."""
+    unit = 10 ** (4 - places)
+    units = (2 * abs(amount) + unit) // (2 * unit)
+    return units if amount >= 0 else -units
 
 
 def owed(steps, jobs, late, taken_back):
@@ -693,14 +715,92 @@ class Books:
         return [one for one in begun if not any(one.effective < later.effective <= first for later in begun)]
 
     def bill_head(self, period, centre):
-        """What stands above all else on a bill: whose it is, and the prices of its days."""
+        """What stands above all else on a bill: whose it is, and its first day. A bill of an open period is a draft."""
         tariffs = self.tariffs_in(period)
         yield self.title("BILL", period, centre)
+        yield ("DRAFT %d" if period == self.open else "NUMBER %d") % period + ("" if centre is None else "-" + centre)
+        if period == 1:
+            yield from ("FROM %s" % one.effective for one in tariffs[:1])
+        elif self.before(period) < LAST_DAY:
+            yield "FROM %s" % (self.before(period) + A_DAY)
         for last in tariffs[-1:]:
             shown = ((key, last.letterhead(key)) for key in ("office", "currency"))
             yield from ("%s %s" % (key.upper(), said) for key, said in shown if said)
-        for tariff in tariffs:
-            yield tariff.rates()
+
+    def bill_terms(self, period):
+        """The prices of a bill's days, and the percents of its shifts."""
+        tariffs = self.tariffs_in(period)
+        if tariffs:
+            yield "PRICES"
+            yield placed((-10, -16, 18, 15, 15), ("TARIFF", "OF A", "RECORD", "CPU", "1000 BLOCKS"))
+        for one in tariffs:
+            for word, subtype in (("STEP", b"\0\4"), ("JOB", b"\0\5")):
+                yield placed((-10, -16, 18, 15, 15), (one.effective, word, *one.prices_of(subtype)))
+        if tariffs:
+            yield "PERCENTS"
+            yield work_columns("TARIFF", "SHIFT", "PERCENT")
+        for one in tariffs:
+            yield from (work_columns(one.effective, *shift) for shift in one.percents())
+
+    def booked_decimals(self, period):
+        """How many decimals a bill books: as the last of its tariffs says."""
+        return ([2] + [one.booked_decimals() for one in self.tariffs_in(period)])[-1]
+
+    def sums_line(self, period, word, parts, booked_units=None):
+        """The line of sums of a centre, or of all."""
+        steps, jobs, late, back = parts
+        places = self.booked_decimals(period)
+        units = booked(owed(*parts), places) if booked_units is None else booked_units
+        return sums_columns(word, *(decimals(one, 4) for one in (steps + jobs, late, back, owed(*parts))),
+                            decimals(units, places))
+
+    def tariff_on(self, day):
+        """The tariff in force on a day."""
+        return [one for one in self.tariffs if one.effective <= day][-1]
+
+    def work_rows(self, period, centre, is_job, by_tariff):
+        """What the steps or the jobs of a centre cost, by tariff or by day, and by shift with its percent."""
+        groups = {}
+        for name in self.counted(period):
+            one = self.held[name]
+            if one.centre == centre and (step_of(one) == "-") == is_job:
+                tariff = self.tariff_on(one.day)
+                day = tariff.effective if by_tariff else one.day
+                sums = groups.setdefault((day, one.shift, dict(tariff.percents())[one.shift]), [0, 0, 0, 0])
+                for at, more in enumerate((1, one.cpu, one.blocks, one.amount)):
+                    sums[at] += more
+        return sorted(groups.items())
+
+    def jobs_have_work(self, period):
+        """Some tariff of the bill has a price for the CPU time or for the blocks of jobs."""
+        return any(price for one in self.tariffs_in(period) for price in one.prices(b"\0\5")[:2])
+
+    def work_part(self, period, centre, is_job, by_tariff):
+        """A part of a bill, if it has rows."""
+        rows = self.work_rows(period, centre, is_job, by_tariff)
+        has_work = not is_job or self.jobs_have_work(period)
+
+        def line(place, sums):
+            count, cpu, blocks, amount = sums
+            return work_columns(*place, count, *((decimals(cpu, 2), blocks) if has_work else ("", "")), decimals(amount, 4))
+        if rows:
+            yield ("JOBS" if is_job else "STEPS") + (" BY SHIFT" if by_tariff else " BY DAY")
+            yield work_columns("TARIFF" if by_tariff else "DAY", "SHIFT", "PERCENT", "COUNT",
+                               *(("CPU", "BLOCKS") if has_work else ("", "")), "AMOUNT")
+            yield from (line(*row) for row in rows)
+            yield line(("TOTAL", "", ""), [sum(sums[at] for _, sums in rows) for at in range(4)])
+
+    def record_part(self, period, centre, which):
+        """What came late, or what was reversed, if there is some: each with the period that it is of, and its name."""
+        lines = [one for sign, one in self.lines(period, centre) if sign == which]
+        if lines:
+            yield "LATE" if which == 1 else "REVERSED"
+            yield record_columns("DAY", "SHIFT", "JOB", "PROGRAM", "JOBID", "STEP", "PERIOD", "AMOUNT")
+            for one in lines:
+                yield record_columns(one.day, one.shift, one.job, one.program, one.job_id, step_of(one),
+                                     self.of_which(period, which, one), decimals(one.amount, 4))
+                yield "  " + one.name
+            yield record_columns("TOTAL", *6 * ("",), decimals(sum(one.amount for one in lines), 4))
 
     def bill_end(self, period, centre):
         """What a bill says of disputes, while its period is open. As they end a closed period's bill stays as it is."""
@@ -725,43 +825,52 @@ class Books:
         yield from self.office_bill(period) if centre is None else self.centre_bill(period, centre)
 
     def centre_bill(self, period, centre):
-        """What a department gets below the head: its steps and its jobs apart, what came late or was reversed, with the
-        period that this was of, and the sum."""
-        steps, jobs = self.work(period, centre)
-        lines = self.lines(period, centre)
-        yield "STEPS"
-        yield from row_lines(steps)
-        yield "JOBS"
-        yield from job_lines(jobs)
-        yield "ADJUSTMENTS"
-        for sign, one in lines:
-            yield "%s PERIOD %d %s %s" % (line_columns(sign, one), self.of_which(period, sign, one), one.name, one.job)
-        yield lines_total(lines)
+        """What a department gets below the head: its sums, the prices and percents, and what the sums are made of."""
+        yield sums_columns("CENTRE", "CHARGED", "LATE", "REVERSED", "OWED", "BOOKED")
+        yield self.sums_line(period, centre, self.parts(period, centre))
         yield from self.bill_end(period, centre)
-        yield columns("OWED", "", "", "", "", "", decimals(owed(*self.parts(period, centre)), 4))
+        yield from self.bill_terms(period)
+        for by_tariff in (True, False):
+            for is_job in (False, True):
+                yield from self.work_part(period, centre, is_job, by_tariff)
+        for which in (1, -1):
+            yield from self.record_part(period, centre, which)
 
     def office_bill(self, period):
-        """A line for each centre, and the office's total."""
-        yield office_columns("CENTRE", "STEPS", "JOBS", "LATE", "REVERSED", "OWED")
-        for word, parts in self.billed(period) + [("TOTAL", self.parts(period))]:
-            yield office_columns(word, *(decimals(amount, 4) for amount in (*parts, owed(*parts))))
+        """A line for each centre, and the office's total, which books what they do together."""
+        yield sums_columns("CENTRE", "CHARGED", "LATE", "REVERSED", "OWED", "BOOKED")
+        billed, places = self.billed(period), self.booked_decimals(period)
+        for word, parts in billed:
+            yield self.sums_line(period, word, parts)
+        yield self.sums_line(period, "TOTAL", self.parts(period),
+                             sum(booked(owed(*parts), places) for _, parts in billed))
         yield from self.bill_end(period, None)
+        yield from self.bill_terms(period)
 
     def bill_table(self, period, centre=None):
         if centre is None:
             yield OFFICE_BILL_COLUMNS
+            places = self.booked_decimals(period)
             for name, parts in self.billed(period):
-                yield comma_line(period, name, *(decimals(amount, 4) for amount in (*parts, owed(*parts))))
+                yield comma_line(period, name, *(decimals(amount, 4) for amount in (*parts, owed(*parts))),
+                                 decimals(booked(owed(*parts), places), places))
             return
         yield BILL_COLUMNS
-        steps, jobs = self.work(period, centre)
-        for place, (count, cpu, blocks, amount) in steps:
-            yield comma_line(period, *place, "STEPS", count, decimals(cpu, 2), blocks, decimals(amount, 4), "", "", "")
-        for place, (count, _, _, amount) in jobs:
-            yield comma_line(period, *place, "JOBS", count, "", "", decimals(amount, 4), "", "", "")
+        for is_job in (False, True):
+            has_work = not is_job or self.jobs_have_work(period)
+            for (day, shift, percent), (count, cpu, blocks, amount) in self.work_rows(period, centre, is_job, False):
+                yield comma_line(period, day, centre, shift, "JOBS" if is_job else "STEPS", count,
+                                 *((decimals(cpu, 2), blocks) if has_work else ("", "")), decimals(amount, 4),
+                                 *6 * ("",), percent)
         for sign, one in self.lines(period, centre):
             yield comma_line(period, one.day, one.centre, one.shift, ACTIONS[sign], "", "", "",
-                             decimals(sign * one.amount, 4), self.of_which(period, sign, one), one.name, one.job)
+                             decimals(sign * one.amount, 4), self.of_which(period, sign, one), one.name, one.job,
+                             one.program, one.job_id, step_of(one), "")
+        for one in self.tariffs_in(period):
+            for kind, subtype in (("STEP-PRICE", b"\0\4"), ("JOB-PRICE", b"\0\5")):
+                yield comma_line(period, one.effective, centre, "", kind, *one.prices_of(subtype), *8 * ("",))
+            for shift, percent in one.percents():
+                yield comma_line(period, one.effective, centre, shift, "PERCENT", *10 * ("",), percent)
 
     def billing_period(self, period):
         """The midnights with which a period begins and ends. The first begins with its first tariff, each other after the
@@ -849,8 +958,17 @@ class Books:
         """The file of the tariff that begins on a day, if one does."""
         return next((tariff.file for tariff in self.tariffs if tariff.effective == day), None)
 
+    def has_centre(self, period, centre):
+        """A centre is there in a period, if a tariff has a rule for it that begins no later than the period's last day; and that
+        of the work to which no rule applies is."""
+        last = self.closes[period - 1] if 0 < period < self.open else datetime.date.max
+        rules = [rule for tariff in self.tariffs if tariff.effective <= last for rule in tariff.terms.get("centre", ())]
+        return centre == "UNASSIGNED" or any(rule["name"] == centre for rule in rules)
+
     def of_period(self, report, period, centre=None):
-        """A report of a period, if there is such a period: of all centres, or of one."""
+        """A report of a period, if there is such a period: of all centres, or of one that is there."""
+        if centre is not None and not self.has_centre(period, centre):
+            return refused(NO_SUCH_CENTRE)
         if not 0 < period <= self.open:
             return refused(NO_SUCH_PERIOD)
         return list(report(period) if centre is None else report(period, centre))

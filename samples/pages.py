@@ -1,16 +1,18 @@
 """The office's pages as HTML, apart from the program: of all its periods, and of one of them. office.py knows what books
 say; this says what a page shows of it, tag for tag. It is called by office.py, and by what looks at pages (bench/pages)."""
+import datetime
 import office
 
-WIDTH, COLOURS, MOST_NAMED = 10000, 8, 12
+WIDTH, COLOURS = 10000, 8
 REFERENCES = {"&": "&amp;", "<": "&lt;", ">": "&gt;", '"': "&quot;", "'": "&#39;"}
 # The reports to which a page leads, by their paths.
 OF_ALL = "periods rulings disputes disputes-csv".split()
-OF_PERIODS = "statement statement-csv adjustments adjustments-csv details details-csv focus coverage coverage-csv".split()
+OF_PERIODS = ("bill bill-csv statement statement-csv adjustments adjustments-csv details details-csv focus coverage "
+              "coverage-csv").split()
 
 STYLE = """:root{color-scheme:light dark;--ink:#1d2129;--soft:#626a78;--line:#dfe3ea;--page:#fbfbfa;--card:#fff;--link:#2257a5}
 @media(prefers-color-scheme:dark){:root{--ink:#e8eaee;--soft:#9aa3b2;--line:#333a46;--page:#15181d;--card:#1c2027;--link:#8ab4f0}}
-.c0{--c:#4c78a8}.c1{--c:#e08a2e}.c2{--c:#54a24b}.c3{--c:#b279a2}.c4{--c:#d8544f}.c5{--c:#5ea8a3}.c6{--c:#d9b53c}.c7{--c:#9d755d}
+.c0{--c:#4c78a8}.c1{--c:#e08a2e}.c2{--c:#54a24b}.c3{--c:#b279a2}.c4{--c:#d8544f}.c5{--c:#5ea8a3}.c6{--c:#d9b53c}.c7{--c:#9d755d}.c8{--c:#8d95a3}
 *{box-sizing:border-box}
 body{margin:0;background:var(--page);color:var(--ink);font:16px/1.5 system-ui,-apple-system,'Segoe UI',Roboto,sans-serif}
 main{max-width:76rem;margin:0 auto;padding:2.5rem 1.25rem 4rem}
@@ -25,7 +27,7 @@ thead th{border-top:0;color:var(--soft);font-size:.8125rem;font-weight:500}
 tfoot td{border-top:2px solid var(--ink);font-weight:600}
 tbody:empty::after{content:'None';color:var(--soft)}
 tr>:last-child{padding-right:0}
-.office tr>:nth-child(n+3),.statement tr>:nth-child(n+4),.adjustments tr>:nth-child(5),.disputes tr>:nth-child(3),.bars tr>:nth-child(3){text-align:right}
+.office tr>:nth-child(n+3),.statement tr>:nth-child(n+4),.adjustments tr>:nth-child(5),.disputes tr>:nth-child(3),.bars tr>:nth-child(n+3){text-align:right}
 .bars td:nth-child(2){width:100%}.disputes tbody th{padding-top:1rem;font-weight:500}
 td a[href^='/record/']{display:inline-block;max-width:13ch;overflow:hidden;text-overflow:ellipsis;vertical-align:bottom}
 svg{display:block;width:100%;min-width:10rem;height:1rem;border-radius:.2rem;background:var(--line)}
@@ -105,6 +107,11 @@ def bar(colour, start, long, title):
     return "<rect class='c%d' x='%d' width='%d' height='1'><title>%s</title></rect>" % (colour, start, long, title)
 
 
+def colour(index):
+    """Of the centre of an index: those after the first ones share a grey."""
+    return min(index, COLOURS)
+
+
 def picture(label, bars):
     return "<svg viewBox='0 0 %d 1' preserveAspectRatio='none' role='img' aria-label='%s'>%s</svg>" % (WIDTH, label, bars)
 
@@ -116,7 +123,7 @@ def centre_bars(most, costs, centres):
         cost = costs.get(centre, 0)
         long = length(most, cost)
         if cost:
-            yield bar(index % COLOURS, start, long, "%s %s" % (escaped(centre), amount(cost)))
+            yield bar(colour(index), start, long, "%s %s" % (escaped(centre), amount(cost)))
         start = min(WIDTH, start + long)
 
 
@@ -128,14 +135,38 @@ def costs_by(rows, at):
     return costs
 
 
-def bar_table(caption, heading, costs):
-    """A bar for each day, or for each centre."""
-    most = max(costs.values(), default=0)
-    yield table("bars", caption, (heading, "Cost", "Charged"))
-    for label, cost in costs.items():
-        shown = escaped(label)
-        title = "%s %s" % (shown, amount(cost))
-        yield table_row(shown, picture(title, bar(0, 0, length(most, cost), title)), amount(cost))
+def costs_by_day(rows):
+    """The same of each day from the first to the last: one without a row costs nothing."""
+    costs = costs_by(rows, 0)
+    first, last = (datetime.date.fromisoformat(edge(costs, default="1900-01-01")) for edge in (min, max))
+    days = ((first + datetime.timedelta(more)).isoformat() for more in range((last - first).days + 1))
+    return {day: costs.get(day, 0) for day in days} if costs else {}
+
+
+def bar_cells(most, label, cost):
+    shown = escaped(label)
+    title = "%s %s" % (shown, amount(cost))
+    return shown, picture(title, bar(0, 0, length(most, cost), title)), amount(cost)
+
+
+def day_table(rows):
+    """A bar for each day."""
+    costs = costs_by_day(rows)
+    yield table("bars", "Cost by day", "Day Cost Charged".split())
+    for day, cost in costs.items():
+        yield table_row(*bar_cells(max(costs.values()), day, cost))
+    yield TABLE_END
+
+
+def centre_table(rows, lines):
+    """For each centre a bar of what the statement charges it, and what came late, what was reversed, and what it owes."""
+    costs = costs_by(rows, 1)
+    yield table("bars", "Cost by centre", "Centre Cost Charged Late Reversed Owed".split())
+    for centre in sorted({*costs, *(one.centre for _, one in lines)}):
+        charged = costs.get(centre, 0)
+        late, reverses = (sum(one.amount for sign, one in lines if (sign, one.centre) == (which, centre)) for which in (1, -1))
+        cells = bar_cells(max(costs.values(), default=0), centre, charged)
+        yield table_row(*cells, *map(amount, (late, reverses, charged + late - reverses)))
     yield TABLE_END
 
 
@@ -149,14 +180,24 @@ def figures(books, period):
     return records, charged, added, reverses, charged + added - reverses
 
 
+def said(books, period, key):
+    """What the last tariff of a period says of the office."""
+    return escaped(([""] + [one.letterhead(key) for one in books.tariffs_in(period)])[-1])
+
+
+def currency(books, period):
+    shown = said(books, period, "currency")
+    return "<div><dt>Currency</dt><dd>%s</dd></div>\n" % shown if shown else ""
+
+
 # ---- The page of the office
 
 def legend(centres):
     """Which colour is whose."""
-    for index, centre in enumerate(centres[:MOST_NAMED]):
-        yield "<li class='c%d'>%s</li>\n" % (index % COLOURS, escaped(centre))
-    if len(centres) > MOST_NAMED:
-        yield "<li class='more'>and %d more</li>\n" % (len(centres) - MOST_NAMED)
+    for index, centre in enumerate(centres[:COLOURS]):
+        yield "<li class='c%d'>%s</li>\n" % (colour(index), escaped(centre))
+    if len(centres) > COLOURS:
+        yield "<li class='c8'>and %d more</li>\n" % (len(centres) - COLOURS)
 
 
 def office_parts(books):
@@ -166,11 +207,14 @@ def office_parts(books):
     costs = {period: costs_by(books.rows(period), 1) for period in periods}
     most, centres = max(one[1] for one in told.values()), sorted(set().union(*costs.values()))
     yield START % "Office"
-    yield "<header>\n<p>Chargeback</p>\n<h1>Office</h1>\n</header>\n"
+    yield "<header>\n<p>%s</p>\n<h1>Office</h1>\n</header>\n<dl>\n" % (said(books, books.open, "office") or "Chargeback")
+    yield currency(books, books.open)
+    yield "<div><dt>Disputes</dt><dd>%d</dd></div>\n</dl>\n" % len(books.disputed())
     yield table("office", "Periods", "Period State Records Charged Added Reversed Owed".split())
     for period in periods:
-        records, *amounts = told[period]
-        yield table_row(period_link(period), books.head(period), records, *map(amount, amounts))
+        records, *amounts, owed = told[period]
+        yield table_row(period_link(period), books.head(period), records, *map(amount, amounts),
+                        "<a href='/bill/%d'>%s</a>" % (period, amount(owed)))
     yield TABLE_END
     yield table("bars", "Cost by centre", ("Period", "Cost", "Charged"))
     for period in periods:
@@ -194,13 +238,13 @@ def gaps(books, period):
 
 
 def head(books, period):
-    """Its number, whether it is open, its sums, and its gaps."""
+    """The office's name, its number, whether it is open, its sums, the currency, and its gaps."""
     _, *amounts = figures(books, period)
-    yield "<header>\n<p><a href='/'>Office</a></p>\n<h1>Period %d</h1>\n<p>%s</p>\n</header>\n<dl>\n" % (
-        period, books.head(period))
+    yield "<header>\n<p><a href='/'>%s</a></p>\n<h1>Period %d</h1>\n<p>%s</p>\n</header>\n<dl>\n" % (
+        said(books, period, "office") or "Office", period, books.head(period))
     for name, one in zip(("Charged", "Added", "Reversed", "Owed"), amounts):
         yield "<div><dt>%s</dt><dd>%s</dd></div>\n" % (name, amount(one))
-    yield "<div><dt>Gaps</dt><dd>%s</dd></div>\n</dl>\n" % gaps(books, period)
+    yield currency(books, period) + "<div><dt>Gaps</dt><dd>%s</dd></div>\n</dl>\n" % gaps(books, period)
 
 
 def row_cells(place, sums):
@@ -231,10 +275,10 @@ def is_in(books, period, day):
 
 
 def disputes(books, period):
-    """Those that have a record dated in the period."""
+    """On the page of the open period all of them, as they hold work back now; else those that have a record dated in it."""
     yield table("disputes", "Disputes", ("Record", "Day", "Amount", "Completion", "Job id", "Program"))
     for identity, members in books.disputed():
-        if any(is_in(books, period, one.day) for one in members):
+        if period == books.open or any(is_in(books, period, one.day) for one in members):
             line = office.dispute_line(identity) + "\n"
             yield "<tr><th colspan='6' scope='rowgroup'>%s</th></tr>\n" % escaped(line)
             for one in members:
@@ -247,8 +291,8 @@ def period_parts(books, period):
     rows = books.rows(period)
     yield START % ("Period %d" % period)
     yield from head(books, period)
-    yield from bar_table("Cost by day", "Day", costs_by(rows, 0))
-    yield from bar_table("Cost by centre", "Centre", costs_by(rows, 1))
+    yield from day_table(rows)
+    yield from centre_table(rows, books.lines(period))
     yield from statement(rows)
     yield from adjustments(books.lines(period))
     yield from disputes(books, period)

@@ -6,6 +6,7 @@ import hashlib
 import itertools
 import re
 
+import bill_pages
 import office
 import pages
 
@@ -173,7 +174,7 @@ ASKS = {"statement": 2, "table": 1, "adjustments": 2, "adjustment_table": 1, "di
 DETAILS = {"details": 2, "details-table": 2}
 
 # The bills of a period.
-BILLS = {"bill": "bill", "bill-table": "bill_table"}
+BILLS = {"bill": "bill", "bill-table": "bill_table", "bill-page": "bill_page"}
 
 # What is of a period of the whole office alone: its table of cost and usage, and its coverage.
 OF_OFFICE = {"focus": "focus", "coverage": "coverage", "coverage-table": "coverage_table"}
@@ -190,6 +191,7 @@ PATHS = {"statement": ("statement", "plain"), "statement-csv": ("table", "csv"),
          "adjustments": ("adjustments", "plain"), "adjustments-csv": ("adjustment_table", "csv"),
          "details": ("details", "plain"), "details-csv": ("details-table", "csv"), "focus": ("focus", "csv"),
          "coverage": ("coverage", "plain"), "coverage-csv": ("coverage-table", "csv"),
+         "bill": ("bill-page", "html"), "bill-csv": ("bill-table", "csv"),
          "disputes": ("disputes", "plain"), "disputes-csv": ("dispute_table", "csv"),
          "periods": ("periods", "plain"), "rulings": ("rulings", "plain")}
 
@@ -277,6 +279,14 @@ class Rows:
             self.calls_left = None
         return self.calls_left is None
 
+    def is_refused_of(self, asks, period=None, centre=None):
+        """Whether one of so many calls of the books is refused. Of a centre that is named they are asked before whether it is
+        there: for the days of the closes, for each tariff, and for the end. Of one that is not there no more is asked."""
+        if centre is not None:
+            known = 2 + len(self.books.tariffs)
+            asks = known + asks if self.books.has_centre(period, centre) else known
+        return any(self.is_refused() for _ in range(asks))
+
     def take(self, dump):
         """The receipt of a dump. The books are asked of usage records alone."""
         kinds = []
@@ -289,17 +299,18 @@ class Rows:
     def report(self, verb, words):
         """A report, or why there is none."""
         asks = len(list(self.books.rulings())) if verb == "rulings" else ASKS[verb]
-        if any(self.is_refused() for _ in range(asks)):
+        place = (int(words[0]), *words[1:]) if words else ()
+        if self.is_refused_of(asks, *place):
             return office.refused(office.MEMORY)
         if words:
-            return self.books.of_period(getattr(self.books, verb), int(words[0]), *words[1:])
+            return self.books.of_period(getattr(self.books, verb), *place)
         return list(getattr(self.books, verb)())
 
     def details(self, verb, period, centre=None):
         """The details of a period, or of one centre in it, or why there are none."""
         books, period = self.books, int(period)
         asks = DETAILS[verb] + (len(books.counted_in_order(period, centre)) if 0 < period <= books.open else 0)
-        if any(self.is_refused() for _ in range(asks)):
+        if self.is_refused_of(asks, period, centre):
             return office.refused(office.MEMORY)
         return books.of_period(getattr(books, verb.replace("-", "_")), period, centre)
 
@@ -307,19 +318,24 @@ class Rows:
         """How often a bill asks the books. For its steps and jobs: for the days of the closes, for each detail, and for
         the end, which is all where there is no such period. For its lines: for these, and of a centre for the trail of
         each record. For what is held back: for the days, and while the period is open for each dispute and the end. For
-        its tariffs: for the days, for each tariff, and for the end."""
+        its first day: for the days. For its tariffs: for the days, for each tariff, and for the end."""
         books = self.books
         if not 0 < period <= books.open:
             return 2
         lines = 0 if centre is None else len(books.lines(period, centre))
         disputes = len(books.disputed()) + 1 if period == books.open else 0
-        return 2 + len(books.counted_in_order(period, centre)) + 1 + lines + 1 + disputes + 2 + len(books.tariffs)
+        return 2 + len(books.counted_in_order(period, centre)) + 1 + lines + 1 + disputes + 1 + 2 + len(books.tariffs)
 
     def bill(self, verb, period, centre=None):
         """The bill of a centre for a period, or of all, or why there is none."""
-        if any(self.is_refused() for _ in range(self.bill_asks(int(period), centre))):
+        if self.is_refused_of(self.bill_asks(int(period), centre), int(period), centre):
             return office.refused(office.MEMORY)
+        if verb == "bill-page":
+            return self.books.of_period(self.bill_page, int(period), centre)
         return self.books.of_period(getattr(self.books, BILLS[verb]), int(period), centre)
+
+    def bill_page(self, period, centre=None):
+        return bill_pages.bill_page(self.books, period, centre).splitlines()
 
     def office_asks(self, verb, period):
         """How often such a text asks the books. FOCUS: for the days of the closes; for the tariffs, which is for the days, for
@@ -338,12 +354,14 @@ class Rows:
         return self.books.of_period(getattr(self.books, OF_OFFICE[verb]), int(period))
 
     def page_asks(self, period):
-        """How often a page asks the books. That of the office: for the days of the closes, and for the rows and the lines of
-        each period. That of a period: for its coverage, which is all where there is no such period, for its rows and its
-        lines, for the disputes, and for the days of the closes."""
+        """How often a page asks the books. That of the office: for the days of the closes, for the rows and the lines of each
+        period, for the tariffs, and for each dispute and the end. That of a period: for its coverage, which is all where there
+        is no such period, for its rows and its lines, for the disputes, for the days of the closes, and for the tariffs. For
+        tariffs it asks for the days, for each of them, and for the end."""
+        books, tariffs = self.books, 2 + len(self.books.tariffs)
         if period is None:
-            return 1 + 2 * self.books.open
-        return self.office_asks("coverage", period) + 4 * (0 < period <= self.books.open)
+            return 1 + 2 * books.open + tariffs + len(books.disputed()) + 1
+        return self.office_asks("coverage", period) + (4 + tariffs) * (0 < period <= books.open)
 
     def page(self, period=None):
         """The page of a period, or of the office, or why there is none."""
@@ -423,17 +441,18 @@ class Rows:
         if name not in PATHS:
             return served(404, [])
         verb, form = PATHS[name]
-        has_period = verb in OF_PERIODS or verb in DETAILS or verb in OF_OFFICE
+        has_period = verb in OF_PERIODS or verb in DETAILS or verb in OF_OFFICE or verb in BILLS
         most = 1 if verb in OF_OFFICE else 2
         if bool(words) != has_period or len(words) > most or not all(map(office.is_name, words[1:])):
             return served(404, [])
         if has_period and not NUMBER.fullmatch(words[0]):
             return served(404, [])
-        found = self.details if verb in DETAILS else self.of_office if verb in OF_OFFICE else None
+        found = (self.details if verb in DETAILS else self.of_office if verb in OF_OFFICE
+                 else self.bill if verb in BILLS else None)
         text = found(verb, *words) if found else self.report(verb, words)
         if text == office.refused(office.MEMORY):
             return served(503, [])
-        if text == office.refused(office.NO_SUCH_PERIOD):
+        if text in (office.refused(office.NO_SUCH_PERIOD), office.refused(office.NO_SUCH_CENTRE)):
             return served(404, [])
         # Details are read once more, to be gathered before they are sent: those of these rows are short.
         is_refused = verb in DETAILS and self.details(verb, *words) == office.refused(office.MEMORY)
@@ -613,6 +632,12 @@ class Rows:
                 return ["chargectl: word"]
             return books.of_period(table if "--csv" in given else report, int(period), centre)
 
+        def bill(period, *_):
+            """A bill as a text or a table, or as a page. As both at once it is asked for by wrong words."""
+            if {"--csv", "--html"} <= given.keys():
+                raise NotKnown
+            return of_period(self.bill_page if "--html" in given else books.bill, books.bill_table, period)
+
         def statement(period, *_):
             """A statement, or what it would say by a tariff file. The name of the centre is looked at before the file, and
             the file before the books."""
@@ -665,7 +690,7 @@ class Rows:
                 "audit": lambda: list(Tables(books).audit()),
                 "statement": statement,
                 "details": lambda period, *_: of_period(books.details, books.details_table, period),
-                "bill": lambda period, *_: of_period(books.bill, books.bill_table, period),
+                "bill": bill,
                 "focus": lambda period: self.of_office("focus", period),
                 "coverage": lambda period, *_: self.of_office("coverage-table" if "--csv" in given else "coverage", period),
                 "page": self.page,

@@ -11,7 +11,7 @@ written to a file that the command reads.
     disputes, periods                        the same
     statement PERIOD [CENTRE]                the same, with --centre; so are adjustments, details and bill
     focus PERIOD, coverage PERIOD            the same, and so is page; coverage-table is coverage with --csv
-    table PERIOD [CENTRE]                    statement with --csv; so are details-table and bill-table
+    table PERIOD [CENTRE]                    statement with --csv; so are details-table and bill-table; bill-page is bill with --html
     what-if PERIOD[/CENTRE] TEXT..           statement with --tariff FILE; with --csv what-if-table
     list, with a body of such lines          each of them
     changes                                  the statement and the adjustments of each period, the disputes and the periods;
@@ -30,6 +30,7 @@ FAR_DAYS, NEAR_DAYS = 366, 7
 # The command of a report of a period.
 REPORTS = {"statement": ["statement"], "table": ["statement", "--csv"], "adjustments": ["adjustments"],
            "details": ["details"], "details-table": ["details", "--csv"], "bill": ["bill"], "bill-table": ["bill", "--csv"],
+           "bill-page": ["bill", "--html"],
            "focus": ["focus"], "coverage": ["coverage"], "coverage-table": ["coverage", "--csv"], "page": ["page"]}
 LISTS = frozenset("disputes periods record".split())
 OTHER_PRICES = frozenset("what-if what-if-table".split())

@@ -29,7 +29,7 @@ pub use effects::{
 };
 pub use ledger::Ledger;
 pub use limits::{LAST_PERIOD, MAX_CHOICES, MAX_COST, MAX_HELD};
-pub use lines::sort_lines;
+pub use lines::{line_with, sort_lines};
 pub use listed_rulings::ListedAt;
 pub use pricing::{price_in, reckon_in};
 pub use rulings::{Rulings, is_done};

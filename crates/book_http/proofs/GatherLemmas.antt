@@ -118,6 +118,7 @@ pub refused_status : (kind : BodyKind) (why : LedgerFault)
 refused_status kind fault.NoSuchPeriod done = cc
 refused_status kind fault.NoSuchTariff done = cc
 refused_status kind fault.NoSuchRecord done = cc
+refused_status kind fault.NoSuchCentre done = cc
 refused_status kind (fault.TariffRefused refused) done = cc
 refused_status kind fault.Full done = cc
 refused_status kind why done = cc

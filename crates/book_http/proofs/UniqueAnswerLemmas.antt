@@ -2,8 +2,9 @@
 use Rattle.std.proofs.Common.{◌≡◌, ◌≢◌, ◌∙◌, ℕ, Bool, true, false, List, [], ◌∷◌, take, Result, Ok}
 use Rattle.std.proofs.Common.{Err, None, not, refl, sym, ap, subst}
 use Rattle.book_model.specs.Words.{Layout, front, Book, Event, Outcome, Naming}
-use Rattle.book_model.specs.declared.fault.LedgerFault.TheVariants.{Full, NoSuchPeriod}
-use Rattle.book_model.specs.declared.fault.LedgerFault.TheVariants.{NoSuchRecord, NoSuchTariff}
+use Rattle.book_model.specs.declared.fault.LedgerFault.TheVariants.{Full, NoSuchCentre}
+use Rattle.book_model.specs.declared.fault.LedgerFault.TheVariants.{NoSuchPeriod, NoSuchRecord}
+use Rattle.book_model.specs.declared.fault.LedgerFault.TheVariants.{NoSuchTariff}
 use Rattle.book_model.specs.declared.fault.LedgerFault.TheVariants.{TariffRefused}
 use Rattle.book_core.specs.Words.{Calls, Transition}
 use Rattle.book_import.specs.declared.receipt.Stop.TheVariants.{End, Frame, Read, ReadLimit, Ledger}
@@ -36,6 +37,7 @@ reply_tells kind outcome (Ok told) was before events is called served = called.m
 reply_tells kind outcome (Err NoSuchPeriod) was before events is called served = called.makes.0
 reply_tells kind outcome (Err NoSuchTariff) was before events is called served = called.makes.0
 reply_tells kind outcome (Err NoSuchRecord) was before events is called served = called.makes.0
+reply_tells kind outcome (Err NoSuchCentre) was before events is called served = called.makes.0
 reply_tells kind outcome (Err (TariffRefused why)) was before events is called served =
     called.makes.0
 reply_tells kind outcome (Err Full) was before events is called served = called.makes.0

@@ -5,8 +5,9 @@ use Rattle.std.specs.Prelude.{if◌then◌else◌, Result, Ok, Err}
 use Rattle.std.specs.Str.{is_utf8}
 use Rattle.httparse.specs.Grammar.{RequestHead}
 use Rattle.book_model.specs.declared.fault.LedgerFault.{LedgerFault}
-use Rattle.book_model.specs.declared.fault.LedgerFault.TheVariants.{Full, NoSuchPeriod}
-use Rattle.book_model.specs.declared.fault.LedgerFault.TheVariants.{NoSuchRecord, NoSuchTariff}
+use Rattle.book_model.specs.declared.fault.LedgerFault.TheVariants.{Full, NoSuchCentre}
+use Rattle.book_model.specs.declared.fault.LedgerFault.TheVariants.{NoSuchPeriod, NoSuchRecord}
+use Rattle.book_model.specs.declared.fault.LedgerFault.TheVariants.{NoSuchTariff}
 use Rattle.book_model.specs.declared.fault.LedgerFault.TheVariants.{TariffRefused}
 use Rattle.book_model.specs.Words.{Layout, Naming, Book, Event}
 use Rattle.book_core.specs.Words.{Calls, Transition, NoEvent}
@@ -45,6 +46,7 @@ office_reply kind (Ok (tells.Count receipt)) = receipt_reply receipt
 office_reply kind (Err NoSuchPeriod) = refusal NotFound
 office_reply kind (Err NoSuchTariff) = refusal NotFound
 office_reply kind (Err NoSuchRecord) = refusal NotFound
+office_reply kind (Err NoSuchCentre) = refusal NotFound
 office_reply kind (Err (TariffRefused why)) = refusal BadRequest
 office_reply kind (Err Full) = refusal BadRequest
 office_reply kind told = refusal Unavailable

@@ -43,6 +43,7 @@ fn answer_of(kind: BodyKind, told: Result<office::Answer, LedgerFault>) -> Answe
         Err(LedgerFault::NoSuchPeriod) => Answer::Refusal(Status::NotFound),
         Err(LedgerFault::NoSuchTariff) => Answer::Refusal(Status::NotFound),
         Err(LedgerFault::NoSuchRecord) => Answer::Refusal(Status::NotFound),
+        Err(LedgerFault::NoSuchCentre) => Answer::Refusal(Status::NotFound),
         Err(LedgerFault::TariffRefused(_)) => Answer::Refusal(Status::BadRequest),
         Err(LedgerFault::Full) => Answer::Refusal(Status::BadRequest),
         Ok(office::Answer::Ruled(_)) | Err(_) => Answer::Refusal(Status::Unavailable),

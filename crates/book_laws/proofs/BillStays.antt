@@ -2,16 +2,18 @@
 use Rattle.std.proofs.Common.{◌≡◌, ℕ, zero, suc, ◌<◌, List, [], ◌∷◌, length, refl, sym, ap, ◌∙◌}
 use Rattle.std.proofs.Common.{true, false, true≢false, Bool, ◌||◌, Option, Some, None, is_some}
 use Rattle.std.proofs.Common.{arith, All, ℤ, pos, if◌then◌else◌, filter_map, ok_or, option_and_then}
-use Rattle.std.proofs.Common.{option_map, int_cmp}
+use Rattle.std.proofs.Common.{flat_map, option_map, int_cmp}
 use Rattle.std.proofs.lemmas.List.Sorted.{All-permutation}
 use Rattle.book_model.proofs.Std.{IsStrictlySortedBy, cons_option, list_any, result_ok, All-append}
 use Rattle.book_model.proofs.Std.{All-cons, All-filter, All-nil, IsPermutation-sym}
 use Rattle.book_model.proofs.Std.{slice_get-get_or}
 use Rattle.book_model.specs.declared.bill.HeldBack.{HeldBack}
 use Rattle.book_model.specs.declared.fault.LedgerFault.TheVariants.{NoSuchRecord}
-use Rattle.book_model.specs.Words.{day_of, job_of, Priced, Book, Event, IsSound, Naming, Period}
+use Rattle.book_model.specs.Words.{day_of, ended_step_of, job_id_of, job_of, program_of, Priced}
+use Rattle.book_model.specs.Words.{Book, Event, IsSound, Naming, Period}
 use Rattle.book_model.specs.Words.{Records, Rulings, Terms, after_all, bill_of, bill_outcome}
-use Rattle.book_model.specs.Words.{billed_line, billed_lines, billed_tariff, book_after}
+use Rattle.book_model.specs.Words.{billed_line, billed_lines, billed_shifts, billed_tariff}
+use Rattle.book_model.specs.Words.{book_after}
 use Rattle.book_model.specs.Words.{charged_before, details_asked, disputes_in, has, held_back_in}
 use Rattle.book_model.specs.Words.{held_back_of, in_force, is_dated_after, jobs_of, last_close}
 use Rattle.book_model.specs.Words.{letterhead_among, life_of, lines_for, lines_of, members, name_of}
@@ -31,7 +33,7 @@ use Rattle.book_laws.proofs.LaterLemmas.{answered_before, closes_rise, made_late
 use Rattle.book_laws.proofs.LaterLemmas.{sound_before, sound_later}
 use Rattle.book_laws.proofs.ReadLemmas.{lines_once}
 use Rattle.book_laws.proofs.StayLemmas.{keeps, keeps_period}
-use Rattle.book_laws.proofs.TariffStays.{keeps_tariffs, tariffs_stay}
+use Rattle.book_laws.proofs.TariffStays.{before_same, keeps_tariffs, tariffs_stay}
 use Rattle.book_laws.proofs.TurnStays.{charge_stays}
 use Rattle.std.specs.FinMap as map
 
@@ -70,6 +72,9 @@ module _ (naming : Naming) (rulings : Rulings) (P : Line → Type 0) (plus : Boo
     plus = plus;
     name = name_of naming bytes;
     job = job_of bytes;
+    program = program_of bytes;
+    job_id = job_id_of bytes;
+    step = ended_step_of bytes;
     priced = priced;
   }
 
@@ -181,6 +186,7 @@ bill_stays naming later old (suc k) centre was_sound rising made closed =
     let billed = ap (billed_lines naming new (suc k) centre) lines
     ∙ billed_alike naming new old (suc k) centre (lines_of naming old.rulings period) each in
     let tariffs = tariffs_stay naming later old k rising made within in
+    let before = before_same naming later old k rising made within in
     let still = (keeps_tariffs naming later old k rising made within).within in
     let none = none_held_back naming new k centre still
     ∙ sym (none_held_back naming old k centre within) in
@@ -190,7 +196,9 @@ bill_stays naming later old (suc k) centre was_sound rising made closed =
       jobs = work_rows (jobs_of (details_asked centre (kept.details i)));
       lines = billed i;
       held_back = none i;
+      before = before i;
       tariffs = filter_map billed_tariff (tariffs i);
+      shifts = flat_map billed_shifts (tariffs i);
       letterhead = letterhead_among (tariffs i);
     } in
     let by = λ (book : Book) (found : Option Period).

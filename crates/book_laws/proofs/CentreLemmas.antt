@@ -4,9 +4,8 @@ use Rattle.book_model.proofs.Std.{IsDistinct, list_any, nat_list_cmp_total, nat_
 use Rattle.book_model.proofs.Std.{IsDistinct-from_sorted}
 use Rattle.book_model.specs.Words.{by_bytes, members, same_bytes, set_of}
 use Rattle.book_model.proofs.Lemmas.{list_any-map, any_tied-members, members_rise}
-use Rattle.book_model.proofs.Lemmas.{same_bytes-by_cmp}
+use Rattle.book_model.proofs.Lemmas.{same_bytes-by_cmp, sum_by-keys}
 use Rattle.book_laws.specs.CentreLaws.{CentresAddUp}
-use Rattle.book_laws.proofs.RowSums.{sum_by-keys}
 
 -- sums over what each of some centres has are together the sum over all, where these are all
 pub by_centres : {X : Type 0} (named : List (List ℕ)) (centre : X → List ℕ) (part : X → ℕ)

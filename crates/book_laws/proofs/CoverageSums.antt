@@ -30,7 +30,7 @@ use Rattle.book_model.specs.Words.{same_bytes, set_of, those, through_of}
 use Rattle.book_model.proofs.DetailLemmas.{details_rise}
 use Rattle.book_model.proofs.Lemmas.{any_tied-members, filter-filter, list_any-map, members_rise}
 use Rattle.book_model.proofs.Lemmas.{not_true, passes_those, same_bytes-by_cmp, sound_after}
-use Rattle.book_model.proofs.Lemmas.{sum_by-filter}
+use Rattle.book_model.proofs.Lemmas.{sum_by-filter, sum_by-keys}
 use Rattle.book_model.proofs.PricingLemmas.{priced_day}
 use Rattle.book_model.proofs.RecordSets.{first_of, second_of}
 use Rattle.book_model.proofs.SumsAlike.{length-sum_by}
@@ -50,7 +50,7 @@ use Rattle.book_laws.proofs.CountedLemmas.{counted_by_day}
 use Rattle.book_laws.proofs.CoverageLemmas.{day_through, each_detail}
 use Rattle.book_laws.proofs.DetailLemmas.{details_add_up}
 use Rattle.book_laws.proofs.ReadLemmas.{named}
-use Rattle.book_laws.proofs.RowSums.{sum_by-keys, sum_by-rows}
+use Rattle.book_laws.proofs.RowSums.{sum_by-rows}
 use Rattle.book_laws.proofs.Words.{ChargeRow}
 use Rattle.std.specs.FinMap as finite
 

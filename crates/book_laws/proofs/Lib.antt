@@ -41,6 +41,13 @@ pub mod BillStays
 pub mod BilledTariffs
 pub mod RulingTariffs
 pub mod LinePeriods
+pub mod BookedLemmas
+pub mod LinePartLemmas
+pub mod CheckLemmas
+pub mod PercentLemmas
+pub mod InForceLemmas
+pub mod ShiftRows
+pub mod BillChecks
 pub mod TariffTexts
 pub mod PageLemmas
 pub mod OtherPriceLemmas

@@ -8,21 +8,22 @@ use Rattle.book_model.proofs.Std.{nat_tests, option_map_or}
 use Rattle.book_model.specs.Words.{Book, Naming, Period, details_of, disputes_in, lines_of, open_by}
 use Rattle.book_model.specs.Words.{open_period, close_of, last_period, period_of, rows_for}
 use Rattle.report_texts.specs.AdjustmentLists.{adjustment_line, adjustment_list_text, sum_line}
-use Rattle.report_texts.specs.Figures.{period_open}
+use Rattle.report_texts.specs.Figures.{dispute_count, period_open}
 use Rattle.coverage_texts.specs.declared.coverage_rows.CoverageRow.{CoverageRow}
 use Rattle.report_texts.specs.Periods.{title_line}
 use Rattle.report_texts.specs.Statements.{heading, row_line, statement_text, total_line}
 use Rattle.page_texts.specs.Figures.{FiguresSeen, figures_of}
 use Rattle.page_texts.specs.Frame.{page_start, table_end}
+use Rattle.page_texts.specs.Letterheads.{currency_figure}
 use Rattle.page_texts.specs.OfficePage.{cost_part, last_first, office_foot, office_head, office_row}
-use Rattle.page_texts.specs.OfficePage.{office_rows}
+use Rattle.page_texts.specs.OfficePage.{office_rows, periods_head}
 use Rattle.page_texts.specs.PeriodHead.{gaps_figure, period_foot, period_head, period_title}
 use Rattle.page_texts.specs.PeriodPage.{period_page_text}
 use Rattle.page_texts.specs.PeriodPictures.{centre_part, day_part}
 use Rattle.page_texts.specs.PeriodTables.{adjustment_part, dispute_part, statement_part}
 use Rattle.book_reports.specs.BookTexts.{closed_through, report_answer, shown_by}
 use Rattle.book_reports.specs.Coverage.{closes_around, rows_by}
-use Rattle.book_reports.specs.Pages.{first_figures, page_figures}
+use Rattle.book_reports.specs.Pages.{first_figures, letterhead_of_period, page_figures}
 use Rattle.book_reports.specs.SystemDetails.{on_system}
 use Rattle.book_reports.specs.declared.report.PeriodReport.TheVariants.{AdjustmentList}
 use Rattle.book_reports.specs.declared.report.Report.TheVariants.{OfPeriod, OfficePage, PeriodPage}
@@ -55,10 +56,10 @@ row_stands row before (figures ∷ later) (suc i) number other is inside =
     )
 
 -- texts that stand one after the other, with all before a part and all behind it together
-page_parts : (start head gaps days centres rows lines disputes foot : List ℕ)
-    → start ++ head ++ gaps ++ days ++ centres ++ rows ++ lines ++ disputes ++ foot
-    ≡ start ++ head ++ (gaps ++ days ++ centres ++ rows ++ lines ++ disputes ++ foot)
-page_parts start head gaps days centres rows lines disputes foot = simp append_assoc
+page_parts : (start head money gaps days centres rows lines disputes foot : List ℕ)
+    → start ++ head ++ money ++ gaps ++ days ++ centres ++ rows ++ lines ++ disputes ++ foot
+    ≡ start ++ head ++ (money ++ gaps ++ days ++ centres ++ rows ++ lines ++ disputes ++ foot)
+page_parts start head money gaps days centres rows lines disputes foot = simp append_assoc
 
 office_parts : (start head front own behind last costs foot : List ℕ)
     → start ++ head ++ (front ++ own ++ behind) ++ last ++ costs ++ foot
@@ -119,26 +120,29 @@ module _ (naming : Naming) (book : Book) (number : ℕ) (period : Period)
         )
 
     page_begins : HasPart
-        (period_head (period_title number) (close_of number book.rulings.closes) its_figures)
+        (period_head (letterhead_of_period number book).office (period_title number)
+        (close_of number book.rulings.closes) its_figures)
         (report_answer naming (PeriodPage number) book)
     page_begins =
+        let letterhead = letterhead_of_period number book in
         let closes = book.rulings.closes in
         let disputes = disputes_in naming book.rulings book.held in (
           page_start (period_title number),
-          gaps_figure its_coverage ++ day_part its_rows ++ centre_part its_rows
-              ++ statement_part its_rows ++ adjustment_part its_lines
+          currency_figure letterhead.currency ++ gaps_figure its_coverage ++ day_part its_rows
+              ++ centre_part its_rows its_lines ++ statement_part its_rows ++ adjustment_part its_lines
               ++ dispute_part (close_of (number - 1) closes) (close_of number closes) disputes
               ++ period_foot number,
-          (λ i. shown_by (λ coverage. period_page_text number closes
+          (λ i. shown_by (λ coverage. period_page_text number letterhead closes
               (option_map_or (λ (period : Period). rows_for book.rulings period.counted) (is i) [])
               (option_map_or (lines_of naming book.rulings) (is i) []) disputes coverage)
               (shown_by (rows_by (closes_around number book)) (shown_by (map (on_system naming book))
               (ok_or (option_map (λ (period : Period). details_of naming book.rulings period) (is i))
               NoSuchPeriod))))
               ∙ ap Ok (page_parts (page_start (period_title number))
-              (period_head (period_title number) (close_of number closes) its_figures)
-              (gaps_figure its_coverage) (day_part its_rows) (centre_part its_rows)
-              (statement_part its_rows) (adjustment_part its_lines)
+              (period_head letterhead.office (period_title number) (close_of number closes)
+              its_figures)
+              (currency_figure letterhead.currency) (gaps_figure its_coverage) (day_part its_rows)
+              (centre_part its_rows its_lines) (statement_part its_rows) (adjustment_part its_lines)
               (dispute_part (close_of (number - 1) closes) (close_of number closes) disputes)
               (period_foot number)),
         )
@@ -164,15 +168,16 @@ module _ (naming : Naming) (book : Book) (number : ℕ) (period : Period)
         ∙ (λ i. figures_of
         (option_map_or (λ (period : Period). rows_for book.rulings period.counted) (is i) [])
         (option_map_or (lines_of naming book.rulings) (is i) [])) in
-        let start = page_start (codes "Office") in
+        let start = page_start (codes "Office")
+        ++ office_head (letterhead_of_period count book) (dispute_count naming book) in
         let costs = cost_part periods in
         let own = row number its_figures in
         let all : office_rows closes periods ≡ found.0 ++ own ++ found.1 =
         found.2 ∙ (λ i. found.0 ++ row number (shown i) ++ found.1) in (
-          start ++ office_head ++ found.0,
+          start ++ periods_head ++ found.0,
           found.1 ++ (table_end ++ costs ++ office_foot),
-          ap Ok (ap (λ rows. start ++ office_head ++ rows ++ table_end ++ costs ++ office_foot) all
-              ∙ office_parts start office_head found.0 own found.1 table_end costs office_foot),
+          ap Ok (ap (λ rows. start ++ periods_head ++ rows ++ table_end ++ costs ++ office_foot) all
+              ∙ office_parts start periods_head found.0 own found.1 table_end costs office_foot),
         )
 
 -- the law

@@ -1,60 +1,13 @@
 -- Charge rows sum what all prices sum to.
 use Rattle.std.proofs.Common.{◌≡◌, ℕ, ◌+◌, List, [], ◌∷◌, refl, sym, ap, ◌∙◌, true, false, Bool}
-use Rattle.std.proofs.Common.{cond, ◌||◌, map, arith, length, filter, sum_by}
-use Rattle.book_model.proofs.Std.{IsEquivalence, list_any, IsDistinct, fold-map, sum_by-cons}
-use Rattle.book_model.proofs.Std.{length-filter, tells_apart}
+use Rattle.std.proofs.Common.{cond, map, arith, filter, sum_by}
+use Rattle.book_model.proofs.Std.{list_any, fold-map, sum_by-cons, tells_apart}
 use Rattle.book_model.specs.Words.{Priced, charged_at, key_of, keys_of, row_at, rows_of, same_bytes}
-use Rattle.book_model.specs.Words.{same_key}
+use Rattle.book_model.specs.Words.{row_key, same_key}
 use Rattle.book_model.proofs.Lemmas.{by_key_exact, by_key_total, same_key_ties, list_any-map}
-use Rattle.book_model.proofs.Lemmas.{count_by-distinct, any_tied-members, sum_by-filter}
+use Rattle.book_model.proofs.Lemmas.{any_tied-members, sum_by-filter, sum_by-keys}
 use Rattle.book_model.proofs.RowLemmas.{same_key_is, same_key_laws, keys_distinct}
-use Rattle.book_model.proofs.SumLemmas.{sum_by-exchange}
-use Rattle.book_laws.proofs.Words.{or-true, ChargeRow, RowKey, rows_of_centre}
-
--- a number for each element of a list of one
-sum_by-one : {X : Type 0} (n : ℕ) (xs : List X) → length xs ≡ 1 → sum_by (λ _. n) xs ≡ n
-sum_by-one n [] e = absurd (omega arith)
-sum_by-one n (x ∷ []) e = omega arith
-sum_by-one n (x ∷ y ∷ xs) e = absurd (omega arith)
-
-module _ {X K : Type 0} {eq : K → K → Bool} (laws : IsEquivalence eq) (ks : List K)
-    (apart : IsDistinct eq ks) (key : X → K) (f : X → ℕ) where
-  -- over a list that has no key twice, and has the element's key, what the element counts is summed
-  -- once
-  at_its_key : (x : X) → list_any (eq (key x)) ks ≡ true
-      → sum_by (λ k. cond (eq (key x) k) (f x) 0) ks ≡ f x
-  at_its_key x there =
-      sym (sum_by-filter (λ _. f x) (eq (key x)) ks)
-      ∙ sum_by-one (f x) (filter (eq (key x)) ks)
-      (length-filter (eq (key x)) ks ∙ count_by-distinct laws (key x) ks apart
-      ∙ ap (λ b. cond b 1 0) there)
-
-  -- the sums of several elements, each at its key
-  at_their_keys : (xs : List X)
-      → ((x : X) → list_any (λ y. eq (key x) (key y)) xs ≡ true → list_any (eq (key x)) ks ≡ true)
-      → sum_by (λ x. sum_by (λ k. cond (eq (key x) k) (f x) 0) ks) xs ≡ sum_by f xs
-  at_their_keys [] there = refl
-  at_their_keys (x ∷ xs) there =
-      let own =
-      at_its_key x
-      (there x (ap (λ b. b || list_any (λ y. eq (key x) (key y)) xs) (laws.refl (key x)))) in
-      let rest =
-      at_their_keys xs
-      (λ y among.
-      there y (ap (λ b. eq (key y) (key x) || b) among ∙ or-true (eq (key y) (key x)))) in
-      let all = sum_by-cons (λ x. sum_by (λ k. cond (eq (key x) k) (f x) 0) ks) x xs in
-      let numbers = sum_by-cons f x xs in
-      omega arith
-
-  -- the sums of elements at each key are together the sum of all elements
-  pub sum_by-keys : (xs : List X)
-      → ((x : X) → list_any (λ y. eq (key x) (key y)) xs ≡ true → list_any (eq (key x)) ks ≡ true)
-      → sum_by (λ k. sum_by f (filter (λ x. eq (key x) k) xs)) ks ≡ sum_by f xs
-  sum_by-keys xs there =
-      let share : K → X → ℕ = λ k x. cond (eq (key x) k) (f x) 0 in
-      (λ i. sum_by (λ k. sum_by-filter f (λ x. eq (key x) k) xs i) ks)
-      ∙ sum_by-exchange share ks xs
-      ∙ at_their_keys xs there
+use Rattle.book_laws.proofs.Words.{ChargeRow, RowKey, rows_of_centre}
 
 -- the sums of each row over the prices at its key are over all rows the sum of all prices
 pub sum_by-rows : (g : ChargeRow → ℕ) (f : Priced → ℕ) (priced : List Priced)
@@ -112,16 +65,24 @@ module _ (f : Priced → ℕ) (passes : RowKey → Bool) (key : RowKey) where
         | false ↦ λ other. at_one_place priced
       ] refl
 
--- so the rows of a centre sum what is charged to it
+-- so what the rows sum at places that pass a test is what is charged there
+pub sum_by-some_rows : (g : ChargeRow → ℕ) (f : Priced → ℕ) (passes : RowKey → Bool)
+    (priced : List Priced)
+    → ((key : RowKey) → g (row_at priced key) ≡ sum_by f (charged_at priced key))
+    → sum_by (λ row. cond (passes (row_key row)) (g row) 0) (rows_of priced)
+    ≡ sum_by (λ one. cond (passes (key_of one)) (f one) 0) priced
+sum_by-some_rows g f passes priced each =
+    sum_by-rows (λ row. cond (passes (row_key row)) (g row) 0)
+    (λ one. cond (passes (key_of one)) (f one) 0) priced
+    (λ key. ap (λ n. cond (passes key) n 0) (each key) ∙ sym (at_one_place f passes key priced))
+
+-- and the rows of a centre sum what is charged to it
 pub sum_by-centre_rows :
     (g : ChargeRow → ℕ) (f : Priced → ℕ) (centre : List ℕ) (priced : List Priced)
     → ((key : RowKey) → g (row_at priced key) ≡ sum_by f (charged_at priced key))
     → sum_by g (rows_of_centre centre (rows_of priced))
     ≡ sum_by f (filter (λ one. same_bytes one.centre centre) priced)
 sum_by-centre_rows g f centre priced each =
-    let passes : RowKey → Bool = λ key. same_bytes key.centre centre in
     sum_by-filter g (λ row. same_bytes row.centre centre) (rows_of priced)
-    ∙ sum_by-rows (λ row. cond (same_bytes row.centre centre) (g row) 0)
-    (λ one. cond (same_bytes one.centre centre) (f one) 0) priced
-    (λ key. ap (λ n. cond (passes key) n 0) (each key) ∙ sym (at_one_place f passes key priced))
+    ∙ sum_by-some_rows g f (λ key. same_bytes key.centre centre) priced each
     ∙ sym (sum_by-filter f (λ one. same_bytes one.centre centre) priced)

@@ -7,7 +7,7 @@ use Rattle.book_model.proofs.Lemmas.{has_those, books_follow_history}
 use Rattle.book_laws.proofs.Words.{IsReadAlike, one_if, after_all-append, Statement}
 use Rattle.book_laws.specs.HistoryLaws.{IsBalanced}
 use Rattle.book_laws.proofs.ClosedLemmas.{closed_stays}
-use Rattle.book_laws.proofs.ClosedTexts.{period_stays}
+use Rattle.book_laws.proofs.ClosedTexts.{HasSameCentres, centres_stay, period_stays}
 use Rattle.book_laws.proofs.NetLemmas.{charged_once}
 use Rattle.book_laws.proofs.ReadLemmas.{conserved}
 use Rattle.book_reports.specs.BookTexts.{open_statement, report_answer}
@@ -90,9 +90,13 @@ closed_statements_stay naming history run number after closed =
     (next_answered naming history run after) closed in
     let alike : IsReadAlike naming number old (book_after_run history run) =
     subst (IsReadAlike naming number old) (sym (left_after history run)) read in
+    let centres = centres_stay naming run.events history number
+    (next_answered naming history run after) closed in
+    let same : HasSameCentres number old (book_after_run history run) =
+    subst (HasSameCentres number old) (sym (left_after history run)) centres in
     record {
       read = alike;
-      reports = period_stays naming number old (book_after_run history run) alike;
+      reports = period_stays naming number old (book_after_run history run) alike same;
     }
 
 -- the law of the open statement

@@ -1,6 +1,6 @@
 -- The tariffs of a closed period's days stay: those that come later begin after these days.
 use Rattle.std.proofs.Common.{◌≡◌, ℕ, zero, suc, ◌-◌, ◌<◌, List, [], ◌∷◌, ◌++◌, length, get_or}
-use Rattle.std.proofs.Common.{refl, sym, ap, ◌∙◌, subst, true, false, cond, not, Some, None}
+use Rattle.std.proofs.Common.{refl, sym, ap, ◌∙◌, subst, true, false, cond, not, Option, Some, None}
 use Rattle.std.proofs.Common.{append-nil, arith, ℤ, pos, ◌+ℤ◌, ◌<ℤ◌, int_lt, filter, slice_get}
 use Rattle.std.proofs.Common.{MatchOption, if◌then◌else◌, option_map, int_cmp, length-append}
 use Rattle.std.specs.List.Sorted.{IsStrictlySortedBy}
@@ -9,8 +9,9 @@ use Rattle.book_model.proofs.Std.{last_or, ints, filter-append, filter_map-appen
 use Rattle.book_model.proofs.Std.{get_or_from_slice_get, slice_get-get_or, slice_get_within}
 use Rattle.book_model.specs.Words.{AcceptedTerms, Book, Event, Naming, PeriodClosed, after_all}
 use Rattle.book_model.specs.Words.{RulingGiven, Rulings, RulingSeen, TariffAccepted, TariffSeen}
-use Rattle.book_model.specs.Words.{Terms, begins_by, in_force_from, tariff_seen, tariffs_from}
-use Rattle.book_model.specs.Words.{tariffs_in, tariffs_seen, tariffs_through, through_of}
+use Rattle.book_model.specs.Words.{Terms, begins_by, begun_in, in_force_from, tariff_seen}
+use Rattle.book_model.specs.Words.{tariffs_from, tariffs_in, tariffs_seen, tariffs_through}
+use Rattle.book_model.specs.Words.{through_of}
 use Rattle.book_model.proofs.Lemmas.{calls_go_forward, close_at, slice_get-front}
 use Rattle.book_model.proofs.CountedDays.{through_at}
 use Rattle.table_model.proofs.CloseOrder.{earlier as is_earlier, first_earlier}
@@ -70,12 +71,17 @@ tariffs_at k closes tariffs =
     tariffs_through (slice_get closes k)
     (tariffs_from (option_map day_after (close_at closes k)) (tariffs_seen tariffs))
 
+-- the close before it
+before_is : (k : ℕ) (rulings : Rulings)
+    → through_of (suc k - 1) rulings ≡ close_at rulings.closes k
+before_is k rulings =
+    let place : suc k - 1 ≡ k = omega arith in
+    ap (λ n. through_of n rulings) place ∙ through_at k rulings
+
 pub tariffs_are : (k : ℕ) (rulings : Rulings)
     → tariffs_in (suc k) rulings ≡ tariffs_at k rulings.closes rulings.tariffs
 tariffs_are k rulings =
-    let place : suc k - 1 ≡ k = omega arith in
-    let before : through_of (suc k - 1) rulings ≡ close_at rulings.closes k =
-    ap (λ n. through_of n rulings) place ∙ through_at k rulings in
+    let before = before_is k rulings in
     let at = through_at (suc k) rulings in
     λ i. tariffs_through (at i)
     (tariffs_from (option_map day_after (before i)) (tariffs_seen rulings.tariffs))
@@ -112,6 +118,17 @@ from_first closes (suc k) last day text tariffs rising there after =
     ∙ sym (ap (λ close. tariffs_from (option_map day_after close) tariffs ++ one ∷ []) at)
 
 -- and after its last
+late_through : (through : Option ℤ) (last day : ℤ) (text : List ℕ) (front : List RulingSeen)
+    → through ≡ Some last → last <ℤ day
+    → tariffs_through through (front ++ TariffSeen day text ∷ []) ≡ tariffs_through through front
+late_through through last day text front there after =
+    let one : RulingSeen = TariffSeen day text in
+    ap (λ through. tariffs_through through (front ++ one ∷ [])) there
+    ∙ filter-append (begins_by last) front (one ∷ [])
+    ∙ ap (λ b. filter (begins_by last) front ++ cond b (one ∷ []) []) (not_begun last day text after)
+    ∙ append-nil (filter (begins_by last) front)
+    ∙ sym (ap (λ through. tariffs_through through front) there)
+
 tariff_leaves : (closes : List ℤ) (tariffs : List AcceptedTerms) (text : List ℕ) (terms : Terms)
     (k : ℕ) → IsStrictlySortedBy int_cmp closes → k < length closes
     → MatchOption (last_or None closes) (Unit {0}) (λ close. close <ℤ terms.effective)
@@ -121,7 +138,6 @@ tariff_leaves closes tariffs text terms k rising within later =
     let last : ℤ = get_or closes k (pos 0) in
     let there : slice_get closes k ≡ Some last = slice_get-get_or closes k (pos 0) within in
     let after = after_each closes k last terms.effective rising there later in
-    let one : RulingSeen = TariffSeen terms.effective text in
     let accepted : AcceptedTerms = record { text = Some text; terms = terms } in
     let front : List RulingSeen =
     tariffs_from (option_map day_after (close_at closes k)) (tariffs_seen tariffs) in
@@ -130,23 +146,47 @@ tariff_leaves closes tariffs text terms k rising within later =
     (filter_map-append tariff_seen tariffs (accepted ∷ []))
     ∙ ap (tariffs_through (slice_get closes k))
     (from_first closes k last terms.effective text (tariffs_seen tariffs) rising there after)
-    ∙ ap (λ through. tariffs_through through (front ++ one ∷ [])) there
-    ∙ filter-append (begins_by last) front (one ∷ [])
-    ∙ ap (λ b. filter (begins_by last) front ++ cond b (one ∷ []) [])
-    (not_begun last terms.effective text after)
-    ∙ append-nil (filter (begins_by last) front)
-    ∙ sym (ap (λ through. tariffs_through through front) there)
+    ∙ late_through (slice_get closes k) last terms.effective text front there after
 
--- So the tariffs of a closed period stay, whatever calls follow.
+-- the tariffs that begin by the last day of the period after so many closes
+abbrev pub begun_at : ℕ → List ℤ → List AcceptedTerms → List RulingSeen
+begun_at k closes tariffs = tariffs_through (slice_get closes k) (tariffs_seen tariffs)
+
+begun_are : (k : ℕ) (rulings : Rulings)
+    → begun_in (suc k) rulings ≡ begun_at k rulings.closes rulings.tariffs
+begun_are k rulings =
+    ap (λ through. tariffs_through through (tariffs_seen rulings.tariffs)) (through_at (suc k) rulings)
+
+-- one more tariff is none of them
+tariff_comes_late : (closes : List ℤ) (tariffs : List AcceptedTerms) (text : List ℕ) (terms : Terms)
+    (k : ℕ) → IsStrictlySortedBy int_cmp closes → k < length closes
+    → MatchOption (last_or None closes) (Unit {0}) (λ close. close <ℤ terms.effective)
+    → begun_at k closes (tariffs ++ record { text = Some text; terms = terms } ∷ [])
+    ≡ begun_at k closes tariffs
+tariff_comes_late closes tariffs text terms k rising within later =
+    let last : ℤ = get_or closes k (pos 0) in
+    let there : slice_get closes k ≡ Some last = slice_get-get_or closes k (pos 0) within in
+    let after = after_each closes k last terms.effective rising there later in
+    let accepted : AcceptedTerms = record { text = Some text; terms = terms } in
+    ap (tariffs_through (slice_get closes k))
+    (filter_map-append tariff_seen tariffs (accepted ∷ []))
+    ∙ late_through (slice_get closes k) last terms.effective text (tariffs_seen tariffs) there after
+
+-- So the tariffs of a closed period stay, those that begin by its last day, and the close before it,
+-- whatever calls follow.
 pub record KeepsTariffs (k : ℕ) (old new : Book) : Type 0 where
   pub within : k < length new.rulings.closes
   pub same : tariffs_at k new.rulings.closes new.rulings.tariffs
       ≡ tariffs_at k old.rulings.closes old.rulings.tariffs
+  pub begun : begun_at k new.rulings.closes new.rulings.tariffs
+      ≡ begun_at k old.rulings.closes old.rulings.tariffs
+  pub before : close_at new.rulings.closes k ≡ close_at old.rulings.closes k
 
 pub keeps_tariffs : (naming : Naming) (later : List Event) (start : Book) (k : ℕ)
     → IsStrictlySortedBy int_cmp start.rulings.closes → AreMadeOf naming start later
     → k < length start.rulings.closes → KeepsTariffs k start (after_all later start)
-keeps_tariffs naming [] start k rising made within = record { within = within; same = refl }
+keeps_tariffs naming [] start k rising made within =
+    record { within = within; same = refl; begun = refl; before = refl }
 keeps_tariffs naming (PeriodClosed day ∷ later) start k rising made within =
     let before = keeps_tariffs naming later start k rising made.1 within in
     let book : Book = after_all later start in
@@ -155,17 +195,28 @@ keeps_tariffs naming (PeriodClosed day ∷ later) start k rising made within =
       within = omega arith;
       same = close_leaves book.rulings.closes book.rulings.tariffs day k before.within
           ∙ before.same;
+      begun =
+          ap (λ through. tariffs_through through (tariffs_seen book.rulings.tariffs))
+          (slice_get-front book.rulings.closes day k before.within)
+          ∙ before.begun;
+      before = before_stays book.rulings.closes day k before.within ∙ before.before;
     }
 keeps_tariffs naming (RulingGiven (TariffAccepted (Some text) terms) ∷ later) start k rising made
     within =
     let before = keeps_tariffs naming later start k rising made.1 within in
-    let book : Book = after_all later start in record {
+    let book : Book = after_all later start in
+    let rise = rise_later naming later start rising made.1 in
+    let forward = calls_go_forward.tariff book text terms made.0 in record {
       within = before.within;
       same =
-          tariff_leaves book.rulings.closes book.rulings.tariffs text terms k
-          (rise_later naming later start rising made.1) before.within
-          (calls_go_forward.tariff book text terms made.0)
+          tariff_leaves book.rulings.closes book.rulings.tariffs text terms k rise before.within
+          forward
           ∙ before.same;
+      begun =
+          tariff_comes_late book.rulings.closes book.rulings.tariffs text terms k rise
+          before.within forward
+          ∙ before.begun;
+      before = before.before;
     }
 keeps_tariffs naming (RulingGiven (TariffAccepted None terms) ∷ later) start k rising made within =
     let before = keeps_tariffs naming later start k rising made.1 within in
@@ -173,7 +224,12 @@ keeps_tariffs naming (RulingGiven (TariffAccepted None terms) ∷ later) start k
     absurd (omega arith)
 keeps_tariffs naming (event ∷ later) start k rising made within =
     let before = keeps_tariffs naming later start k rising made.1 within in
-    record { within = before.within; same = before.same }
+    record {
+      within = before.within;
+      same = before.same;
+      begun = before.begun;
+      before = before.before;
+    }
 
 pub tariffs_stay : (naming : Naming) (later : List Event) (old : Book) (k : ℕ)
     → IsStrictlySortedBy int_cmp old.rulings.closes → AreMadeOf naming old later
@@ -183,3 +239,21 @@ tariffs_stay naming later old k rising made within =
     tariffs_are k (after_all later old).rulings
     ∙ (keeps_tariffs naming later old k rising made within).same
     ∙ sym (tariffs_are k old.rulings)
+
+pub begun_stay : (naming : Naming) (later : List Event) (old : Book) (k : ℕ)
+    → IsStrictlySortedBy int_cmp old.rulings.closes → AreMadeOf naming old later
+    → k < length old.rulings.closes
+    → begun_in (suc k) (after_all later old).rulings ≡ begun_in (suc k) old.rulings
+begun_stay naming later old k rising made within =
+    begun_are k (after_all later old).rulings
+    ∙ (keeps_tariffs naming later old k rising made within).begun
+    ∙ sym (begun_are k old.rulings)
+
+pub before_same : (naming : Naming) (later : List Event) (old : Book) (k : ℕ)
+    → IsStrictlySortedBy int_cmp old.rulings.closes → AreMadeOf naming old later
+    → k < length old.rulings.closes
+    → through_of (suc k - 1) (after_all later old).rulings ≡ through_of (suc k - 1) old.rulings
+before_same naming later old k rising made within =
+    before_is k (after_all later old).rulings
+    ∙ (keeps_tariffs naming later old k rising made within).before
+    ∙ sym (before_is k old.rulings)

@@ -5,7 +5,7 @@ use Rattle.book_model.specs.declared.fault.LedgerFault.{LedgerFault}
 use Rattle.book_model.specs.Words.{Book, Event, IsMadeByCalls, Naming, after_all, book_after}
 use Rattle.table_model.specs.Readable.{IsReadable}
 use Rattle.book_reports.specs.declared.report.PeriodReport.{PeriodReport}
-use Rattle.book_reports.specs.declared.report.Report.TheVariants.{Bill, OfPeriod}
+use Rattle.book_reports.specs.declared.report.Report.TheVariants.{Bill, BillPage, OfPeriod}
 use Rattle.book_reports.specs.declared.streamed_details.DetailReport.{DetailReport}
 use Rattle.book_reports.specs.declared.what_if.StatementForm.{StatementForm}
 use Rattle.book_reports.specs.declared.what_if.WhatIf.{WhatIf}
@@ -29,8 +29,8 @@ IsFinalInBooks naming number answer =
     → IsClosed number book → answer (after_all later book) ≡ answer book
 
 -- So it is with these texts about a closed period, of the office and of each centre, as a list and as
--- a table: its statement and its adjustments, its bill, its details, and what it would have cost by
--- another tariff; also after choices, the second rule of identity and tariffs that come late.
+-- a table: its statement and its adjustments, its bill, also as a page, its details, and what it would
+-- have cost by another tariff; also after choices, the second rule of identity and tariffs that come late.
 pub record TextsStay (Final : Naming → ℕ → (Book → Result (List ℕ) LedgerFault) → Type 0)
     : Type 0 where
   pub reports :
@@ -39,6 +39,9 @@ pub record TextsStay (Final : Naming → ℕ → (Book → Result (List ℕ) Led
   pub bills :
       (naming : Naming) (form : StatementForm) (number : ℕ) (centre : Option (List ℕ))
       → Final naming number (report_answer naming (Bill form number centre))
+  pub bill_pages :
+      (naming : Naming) (number : ℕ) (centre : Option (List ℕ))
+      → Final naming number (report_answer naming (BillPage number centre))
   pub details :
       (naming : Naming) (wanted : DetailReport)
       → Final naming wanted.period (detail_answer wanted naming)

@@ -27,6 +27,8 @@ pub mod KeptDetails
 pub mod DetailStays
 pub mod CoverageLaws
 pub mod BillLaws
+pub mod BookedLaws
+pub mod CheckLaws
 pub mod FocusLaws
 pub mod TariffLaws
 pub mod PageLaws

@@ -13,6 +13,7 @@ use Rattle.page_texts.specs.OfficePage.{office_row}
 use Rattle.page_texts.specs.PeriodHead.{period_head, period_title}
 use Rattle.table_model.specs.Readable.{IsReadable}
 use Rattle.book_reports.specs.BookTexts.{report_answer}
+use Rattle.book_reports.specs.Pages.{letterhead_of_period}
 use Rattle.book_reports.specs.declared.report.PeriodReport.TheVariants.{AdjustmentList, Statement}
 use Rattle.book_reports.specs.declared.report.Report.TheVariants.{OfPeriod, OfficePage, PeriodPage}
 
@@ -45,7 +46,8 @@ pub record AreShown (naming : Naming) (book : Book) (number : ℕ) (figures : Fi
         EndsWith (adjustments_end figures)
         (report_answer naming (OfPeriod AdjustmentList number None) book)
     pub page : HasPart
-        (period_head (period_title number) (close_of number book.rulings.closes) figures)
+        (period_head (letterhead_of_period number book).office (period_title number)
+        (close_of number book.rulings.closes) figures)
         (report_answer naming (PeriodPage number) book)
     pub office : number ≤ period_open book
         → HasPart (office_row number (close_of number book.rulings.closes) figures)

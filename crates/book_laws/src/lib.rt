@@ -1,6 +1,7 @@
 //! Laws of the books: whole histories, runs of requests, and single calls.
 #![tactic(auto)]
 
+mod bill_checks;
 mod bills;
 mod calls;
 mod centres;
@@ -15,6 +16,7 @@ mod runs;
 mod tariffs;
 mod works;
 
+pub use bill_checks::{billed_rows_check, booked_add_up, lines_add_up, shifts_price};
 pub use bills::{
     billed_lines_have_periods, billed_tariffs_price, billed_tariffs_rule, bills_add_up,
     bills_split_statements, closed_bills_stay, held_back_bounds,

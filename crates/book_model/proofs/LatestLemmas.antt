@@ -84,6 +84,24 @@ latest-passes p q (tariff ∷ tariffs) found all is =
       | false ↦ λ is. latest-passes p q tariffs found others is
     ] is
 
+-- and that one itself
+pub latest-own : (p : AcceptedTerms → Bool) (tariffs : List AcceptedTerms) (found : AcceptedTerms)
+    → latest (filter p tariffs) ≡ Some found → p found ≡ true
+latest-own p [] found is = cc
+latest-own p (tariff ∷ tariffs) found is =
+    by (p tariff) refl (λ other at. latest-own p tariffs other at) is
+  where
+    by : (b : Bool) → p tariff ≡ b
+        → ((other : AcceptedTerms) → latest (filter p tariffs) ≡ Some other → p other ≡ true)
+        → latest (cond b (tariff ∷ filter p tariffs) (filter p tariffs)) ≡ Some found
+        → p found ≡ true
+    by true own later is =
+        let latest_one : AcceptedTerms =
+        option_map_or (later_of tariff) (latest (filter p tariffs)) tariff in
+        let same : latest_one ≡ found = cc in
+        ap p (sym same) ∙ either-passes p tariff (latest (filter p tariffs)) own later
+    by false own later is = later found is
+
 -- a tariff that begins before the others is the latest only where there are no others
 first-latest : (tariff : AcceptedTerms) (others : Option AcceptedTerms)
     → ((found : AcceptedTerms) → others ≡ Some found → precedes tariff found ≡ true)

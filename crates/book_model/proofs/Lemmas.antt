@@ -8,6 +8,7 @@ pub use Rattle.book_model.proofs.DayLemmas.{day_fits, day_kept}
 pub use Rattle.book_model.proofs.DetailOrder.{by_detail_total}
 pub use Rattle.book_model.proofs.FilterLemmas.{Apart, entries-sorted, no_length}
 pub use Rattle.book_model.proofs.FilterMapLemmas.{find-none, map-filter_map}
+pub use Rattle.book_model.proofs.KeyLemmas.{joined, joined_all, sum_by-keys}
 pub use Rattle.book_model.proofs.LatestLemmas.{begun-last, later-before, later_price, rising-behind}
 pub use Rattle.book_model.proofs.LineOrder.{by_line_total, line_by, line_of}
 pub use Rattle.book_model.proofs.ListLemmas.{count_by-distinct, filter-agree, filter-filter}

@@ -6,6 +6,7 @@ pub mod ListLemmas
 pub mod SumsAlike
 pub mod SumLemmas
 pub mod SetLemmas
+pub mod KeyLemmas
 pub mod RecordSets
 pub mod MapLemmas
 pub mod FilterMapLemmas
@@ -41,5 +42,6 @@ pub mod OrderLemmas
 pub mod DetailOrder
 pub mod DetailLemmas
 pub mod CountedDays
+pub mod KnownCentreLemmas
 pub mod Std
 pub mod Lemmas

@@ -4,15 +4,19 @@
 use Rattle.std.specs.Prelude.{ℕ, ◌-◌, nat_lt, min, max, ℤ, pos, ◌+ℤ◌, int_lt, Bool, true, false}
 use Rattle.std.specs.Prelude.{not, ◌&&◌, if◌then◌else◌, List, [], ◌∷◌, filter, length, map, sum_by}
 use Rattle.std.specs.Prelude.{Option, Some, None, is_some, unwrap_or, filter_map, ok_or}
-use Rattle.std.specs.Prelude.{option_and_then, option_map}
-use Rattle.book_model.specs.Std.{last_or, list_any, reduce, option_map_or, result_ok}
+use Rattle.std.specs.Prelude.{flat_map, option_and_then, option_map}
+use Rattle.book_model.specs.Std.{Ordering, last_or, list_any, nat_cmp, ordering_then, reduce}
+use Rattle.book_model.specs.Std.{option_map_or, result_ok}
 use Rattle.tariff_rules.specs.Letterhead.{LetterheadSeen, letterhead_in, letterhead_shown}
 use Rattle.tariff_rules.specs.Letterhead.{no_letterhead}
+use Rattle.tariff_rules.specs.Price.{base_shift}
 use Rattle.tariff_rules.specs.TariffFile.{terms_in}
 use Rattle.tariff_rules.specs.Terms.{Terms}
 use Rattle.tariff_rules.specs.declared.priced.Priced.{Priced}
+use Rattle.tariff_rules.specs.declared.shift.Shift.{Shift}
 use Rattle.book_model.specs.declared.bill.Bill.{Bill}
 use Rattle.book_model.specs.declared.bill.BilledLine.{BilledLine}
+use Rattle.book_model.specs.declared.bill.BilledShift.{BilledShift}
 use Rattle.book_model.specs.declared.bill.BilledTariff.{BilledTariff}
 use Rattle.book_model.specs.declared.bill.HeldBack.{HeldBack}
 use Rattle.book_model.specs.declared.detail.Detail.{Detail}
@@ -21,7 +25,8 @@ use Rattle.book_model.specs.declared.fault.LedgerFault.TheVariants.{NoSuchPeriod
 use Rattle.book_model.specs.declared.line.Line.{Line}
 use Rattle.book_model.specs.declared.row.ChargeRow.{ChargeRow}
 use Rattle.book_model.specs.declared.trail.Turn.{Turn}
-use Rattle.book_model.specs.Records.{Naming, same_bytes}
+use Rattle.book_model.specs.Sets.{members, set_of}
+use Rattle.book_model.specs.Records.{Naming, by_bytes, same_bytes}
 use Rattle.book_model.specs.Rulings.{Rulings}
 use Rattle.book_model.specs.Rows.{rows_of}
 use Rattle.book_model.specs.Lines.{lines_of}
@@ -35,13 +40,16 @@ use Rattle.book_model.specs.Details.{details_asked, details_of}
 use Rattle.book_model.specs.Lives.{is_charge}
 use Rattle.book_model.specs.Trails.{TrailSeen, trail_outcome}
 
--- the rows of steps and of jobs, the lines, what is held back, the tariffs, and the letterhead
+-- the rows of steps and of jobs, the lines, what is held back, the close before the period, the
+-- tariffs, their shifts, and the letterhead
 pub record BillSeen : Type 0 where
   pub steps : List ChargeRow
   pub jobs : List ChargeRow
   pub lines : List BilledLine
   pub held_back : Option HeldBack
+  pub before : Option ℤ
   pub tariffs : List BilledTariff
+  pub shifts : List BilledShift
   pub letterhead : LetterheadSeen
 
 -- a bill as it is gathered
@@ -51,7 +59,9 @@ bill_shown bill = record {
   jobs = bill.work.jobs.items;
   lines = bill.lines.items;
   held_back = bill.held_back;
+  before = bill.before;
   tariffs = bill.tariffs.items;
+  shifts = bill.shifts.items;
   letterhead = letterhead_shown bill.letterhead;
 }
 
@@ -186,6 +196,27 @@ abbrev pub billed_tariff : RulingSeen → Option BilledTariff
 billed_tariff (TariffSeen day text) = option_map (tariff_by day) (result_ok (terms_in text))
 billed_tariff other = None
 
+-- shifts by name, then by percent
+abbrev pub by_shift : Shift → Shift → Ordering
+by_shift a b = ordering_then (by_bytes a.name b.name) (nat_cmp a.percent b.percent)
+
+-- the shifts of a tariff with their percents: those of its rules, and BASE, each once, by name
+abbrev pub shifts_of : Terms → List Shift
+shifts_of terms =
+    members (set_of by_shift (base_shift ∷ map (λ rule. rule.shift) terms.shifts))
+
+-- a shift of a tariff that begins on a day, and all of them
+abbrev pub billed_shift : ℤ → Shift → BilledShift
+billed_shift day shift = record { day = day; shift = shift.name; percent = shift.percent }
+
+abbrev pub shifts_by : ℤ → Terms → List BilledShift
+shifts_by day terms = map (billed_shift day) (shifts_of terms)
+
+-- the same of a ruling of the list, where it is a tariff's text
+abbrev pub billed_shifts : RulingSeen → List BilledShift
+billed_shifts (TariffSeen day text) = option_map_or (shifts_by day) (result_ok (terms_in text)) []
+billed_shifts other = []
+
 -- its letterhead
 abbrev pub letterhead_by : RulingSeen → LetterheadSeen
 letterhead_by (TariffSeen day text) = letterhead_in text
@@ -206,7 +237,9 @@ bill_of naming book number centre period =
       jobs = work_rows (jobs_of details);
       lines = billed_lines naming book number centre (lines_of naming book.rulings period);
       held_back = held_back_of naming book number centre;
+      before = through_of (number - 1) book.rulings;
       tariffs = filter_map billed_tariff tariffs;
+      shifts = flat_map billed_shifts tariffs;
       letterhead = letterhead_among tariffs;
     }
 

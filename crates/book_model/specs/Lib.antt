@@ -3,9 +3,9 @@
 -- lines and disputes that are read, and the rows by another tariff; the book, which records it
 -- counts, and the events that change it; what is answered to a record and to a ruling, how rulings
 -- are listed, how books are asked for them, and what each call is; the details of a period; the life
--- of a record and its trail; the bill of a period; what a whole history defines, which histories
--- calls make, and how a history is cut at its rulings; what is always true of a book; and laws. Then
--- the answers and the faults of a ledger.
+-- of a record and its trail; the bill of a period, and which centres are there; what a whole history
+-- defines, which histories calls make, and how a history is cut at its rulings; what is always true
+-- of a book; and laws. Then the answers and the faults of a ledger.
 pub mod Sets
 pub mod Records
 pub mod Limits
@@ -29,6 +29,7 @@ pub mod Details
 pub mod Lives
 pub mod Trails
 pub mod Bills
+pub mod KnownCentres
 pub mod History
 pub mod MadeByCalls
 pub mod RecordBatches

@@ -3,7 +3,7 @@ use Rattle.std.specs.Prelude.{Bool, true, false, ℕ, List, ◌++◌, ◌<◌, �
 use Rattle.std.specs.Prelude.{option_map, filter_map}
 use Rattle.book_model.specs.Std.{Ordering, Less, Equal, Greater, int_cmp, ordering_then}
 use Rattle.smf_text.specs.Day.{IsDay}
-use Rattle.smf_type30.specs.Usage.{job_of}
+use Rattle.smf_type30.specs.Usage.{ended_step_of, job_id_of, job_of, program_of}
 use Rattle.tariff_rules.specs.declared.priced.Priced.{Priced}
 use Rattle.book_model.specs.declared.line.Line.{Line}
 use Rattle.book_model.specs.Sets.{set_of, members}
@@ -13,8 +13,15 @@ use Rattle.book_model.specs.Periods.{Period}
 
 -- a line of a record, a plus or a minus, by the record's name and by what it costs
 abbrev pub line_with : Bool → List ℕ → List ℕ → Priced → Line
-line_with plus name bytes priced =
-    record { plus = plus; name = name; job = job_of bytes; priced = priced }
+line_with plus name bytes priced = record {
+  plus = plus;
+  name = name;
+  job = job_of bytes;
+  program = program_of bytes;
+  job_id = job_id_of bytes;
+  step = ended_step_of bytes;
+  priced = priced;
+}
 
 -- the line of a record, where it has a price
 abbrev pub line_for : Naming → Rulings → Bool → List ℕ → Option Line

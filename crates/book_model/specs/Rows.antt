@@ -43,6 +43,10 @@ row_at priced key = record {
 abbrev pub keys_of : List Priced → List RowKey
 keys_of priced = members (set_of by_key (map key_of priced))
 
+-- where a row is charged
+abbrev pub row_key : ChargeRow → RowKey
+row_key row = record { day = row.day; centre = row.centre; shift = row.shift }
+
 -- a row for each of them
 abbrev pub rows_of : List Priced → List ChargeRow
 rows_of priced = map (row_at priced) (keys_of priced)

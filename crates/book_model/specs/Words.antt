@@ -51,7 +51,7 @@ pub use Rattle.book_model.specs.Charged.{is_chosen, is_dated_after, is_dated_thr
 pub use Rattle.book_model.specs.Charged.{is_unrivalled, last_chosen, share_identity}
 pub use Rattle.book_model.specs.Periods.{Period, period_by}
 pub use Rattle.book_model.specs.Rows.{AreRows, FitSums, by_key, charged_at, key_of, keys_of, row_at}
-pub use Rattle.book_model.specs.Rows.{rows_for, rows_of, same_key}
+pub use Rattle.book_model.specs.Rows.{row_key, rows_for, rows_of, same_key}
 pub use Rattle.book_model.specs.Lines.{AreLines, by_line, line_with, lines_for, lines_of, plus_first}
 pub use Rattle.book_model.specs.Disputes.{AreDisputes, Disputed, IsDispute, ShowsDispute, by_name}
 pub use Rattle.book_model.specs.Disputes.{dispute_at, dispute_from, dispute_shown, disputes_in}
@@ -94,13 +94,16 @@ pub use Rattle.book_model.specs.Trails.{IsTrail, TrailSeen, choice_named, choice
 pub use Rattle.book_model.specs.Trails.{reckoning_in, trail_by, trail_of, trail_outcome}
 pub use Rattle.book_model.specs.Trails.{trail_shown}
 pub use Rattle.book_model.specs.Bills.{BillSeen, amount_for, begins_by, bill_of, bill_outcome}
-pub use Rattle.book_model.specs.Bills.{bill_shown, billed_line, billed_lines, billed_tariff}
+pub use Rattle.book_model.specs.Bills.{bill_shown, billed_line, billed_lines, billed_shift}
+pub use Rattle.book_model.specs.Bills.{billed_shifts, billed_tariff, by_shift, shifts_by, shifts_of}
 pub use Rattle.book_model.specs.Bills.{charged_before, disputes_for, first_day_of, greatest_for}
 pub use Rattle.book_model.specs.Bills.{held_back_in, held_back_of, in_force_from, is_paid_by}
 pub use Rattle.book_model.specs.Bills.{is_step, jobs_of, least_for, letterhead_among, letterhead_by}
 pub use Rattle.book_model.specs.Bills.{line_alone}
 pub use Rattle.book_model.specs.Bills.{period_by_trail, period_of_line, steps_of, tariff_by}
 pub use Rattle.book_model.specs.Bills.{tariffs_from, tariffs_in, tariffs_through, work_rows}
+pub use Rattle.book_model.specs.KnownCentres.{begun_in, is_centre, names_centre, of_centre}
+pub use Rattle.book_model.specs.KnownCentres.{text_names}
 pub use Rattle.book_model.specs.History.{book_after, book_of, charged_in, closes, day_of_close}
 pub use Rattle.book_model.specs.History.{held_before, period_after, periods, rulings}
 pub use Rattle.book_model.specs.MadeByCalls.{AreMadeOf, IsAnswered, IsMadeByCalls}

@@ -1,5 +1,6 @@
 use crate::line::Line;
 use crate::row::ChargeRow;
+use smf_text::Name;
 use tariff_rules::{Letterhead, Rates};
 
 /// The charge rows of a period's records, those of steps and those of jobs apart.
@@ -41,6 +42,16 @@ pub struct BilledTariff {
     pub job: Rates,
 }
 
+/// A shift of such a tariff, with its percent.
+#[derive(Clone, Copy)]
+pub struct BilledShift {
+    /// The first day of the tariff, in days since 1970-01-01.
+    pub day: i32,
+    pub shift: Name,
+    /// In percent of the tariff's rates.
+    pub percent: u16,
+}
+
 /// The bill of a period, for a centre or for the whole office.
 #[derive(Drop)]
 pub struct Bill {
@@ -50,8 +61,12 @@ pub struct Bill {
     /// A closed period holds nothing back: what is decided later comes late in the period that is
     /// open then.
     pub held_back: Option<HeldBack>,
+    /// The day that the period before was closed through, if there is one.
+    pub before: Option<i32>,
     /// In the order of their days.
     pub tariffs: Vec<BilledTariff>,
+    /// Those of these tariffs, of each in the order of their names.
+    pub shifts: Vec<BilledShift>,
     /// That of the last of these tariffs.
     pub letterhead: Letterhead,
 }

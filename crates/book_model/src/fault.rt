@@ -67,6 +67,9 @@ pub enum LedgerFault {
     /// No tariff that came as a text begins on that day.
     #[error("no tariff begins on that day")]
     NoSuchTariff,
+    /// No tariff has a rule for the centre.
+    #[error("no such centre")]
+    NoSuchCentre,
 }
 
 impl LedgerFault {
@@ -94,6 +97,7 @@ impl LedgerFault {
             LedgerFault::OldForm => 17,
             LedgerFault::NewForm => 18,
             LedgerFault::NoSuchTariff => 19,
+            LedgerFault::NoSuchCentre => 20,
         }
     }
 }

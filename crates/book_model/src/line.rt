@@ -9,6 +9,12 @@ pub struct Line {
     pub name: [u8; 32],
     /// In code page 037, as it is in the record.
     pub job: [u8; 8],
+    /// In code page 037, as it is in the record.
+    pub program: [u8; 8],
+    /// In code page 037, as it is in the record.
+    pub job_id: [u8; 8],
+    /// The number of the step that ended, none where a job ended.
+    pub step: Option<u16>,
     /// What the record costs.
     pub priced: Priced,
 }

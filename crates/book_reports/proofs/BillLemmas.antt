@@ -6,12 +6,14 @@ use Rattle.book_model.specs.Words.{details_of, lines_of, period_of}
 use Rattle.book_lists.proofs.CursorLemmas.{refused_back}
 use Rattle.book_reports.specs.declared.bill_tariffs.KeptTariffs.{KeptTariffs}
 use Rattle.book_reports.specs.declared.bill_work.PeriodWork.{PeriodWork}
+use Rattle.book_reports.specs.declared.period_days.PeriodDays.{PeriodDays}
 use Rattle.book_reports.proofs.Words.{BilledLine, HeldBack, Detail, LedgerFault, NoSuchPeriod}
 use Rattle.book_reports.proofs.Words.{shown_by, same_value, billed_outcome, tariffs_outcome}
 use Rattle.book_reports.proofs.Words.{tariffs_shown, work_outcome, work_seen, work_shown}
 use Rattle.book_reports.proofs.Words.{closed_through}
 use Rattle.book_reports.specs.Bills.{PeriodBillSeen, bill_with, period_bill_outcome}
 use Rattle.book_reports.specs.HeldBack.{held_back_outcome}
+use Rattle.book_reports.specs.PeriodDays.{days_outcome}
 
 -- of a period that is not there nothing is answered
 pub unanswered : {A B : Type 0} (f : Period → A) (show : Period → B) (found : Option Period)
@@ -47,28 +49,34 @@ module _ (naming : Naming) (number : ℕ) (centre : Option (List ℕ)) (book : B
         (refused_back (billed_lines naming book number centre) _ fault is))
 
 -- the bill that is made of all its parts
-abbrev bill_made : PeriodWork → List BilledLine → Option HeldBack → KeptTariffs → PeriodBillSeen
-bill_made work lines held kept = record {
+abbrev bill_made :
+    PeriodWork → List BilledLine → Option HeldBack → PeriodDays → KeptTariffs → PeriodBillSeen
+bill_made work lines held days kept = record {
   through = work.through;
   bill = record {
     steps = (work_shown work).steps;
     jobs = (work_shown work).jobs;
     lines = lines;
     held_back = held;
+    before = days.before;
     tariffs = (tariffs_shown kept).tariffs;
+    shifts = (tariffs_shown kept).shifts;
     letterhead = (tariffs_shown kept).letterhead;
   };
 }
 
 -- is what a book answers that answered these
 pub bill_known : (naming : Naming) (number : ℕ) (centre : Option (List ℕ)) (work : PeriodWork)
-    (lines : List BilledLine) (held : Option HeldBack) (kept : KeptTariffs) (book : Book)
+    (lines : List BilledLine) (held : Option HeldBack) (days : PeriodDays) (kept : KeptTariffs)
+    (book : Book)
     → (work_outcome naming number centre book).answer ≡ Ok (work_shown work)
     → (billed_outcome naming number centre book).answer ≡ Ok lines
     → (held_back_outcome naming number centre book).answer ≡ Ok held
+    → (days_outcome number book).answer ≡ Ok days
     → (tariffs_outcome number book).answer ≡ Ok (tariffs_shown kept)
-    → (period_bill_outcome naming number centre book).answer ≡ Ok (bill_made work lines held kept)
-bill_known naming number centre work lines held kept book worked lined holds keeps =
+    → (period_bill_outcome naming number centre book).answer
+    ≡ Ok (bill_made work lines held days kept)
+bill_known naming number centre work lines held days kept book worked lined holds between keeps =
     by (period_of book number) worked lined
   where
     its_details : Period → List Detail
@@ -83,12 +91,13 @@ bill_known naming number centre work lines held kept book worked lined holds kee
         ≡ Ok lines
         → shown_by (bill_with (closed_through book number))
         (ok_or (option_map (bill_of naming book number centre) found) NoSuchPeriod)
-        ≡ Ok (bill_made work lines held kept)
+        ≡ Ok (bill_made work lines held days kept)
     by None worked lined = cc worked
     by (Some period) worked lined =
         let of_work = same_value worked in
         let of_lines = same_value lined in
         let of_held = same_value holds in
+        let of_days = same_value between in
         let of_tariffs = same_value keeps in
         λ i. Ok (record {
           through = (of_work i).through;
@@ -97,7 +106,9 @@ bill_known naming number centre work lines held kept book worked lined holds kee
             jobs = (of_work i).jobs;
             lines = of_lines i;
             held_back = of_held i;
+            before = (of_days i).before;
             tariffs = (of_tariffs i).tariffs;
+            shifts = (of_tariffs i).shifts;
             letterhead = (of_tariffs i).letterhead;
           };
         })

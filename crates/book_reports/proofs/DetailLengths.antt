@@ -7,12 +7,13 @@ use Rattle.book_reports.specs.declared.detail_lengths.Counted.{Counted}
 use Rattle.book_reports.specs.declared.streamed_details.DetailReport.{DetailReport}
 use Rattle.book_reports.proofs.Words.{Detail, LedgerFault, Memory, Folds, map_same, by_names}
 use Rattle.book_reports.proofs.Words.{answers, answers_none, both_shown, refused_next, shown}
-use Rattle.book_reports.proofs.Words.{then_stays, same_value, closed_through}
-use Rattle.book_reports.proofs.Words.{closed_through_outcome, shown_by, details_end, details_head}
-use Rattle.book_reports.proofs.Words.{details_part, details_text, sums_of}
+use Rattle.book_reports.proofs.Words.{then_stays, closed_through, shown_by, details_end}
+use Rattle.book_reports.proofs.Words.{details_head, details_part, details_text, sums_of}
 use Rattle.book_reports.specs.DetailLengths.{AreCounted}
+use Rattle.book_reports.specs.KnownCentres.{known_through_outcome}
 use Rattle.book_reports.specs.StreamedDetails.{detail_length_outcome}
-use Rattle.book_reports.proofs.DetailLemmas.{whole_text}
+use Rattle.book_reports.proofs.DetailLemmas.{details_told, whole_text}
+use Rattle.book_reports.proofs.KnownCentreLemmas.{its_day}
 
 -- with what stands above and below these are the bytes of the text
 whole_size : (report : DetailReport) (through : Option ℤ) (counted : Counted) (details : List Detail)
@@ -30,7 +31,8 @@ whole_size report through counted details above whole are high is =
 
 module _ (report : DetailReport) {old mid new : Seen} {through : Option ℤ}
     {read : Result Counted LedgerFault}
-    (day : IsCall (λ day. day) old mid (Ok through) (closed_through_outcome report.period))
+    (day : IsCall (λ day. day) old mid (Ok through)
+    (known_through_outcome report.period report.centre))
     (it : Folds (λ detail. detail) mid new
     (λ book. (details_outcome mid.naming report.period report.centre book).answer) (AreCounted report)
     read)
@@ -47,7 +49,8 @@ module _ (report : DetailReport) {old mid new : Seen} {through : Option ℤ}
     size_refused fault is =
         refused_next (Err fault) refl (λ book. refl) (λ book. refl)
         (λ book known said. ap (shown_by length)
-        (ap (shown_by (details_text report (closed_through book report.period))) said))
+        (details_told report old.naming book through known
+        ∙ ap (shown_by (details_text report (closed_through book report.period))) said))
         (shown (λ book. refl) day)
         (subst (λ read. IsCall (λ counted. map (λ detail. detail) it.items) mid new read
         (details_outcome old.naming report.period report.centre)) is its_call)
@@ -78,9 +81,10 @@ module _ (report : DetailReport) {old mid new : Seen} {through : Option ℤ}
       size_ended (Ok size) above high whole plain =
           answers size (λ book. refl)
           (λ book both.
-          ap (λ answer. shown_by length (shown_by (details_text report (closed_through book report.period)) answer))
+          ap (shown_by length) (details_told report old.naming book through both.first)
+          ∙ ap (λ answer. shown_by length (shown_by (details_text report (closed_through book report.period)) answer))
           both.next
-          ∙ (λ i. Ok (length (details_text report (same_value both.first i)
+          ∙ (λ i. Ok (length (details_text report (its_day report.period report.centre book through both.first i)
           (sym (map_same it.items) i))))
           ∙ ap Ok (sym (whole_size report through counted it.items above size
           (subst (λ read. IfOk read (λ counted. AreCounted report counted it.items)) is it.has) high

@@ -1,20 +1,13 @@
 -- The table of a period, whose parts are read from one book.
-use Rattle.std.proofs.Common.{◌≡◌, ℕ, ℤ, All, List, Option, Some, None, Ok, Err, slice_get, subst}
+use Rattle.std.proofs.Common.{◌≡◌, ℕ, ℤ, List, Option, Some, None, Ok, Err}
 use Rattle.std.proofs.Common.{ok_or, option_map}
 use Rattle.book_model.specs.Words.{Book, Naming, Period, adjustments_outcome, charges_outcome}
 use Rattle.book_model.specs.Words.{lines_of, period_of, periods_outcome, rows_for}
-use Rattle.book_model.proofs.Std.{get_or_from_slice_get, slice_get_within}
 use Rattle.book_reports.specs.declared.bill_tariffs.KeptTariffs.{KeptTariffs}
 use Rattle.book_reports.proofs.Words.{LedgerFault, NoSuchPeriod, Line, ChargeRow, same_value}
 use Rattle.book_reports.proofs.Words.{tariffs_outcome, tariffs_shown}
 use Rattle.book_reports.specs.FocusReports.{focus_of, focus_outcome, focus_with}
 use Rattle.book_reports.proofs.BillLemmas.{unanswered}
-
--- what is found in a list is as all of it are
-pub found_as_all : {X : Type 0} (P : X → Type 0) (xs : List X) → All P xs → (i : ℕ) (x : X)
-    → slice_get xs i ≡ Some x → P x
-found_as_all P xs all i x is =
-    subst P (get_or_from_slice_get xs i x x is) (all i x (slice_get_within xs i x is))
 
 module _ (naming : Naming) (number : ℕ) (book : Book) where
   -- where its rows or its lines are refused, the table is

@@ -1,11 +1,15 @@
 -- The tariffs in force on the days of a period, which are kept of all tariffs as they are read.
 use Rattle.std.proofs.Common.{◌≡◌, ◌∙◌, ◌||◌, ℤ, Bool, true, false, cond, List, [], ◌∷◌, ◌++◌, not}
-use Rattle.std.proofs.Common.{append-nil, refl, sym, ap, subst, true≢false, Option, Some, None, ℕ}
+use Rattle.std.proofs.Common.{append-nil, append_assoc, flat_map, refl, sym, ap, subst, true≢false}
+use Rattle.std.proofs.Common.{Option, Some, None, ℕ}
 use Rattle.std.proofs.Common.{Result, Ok, Err, ◌+ℤ◌, All, IfOk, if◌then◌else◌, int_lt, option_map}
 use Rattle.std.proofs.Common.{pos}
-use Rattle.book_model.proofs.Std.{cons_option, list_any, option_map_or, result_ok, All-push}
+use Rattle.book_model.proofs.Std.{cons_option, list_any, option_map_or, result_ok, All-append}
+use Rattle.book_model.proofs.Std.{All-map, All-nil, All-push}
 use Rattle.book_model.proofs.Std.{filter-append, filter_map-append, list_any-append}
-use Rattle.book_model.specs.Words.{IsDay, RulingSeen, TariffSeen, Terms, begins_by, billed_tariff}
+use Rattle.book_model.specs.Words.{IsDay, RulingSeen, TariffSeen, Terms, begins_by, billed_shifts}
+use Rattle.book_model.specs.Words.{billed_shift, billed_tariff, shifts_by, shifts_of}
+use Rattle.book_model.specs.declared.bill.BilledShift.{BilledShift}
 use Rattle.book_model.specs.Words.{in_force_from, letterhead_by, letterhead_in, letterhead_shown}
 use Rattle.book_model.specs.Words.{no_letterhead, tariff_by, tariffs_from, tariffs_through}
 use Rattle.book_model.specs.Words.{terms_in}
@@ -52,7 +56,7 @@ from_push None tariffs day text = refl
 from_push (Some close) tariffs day text =
     in_force_push (close +ℤ pos 1) tariffs (TariffSeen day text)
 
-through_append : (through : Option ℤ) (some others : List RulingSeen)
+pub through_append : (through : Option ℤ) (some others : List RulingSeen)
     → tariffs_through through (some ++ others)
     ≡ tariffs_through through some ++ tariffs_through through others
 through_append None some others = refl
@@ -111,20 +115,45 @@ days_push tariffs day None are is =
 days_push tariffs day (Some terms) are is =
     All-push (λ (tariff : BilledTariff). IsDay tariff.day) tariffs (tariff_by day terms) are is
 
+-- shifts of one more come last
+shifts_push : (read : List RulingSeen) (last : RulingSeen)
+    → flat_map billed_shifts (read ++ last ∷ [])
+    ≡ flat_map billed_shifts read ++ billed_shifts last
+shifts_push [] last = append-nil (billed_shifts last)
+shifts_push (first ∷ read) last =
+    ap (λ rest. billed_shifts first ++ rest) (shifts_push read last)
+    ∙ sym (append_assoc (billed_shifts first) (flat_map billed_shifts read) (billed_shifts last))
+
+-- those of a tariff have its day
+shifts_dated : (day : ℤ) (terms : Option Terms) → IsDay day
+    → All (λ (shift : BilledShift). IsDay shift.day) (option_map_or (shifts_by day) terms [])
+shifts_dated day None is = All-nil (λ (shift : BilledShift). IsDay shift.day)
+shifts_dated day (Some terms) is =
+    All-map (λ (shift : BilledShift). IsDay shift.day) (billed_shift day) (shifts_of terms)
+    (λ k d within. is)
+
 pub kept_push : {kept more : KeptTariffs} {read : List RulingSeen} (day : ℤ) (text : List ℕ)
-    (found : Option BilledTariff) → IsDay day → found ≡ billed_tariff (TariffSeen day text)
-    → more.tariffs.items ≡ kept.tariffs.items ++ cons_option found []
+    → IsDay day
+    → more.tariffs.items
+    ≡ kept.tariffs.items ++ cons_option (billed_tariff (TariffSeen day text)) []
+    → more.shifts.items ≡ kept.shifts.items ++ billed_shifts (TariffSeen day text)
     → letterhead_shown more.letterhead ≡ letterhead_in text → HasKept kept read
     → HasKept more (read ++ TariffSeen day text ∷ [])
-kept_push {kept} {more} {read} day text found is_day is joined head are = record {
-  tariffs = joined ∙ (λ i. are.tariffs i ++ cons_option (is i) [])
+kept_push {kept} {more} {read} day text is_day joined also head are = record {
+  tariffs = joined
+      ∙ ap (λ front. front ++ cons_option (billed_tariff (TariffSeen day text)) []) are.tariffs
       ∙ sym (filter_map-append billed_tariff read (TariffSeen day text ∷ []));
+  shifts = also ∙ ap (λ front. front ++ billed_shifts (TariffSeen day text)) are.shifts
+      ∙ sym (shifts_push read (TariffSeen day text));
   letterhead = head
       ∙ sym (ap (λ last. option_map_or letterhead_by last no_letterhead)
       (last_push None read (TariffSeen day text)));
-  days = subst (All (λ (tariff : BilledTariff). IsDay tariff.day))
-      (sym (joined ∙ ap (λ found. kept.tariffs.items ++ cons_option found []) is))
+  days = subst (All (λ (tariff : BilledTariff). IsDay tariff.day)) (sym joined)
       (days_push kept.tariffs.items day (result_ok (terms_in text)) are.days is_day);
+  shift_days = subst (All (λ (shift : BilledShift). IsDay shift.day)) (sym also)
+      (All-append (λ (shift : BilledShift). IsDay shift.day) kept.shifts.items
+      (billed_shifts (TariffSeen day text)) are.shift_days
+      (shifts_dated day (result_ok (terms_in text)) is_day));
 }
 
 -- what was kept is what is shown
@@ -132,6 +161,7 @@ pub kept_shown : {kept : KeptTariffs} {read : List RulingSeen} → HasKept kept 
     → tariffs_billed read ≡ tariffs_shown kept
 kept_shown are = λ i. record {
   tariffs = sym are.tariffs i;
+  shifts = sym are.shifts i;
   letterhead = sym are.letterhead i;
 }
 
@@ -152,3 +182,10 @@ pub kept_dated : (result : Result KeptTariffs LedgerFault) (read : List RulingSe
     → IfOk result (λ kept. All (λ (tariff : BilledTariff). IsDay tariff.day) kept.tariffs.items)
 kept_dated (Ok kept) read has = has.days
 kept_dated (Err fault) read has = tt
+
+-- and so have their shifts
+pub shifts_kept_dated : (result : Result KeptTariffs LedgerFault) (read : List RulingSeen)
+    → IfOk result (λ kept. HasKept kept read)
+    → IfOk result (λ kept. All (λ (shift : BilledShift). IsDay shift.day) kept.shifts.items)
+shifts_kept_dated (Ok kept) read has = has.shift_days
+shifts_kept_dated (Err fault) read has = tt

@@ -14,7 +14,9 @@ pub mod RecordNameLemmas
 pub mod DetailSums
 pub mod WorkLemmas
 pub mod BillLineLemmas
+pub mod ShiftLemmas
 pub mod KeptTariffLemmas
+pub mod KnownCentreLemmas
 pub mod BillLemmas
 pub mod FocusLemmas
 pub mod SystemLemmas

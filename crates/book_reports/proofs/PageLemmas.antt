@@ -3,16 +3,21 @@ use Rattle.std.proofs.Common.{◌≡◌, ◌∙◌, ℕ, ◌+◌, ℤ, List, [],
 use Rattle.std.proofs.Common.{Ok}
 use Rattle.std.proofs.lemmas.List.FromFn.{map-range_with_len_more}
 use Rattle.book_model.proofs.Std.{map-append}
-use Rattle.book_model.specs.Words.{Book, Disputed, Naming, disputes_outcome, periods_outcome}
+use Rattle.book_model.specs.Words.{Book, Disputed, Naming, disputes_outcome, letterhead_shown}
+use Rattle.book_model.specs.Words.{periods_outcome}
 use Rattle.page_texts.specs.declared.figures.PeriodFigures.{PeriodFigures}
 use Rattle.page_texts.specs.Figures.{FiguresSeen}
 use Rattle.report_texts.specs.Figures.{period_open}
 use Rattle.book_reports.specs.Coverage.{coverage_rows_answer}
 use Rattle.book_reports.proofs.Words.{Line, ChargeRow, figures_of, figures_seen, office_page_text}
 use Rattle.book_reports.proofs.Words.{period_page_text, number_after, CoverageRow, shown_by}
-use Rattle.book_reports.proofs.Words.{same_value, lines_outcome}
+use Rattle.book_reports.proofs.Words.{same_value, lines_outcome, dispute_count_outcome}
+use Rattle.book_reports.proofs.Words.{tariffs_outcome, tariffs_shown}
+use Rattle.book_reports.specs.BillTariffs.{TariffsBilled}
+use Rattle.book_reports.specs.declared.bill_tariffs.KeptTariffs.{KeptTariffs}
 use Rattle.book_reports.specs.Figures.{rows_outcome}
-use Rattle.book_reports.specs.Pages.{first_figures, office_page_outcome, page_figures}
+use Rattle.book_reports.specs.Pages.{first_figures, letterhead_of_period, office_page_outcome}
+use Rattle.book_reports.specs.Pages.{page_figures}
 use Rattle.book_reports.specs.Pages.{page_figures_outcome, period_page_outcome}
 
 -- a book that has these rows and lines in a period has these figures of it
@@ -22,6 +27,13 @@ pub figures_known : (naming : Naming) (period : ℕ) (rows : List ChargeRow) (li
     → (page_figures_outcome naming period book).answer ≡ Ok figures
 figures_known naming period rows lines figures book made has_rows has_lines =
     (λ i. Ok (figures_of (same_value has_rows i) (same_value has_lines i))) ∙ ap Ok (sym made)
+
+-- a book that has these tariffs in a period has their letterhead
+letterhead_known : (period : ℕ) (kept : KeptTariffs) (book : Book)
+    → (tariffs_outcome period book).answer ≡ Ok (tariffs_shown kept)
+    → letterhead_of_period period book ≡ letterhead_shown kept.letterhead
+letterhead_known period kept book billed =
+    ap (λ (told : TariffsBilled). told.letterhead) (same_value billed)
 
 -- of a book: these are its closes, and these the figures of its first periods, so many
 pub record KnowsPeriods (naming : Naming) (closes : List ℤ) (count : ℕ) (periods : List PeriodFigures)
@@ -46,29 +58,41 @@ module _ {naming : Naming} {closes : List ℤ} {count : ℕ} {periods : List Per
           (omega arith));
     }
 
-    -- these are all
-    pub office_known : (page : List ℕ) → count ≡ number_after (length closes)
-        → page ≡ office_page_text closes (map figures_seen periods)
+    -- these are all, and so the page is what a book answers that has these tariffs and disputes
+    pub office_known : (open_number : ℕ) (kept : KeptTariffs) (disputes : ℕ) (page : List ℕ)
+        → count ≡ open_number → open_number ≡ number_after (length closes)
+        → (tariffs_outcome open_number book).answer ≡ Ok (tariffs_shown kept)
+        → (dispute_count_outcome naming book).answer ≡ Ok disputes
+        → page ≡ office_page_text (letterhead_shown kept.letterhead) disputes closes
+        (map figures_seen periods)
         → (office_page_outcome naming book).answer ≡ Ok page
-    office_known page all made =
+    office_known open_number kept disputes page all last billed counted made =
         let closed = same_value it.closed in
-        let numbered : period_open book ≡ count =
-        ap (λ (days : List ℤ). number_after (length days)) closed ∙ sym all in
-        let shown = ap (λ count. first_figures naming count book) numbered ∙ sym it.figures in
-        (λ i. Ok (office_page_text (closed i) (shown i))) ∙ ap Ok (sym made)
+        let numbered : period_open book ≡ open_number =
+        ap (λ (days : List ℤ). number_after (length days)) closed ∙ sym last in
+        let shown = ap (λ count. first_figures naming count book) (numbered ∙ sym all)
+        ∙ sym it.figures in
+        let headed = ap (λ number. letterhead_of_period number book) numbered
+        ∙ letterhead_known open_number kept book billed in
+        let many = same_value counted in
+        (λ i. Ok (office_page_text (headed i) (many i) (closed i) (shown i))) ∙ ap Ok (sym made)
 
--- the page of a period that has these rows, lines and disputes, and this coverage
-pub page_known : (naming : Naming) (period : ℕ) (closes : List ℤ) (rows : List ChargeRow)
-    (lines : List Line) (disputes : List Disputed) (coverage : List CoverageRow) (page : List ℕ)
-    (book : Book) → page ≡ period_page_text period closes rows lines disputes coverage
+-- the page of a period that has these tariffs, rows, lines and disputes, and this coverage
+pub page_known : (naming : Naming) (period : ℕ) (kept : KeptTariffs) (closes : List ℤ)
+    (rows : List ChargeRow) (lines : List Line) (disputes : List Disputed)
+    (coverage : List CoverageRow) (page : List ℕ) (book : Book)
+    → page ≡ period_page_text period (letterhead_shown kept.letterhead) closes rows lines disputes
+    coverage
     → coverage_rows_answer naming period book ≡ Ok coverage
     → (rows_outcome period book).answer ≡ Ok rows
     → (lines_outcome naming period book).answer ≡ Ok lines
     → (disputes_outcome naming book).answer ≡ Ok disputes
     → (periods_outcome book).answer ≡ Ok closes
+    → (tariffs_outcome period book).answer ≡ Ok (tariffs_shown kept)
     → (period_page_outcome naming period book).answer ≡ Ok page
-page_known naming period closes rows lines disputes coverage page book made covered charged lined
-    disputed closed =
-    (λ i. shown_by (λ coverage. period_page_text period (same_value closed i) (same_value charged i)
-    (same_value lined i) (same_value disputed i) coverage) (covered i))
+page_known naming period kept closes rows lines disputes coverage page book made covered charged lined
+    disputed closed billed =
+    (λ i. shown_by (λ coverage. period_page_text period (letterhead_known period kept book billed i)
+    (same_value closed i) (same_value charged i) (same_value lined i) (same_value disputed i)
+    coverage) (covered i))
     ∙ ap Ok (sym made)

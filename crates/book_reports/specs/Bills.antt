@@ -2,9 +2,8 @@
 use Rattle.std.specs.Prelude.{ℕ, ℤ, List, Option, Some, None, Result}
 use Rattle.book_model.specs.declared.fault.LedgerFault.{LedgerFault}
 use Rattle.book_model.specs.Words.{BillSeen, Book, Naming, Outcome, bill_outcome, bill_shown, no_event}
-use Rattle.report_texts.specs.BillTables.{bill_table, office_bill_table}
-use Rattle.report_texts.specs.BillTexts.{bill_text}
-use Rattle.report_texts.specs.OfficeBills.{office_bill_text}
+use Rattle.bill_texts.specs.BillTables.{bill_table, office_bill_table}
+use Rattle.bill_texts.specs.BillTexts.{bill_text, office_bill_text}
 use Rattle.book_lists.specs.Shown.{shown_by}
 use Rattle.book_reports.specs.declared.bills.PeriodBill.{PeriodBill}
 use Rattle.book_reports.specs.declared.what_if.StatementForm.{StatementForm}
@@ -38,7 +37,7 @@ bill_text_in period (Some centre) found = bill_text centre period found.through 
 -- its table
 abbrev pub bill_table_in : ℕ → Option (List ℕ) → BillSeen → List ℕ
 bill_table_in period None bill = office_bill_table period bill
-bill_table_in period (Some centre) bill = bill_table period bill
+bill_table_in period (Some centre) bill = bill_table centre period bill
 
 -- the one or the other
 abbrev pub bill_in : StatementForm → ℕ → Option (List ℕ) → PeriodBillSeen → List ℕ

@@ -11,7 +11,7 @@ use Rattle.book_model.specs.declared.row.ChargeRow.{ChargeRow}
 use Rattle.book_model.specs.Words.{Book, open_period, disputes_in, Outcome, no_event}
 use Rattle.book_model.specs.Words.{charges_outcome, adjustments_outcome, disputes_outcome}
 use Rattle.book_model.specs.Words.{periods_outcome, Naming, rows_for, rulings_listed}
-use Rattle.book_model.specs.Words.{tariff_text_on, trail_outcome}
+use Rattle.book_model.specs.Words.{begun_in, of_centre, tariff_text_on, trail_outcome}
 use Rattle.report_texts.specs.Statements.{statement_text}
 use Rattle.report_texts.specs.StatementTables.{statement_table}
 use Rattle.report_texts.specs.AdjustmentLists.{adjustment_list_text}
@@ -28,11 +28,13 @@ use Rattle.book_reports.specs.declared.report.PeriodReport.TheVariants.{Adjustme
 use Rattle.book_reports.specs.declared.report.PeriodReport.TheVariants.{AdjustmentTable}
 use Rattle.book_reports.specs.declared.report.PeriodReport.TheVariants.{StatementTable}
 use Rattle.book_reports.specs.declared.report.Report.{Report}
-use Rattle.book_reports.specs.declared.report.Report.TheVariants.{Bill, Coverage, DisputeList}
+use Rattle.book_reports.specs.declared.report.Report.TheVariants.{Bill, BillPage, Coverage}
+use Rattle.book_reports.specs.declared.report.Report.TheVariants.{DisputeList}
 use Rattle.book_reports.specs.declared.report.Report.TheVariants.{DisputeTable, Focus, OfPeriod}
 use Rattle.book_reports.specs.declared.report.Report.TheVariants.{OfficePage, PeriodList}
 use Rattle.book_reports.specs.declared.report.Report.TheVariants.{PeriodPage, Record, RulingList}
 use Rattle.book_reports.specs.declared.report.Report.TheVariants.{TariffText}
+use Rattle.book_reports.specs.BillPages.{bill_page_answer}
 use Rattle.book_reports.specs.Bills.{bill_answer}
 use Rattle.book_reports.specs.Coverage.{coverage_answer}
 use Rattle.book_reports.specs.FocusReports.{focus_answer}
@@ -65,7 +67,7 @@ abbrev pub period_adjustment_table : Option (List ℕ) → ℕ → List Line →
 period_adjustment_table None = adjustment_table
 period_adjustment_table (Some centre) = centre_adjustment_table centre
 
--- what a book answers to that
+-- what a book answers to that, whatever the centre is
 abbrev pub period_answer :
     Naming → PeriodReport → ℕ → Option (List ℕ) → Book → Result (List ℕ) LedgerFault
 period_answer naming Statement period centre book =
@@ -79,15 +81,21 @@ period_answer naming AdjustmentList period centre book =
 period_answer naming AdjustmentTable period centre book =
     shown_by (period_adjustment_table centre period) (adjustments_outcome naming period book).answer
 
+-- the same as one call of a ledger
+abbrev pub period_outcome :
+    Naming → PeriodReport → ℕ → Option (List ℕ) → Book → Outcome (List ℕ)
+period_outcome naming report period centre book =
+    no_event (period_answer naming report period centre book)
+
 -- the list of a book's rulings
 abbrev pub ruling_text : Naming → Book → List ℕ
 ruling_text naming book = ruling_list_text (rulings_listed naming book.rulings)
 
--- what a book answers to a report: its text, or the refusal of a period, a tariff or a record that is
--- not there
+-- what a book answers to a report: its text, or the refusal of a centre, a period, a tariff or a record
+-- that is not there
 abbrev pub report_answer : Naming → Report → Book → Result (List ℕ) LedgerFault
 report_answer naming (OfPeriod report period centre) book =
-    period_answer naming report period centre book
+    of_centre (begun_in period book.rulings) centre (period_answer naming report period centre book)
 report_answer naming DisputeList book =
     shown_by dispute_list_text (disputes_outcome naming book).answer
 report_answer naming DisputeTable book =
@@ -97,7 +105,10 @@ report_answer naming RulingList book = Ok (ruling_text naming book)
 report_answer naming (TariffText day) book = ok_or (tariff_text_on day book.rulings) NoSuchTariff
 report_answer naming (Record name) book =
     shown_by (record_text name) (trail_outcome naming name book).answer
-report_answer naming (Bill form period centre) book = bill_answer naming form period centre book
+report_answer naming (Bill form period centre) book =
+    of_centre (begun_in period book.rulings) centre (bill_answer naming form period centre book)
+report_answer naming (BillPage period centre) book =
+    of_centre (begun_in period book.rulings) centre (bill_page_answer naming period centre book)
 report_answer naming (Focus period) book = focus_answer naming period book
 report_answer naming (Coverage form period) book = coverage_answer naming form period book
 report_answer naming OfficePage book = office_page_answer naming book

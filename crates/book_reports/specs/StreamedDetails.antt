@@ -4,7 +4,8 @@ use Rattle.std.specs.Prelude.{ℕ, ◌+◌, ◌<◌, ◌^◌, List, [], length, 
 use Rattle.std.proofs.Common.{arith, length-append}
 use Rattle.book_model.specs.declared.detail.Detail.{Detail}
 use Rattle.book_model.specs.declared.fault.LedgerFault.{LedgerFault}
-use Rattle.book_model.specs.Words.{Book, Naming, Outcome, details_outcome, no_event}
+use Rattle.book_model.specs.Words.{Book, Naming, Outcome, begun_in, details_outcome, no_event}
+use Rattle.book_model.specs.Words.{of_centre}
 use Rattle.book_core.specs.Words.{Transition}
 use Rattle.report_texts.specs.DetailLists.{detail_head, detail_line, detail_list_text, detail_total}
 use Rattle.report_texts.specs.Periods.{title_line}
@@ -75,11 +76,16 @@ pub record FitsDetail (sums : Sums) (detail : Detail) : Type 0 where
   pub blocks : sums.blocks + detail.priced.excp < 2 ^ 64
   pub amount : sums.amount + detail.priced.amount < 2 ^ 64
 
--- what a book answers to them: their text, or that it has no such period
-abbrev pub detail_answer : DetailReport → Naming → Book → Result (List ℕ) LedgerFault
-detail_answer report naming book =
+-- what a book answers to them, whatever the centre is: their text, or that it has no such period
+abbrev pub details_answer : DetailReport → Naming → Book → Result (List ℕ) LedgerFault
+details_answer report naming book =
     shown_by (details_text report (closed_through book report.period))
     (details_outcome naming report.period report.centre book).answer
+
+-- the same of a centre that is there, or of the whole office
+abbrev pub detail_answer : DetailReport → Naming → Book → Result (List ℕ) LedgerFault
+detail_answer report naming book =
+    of_centre (begun_in report.period book.rulings) report.centre (details_answer report naming book)
 
 -- the same as one call of a ledger, and how many bytes that text has
 abbrev pub detail_text_outcome : DetailReport → Naming → Book → Outcome (List ℕ)

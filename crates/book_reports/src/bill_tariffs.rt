@@ -1,35 +1,26 @@
-//! The tariffs in force on the days of a period, and the letterhead of the last of them. They are
-//! read one at a time, in the order of their first days.
+//! The tariffs in force on the days of a period, their shifts, and the letterhead of the last of
+//! them. They are read one at a time, in the order of their first days.
 
-ghost use Rattle.std.specs.Prelude.{◌≡◌, ◌++◌, [], All, IfErr, IfOk, OnOk};
-ghost use Rattle.std.specs.List.{cons_option};
-ghost use Rattle.book_model.specs.Words as words;
-ghost use Rattle.book_model.specs.Words.{IsDay, TariffSeen, letterhead_shown};
+ghost use Rattle.std.specs.Prelude.{◌≡◌, All, IfOk};
+ghost use Rattle.book_model.specs.Words.{IsDay};
 ghost use Rattle.book_core.specs.Calls.{IsCall};
 ghost use Rattle.book_reports.specs.BillTariffs as spec;
 
+use crate::bill_shifts::{push_shifts, shifts_of};
 use crate::period_days::{PeriodDays, period_days};
 use book_core::{Ledger, LedgerFault, Tariff, is_through};
 use book_lists::{ListedTariff, Step, TariffCursor, fold};
-use book_model::BilledTariff;
+use book_model::{BilledShift, BilledTariff};
 use std::alloc::{AllocError, Global};
-use tariff_rules::{Letterhead, TariffFault};
+use tariff_rules::{HeadedTariff, Letterhead};
 
-/// The tariffs that are kept of those that were read, and the letterhead of the last of them.
+/// The tariffs that are kept of those that were read, their shifts, and the letterhead of the last
+/// of them.
 #[derive(Drop)]
 pub(crate) struct KeptTariffs {
     pub(crate) tariffs: Vec<BilledTariff>,
+    pub(crate) shifts: Vec<BilledShift>,
     pub(crate) letterhead: Letterhead,
-}
-
-/// A letterhead that says nothing.
-fn no_letterhead() -> Letterhead
-    ensures { letterhead_shown result ≡ words.no_letterhead }
-{
-    Letterhead {
-        office: None,
-        currency: None,
-    }
 }
 
 /// A tariff of this day has begun by the first day after a close, where there was one.
@@ -42,42 +33,11 @@ fn has_begun_after(before: Option<i32>, day: i32) -> bool
     }
 }
 
-/// A tariff by its rates, where its text says some.
-fn billed_tariff(alloc: Global, day: i32, text: &str) -> Result<Option<BilledTariff>, LedgerFault>
-    ensures tariff { IfOk result (λ found.
-        found ≡ words.billed_tariff (TariffSeen day text.now)) }
-    ensures memory { IfErr result (λ fault. fault ≡ LedgerFault.Memory) }
-{
-    match Tariff::parse(alloc, text) {
-        Ok(tariff) => Ok(Some(BilledTariff {
-            day,
-            step: tariff.step_rates(),
-            job: tariff.job_rates(),
-        })),
-        Err(TariffFault::Memory) => Err(LedgerFault::Memory),
-        Err(_) => Ok(None),
-    }
-}
-
-/// A tariff joins others, if there is one.
-fn push_found(
-    tariffs: &mut Vec<BilledTariff>,
-    found: Option<BilledTariff>,
-) -> Result<(), AllocError>
-    ensures { OnOk result (tariffs.new.items ≡ tariffs.old.items ++ cons_option found []) }
-{
-    match found {
-        Some(tariff) => {
-            tariffs.push(tariff)?;
-            Ok(())
-        }
-        None => Ok(()),
-    }
-}
-
 impl KeptTariffs {
-    ghost use Rattle.std.specs.Prelude.{◌≡◌, ◌++◌, ◌∷◌, [], IfErr, OnOk};
-    ghost use Rattle.book_model.specs.Words.{IsDay, TariffSeen};
+    ghost use Rattle.std.specs.Prelude.{◌≡◌, ◌++◌, ◌∷◌, [], IfErr, OnOk, option_map};
+    ghost use Rattle.std.specs.List.{cons_option};
+    ghost use Rattle.book_model.specs.Std.{option_map_or};
+    ghost use Rattle.book_model.specs.Words.{IsDay, TariffSeen, shifts_by, tariff_by};
     ghost use Rattle.book_reports.specs.BillTariffs.{HasKept, Tariffs, kept_of, left_by};
 
     /// None yet.
@@ -86,7 +46,8 @@ impl KeptTariffs {
     {
         KeptTariffs {
             tariffs: Vec::new(alloc),
-            letterhead: no_letterhead(),
+            shifts: Vec::new(alloc),
+            letterhead: Letterhead::empty(),
         }
     }
 
@@ -99,7 +60,46 @@ impl KeptTariffs {
             return;
         }
         self.tariffs.clear();
-        self.letterhead = no_letterhead();
+        self.shifts.clear();
+        self.letterhead = Letterhead::empty();
+    }
+
+    /// What a tariff says joins.
+    fn push_terms(&mut self, alloc: Global, day: i32, tariff: &Tariff) -> Result<(), AllocError>
+        ensures tariffs { OnOk result
+            (self.new.tariffs.items ≡ self.old.tariffs.items ++ tariff_by day tariff.now ∷ []) }
+        ensures shifts { OnOk result
+            (self.new.shifts.items ≡ self.old.shifts.items ++ shifts_by day tariff.now) }
+    {
+        let shifts = shifts_of(alloc, tariff)?;
+        push_shifts(&mut self.shifts, day, &shifts)?;
+        self.tariffs.push(BilledTariff {
+            day,
+            step: tariff.step_rates(),
+            job: tariff.job_rates(),
+        })?;
+        Ok(())
+    }
+
+    /// What a tariff says joins, if there is one.
+    fn push_found(
+        &mut self,
+        alloc: Global,
+        day: i32,
+        found: &Option<Tariff>,
+    ) -> Result<(), AllocError>
+        ensures tariffs { OnOk result (self.new.tariffs.items ≡ self.old.tariffs.items
+            ++ cons_option (option_map (tariff_by day) found.now) []) }
+        ensures shifts { OnOk result (self.new.shifts.items
+            ≡ self.old.shifts.items ++ option_map_or (shifts_by day) found.now []) }
+    {
+        match found {
+            Some(tariff) => {
+                self.push_terms(alloc, day, tariff)?;
+                Ok(())
+            }
+            None => Ok(()),
+        }
     }
 
     /// One more.
@@ -109,10 +109,9 @@ impl KeptTariffs {
             → HasKept self.new (read ++ TariffSeen day text.now ∷ [])) }
         ensures memory { IfErr result (λ fault. fault ≡ LedgerFault.Memory) }
     {
-        let letterhead = Letterhead::parse(alloc, text)?;
-        let found = billed_tariff(alloc, day, text)?;
-        push_found(&mut self.tariffs, found)?;
-        self.letterhead = letterhead;
+        let headed = HeadedTariff::read(alloc, text)?;
+        self.push_found(alloc, day, &headed.tariff)?;
+        self.letterhead = headed.letterhead;
         Ok(())
     }
 
@@ -179,6 +178,7 @@ fn tariffs_on<L: Ledger>(
     ensures tariffs { IsCall spec.tariffs_shown (L.seen ledger.old) (L.seen ledger.new) result
         (spec.tariffs_on_outcome days) }
     ensures days { IfOk result (λ kept. All (λ tariff. IsDay tariff.day) kept.tariffs.items) }
+    ensures shift_days { IfOk result (λ kept. All (λ shift. IsDay shift.day) kept.shifts.items) }
 {
     fold(alloc, ledger, &TariffCursor, &KeptStep { days })
 }
@@ -192,6 +192,7 @@ pub(crate) fn billed_tariffs<L: Ledger>(
     ensures tariffs { IsCall spec.tariffs_shown (L.seen ledger.old) (L.seen ledger.new) result
         (spec.tariffs_outcome period) }
     ensures days { IfOk result (λ kept. All (λ tariff. IsDay tariff.day) kept.tariffs.items) }
+    ensures shift_days { IfOk result (λ kept. All (λ shift. IsDay shift.day) kept.shifts.items) }
 {
     let days = period_days(ledger, period)?;
     tariffs_on(alloc, ledger, days)

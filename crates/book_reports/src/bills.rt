@@ -1,35 +1,39 @@
 //! The bill of a period, as a text or a table that a ledger answers by calls that change nothing:
 //! it is as one call.
 
-ghost use Rattle.std.specs.Prelude.{◌≡◌, IfOk};
+ghost use Rattle.std.specs.Prelude.{◌≡◌, IfOk, Some};
 ghost use Rattle.std.specs.Option.{ForSome};
 ghost use Rattle.book_model.specs.Words.{IsDay, bill_shown};
 ghost use Rattle.book_core.specs.Calls.{IsCall};
 ghost use Rattle.report_texts.specs.Charges.{IsBill};
 ghost use Rattle.book_reports.specs.Bills as spec;
+ghost use Rattle.book_reports.specs.BookTexts.{report_outcome};
 
 use crate::bill_lines::billed_lines;
 use crate::bill_tariffs::billed_tariffs;
 use crate::bill_work::period_work;
 use crate::book_texts::made_of;
 use crate::held_back::held_back;
+use crate::known_centres::known_centre;
+use crate::period_days::period_days;
+use crate::report::Report;
 use crate::what_if::StatementForm;
+use bill_texts::{bill_table, bill_text, office_bill_table, office_bill_text};
 use book_core::{Ledger, LedgerFault};
 use book_model::Bill;
-use report_texts::{bill_table, bill_text, office_bill_table, office_bill_text};
 use smf_text::Name;
 use std::alloc::{AllocError, Global};
 
 /// A bill.
 #[derive(Drop)]
-struct PeriodBill {
+pub(crate) struct PeriodBill {
     /// The day that its period was closed through, `None` if it is open.
-    through: Option<i32>,
-    bill: Bill,
+    pub(crate) through: Option<i32>,
+    pub(crate) bill: Bill,
 }
 
 /// The bill of a period, for the centre that is named or for the whole office.
-fn gathered<L: Ledger>(
+pub(crate) fn gathered<L: Ledger>(
     alloc: Global,
     ledger: &mut L,
     period: u16,
@@ -43,6 +47,7 @@ fn gathered<L: Ledger>(
     let work = period_work(alloc, ledger, period, centre)?;
     let lines = billed_lines(alloc, ledger, period, centre)?;
     let held = held_back(alloc, ledger, period, centre)?;
+    let days = period_days(ledger, period)?;
     let kept = billed_tariffs(alloc, ledger, period)?;
     Ok(PeriodBill {
         through: work.through,
@@ -50,7 +55,9 @@ fn gathered<L: Ledger>(
             work: work.rows,
             lines,
             held_back: held,
+            before: days.before,
             tariffs: kept.tariffs,
+            shifts: kept.shifts,
             letterhead: kept.letterhead,
         },
     })
@@ -88,7 +95,7 @@ fn table_shown(
 {
     match *centre {
         None => office_bill_table(alloc, period, bill),
-        Some(_) => bill_table(alloc, period, bill),
+        Some(centre) => bill_table(alloc, centre, period, bill),
     }
 }
 
@@ -111,8 +118,8 @@ fn shown(
     }
 }
 
-/// The bill of a period, of one centre or of the whole office.
-pub(crate) fn bill_report<L: Ledger>(
+/// The bill of a period, of one centre, whatever it is, or of the whole office.
+fn bill_made<L: Ledger>(
     alloc: Global,
     ledger: &mut L,
     form: StatementForm,
@@ -126,4 +133,36 @@ pub(crate) fn bill_report<L: Ledger>(
         gathered(alloc, ledger, period, &centre),
         |found| shown(alloc, form, period, &centre, &found),
     )
+}
+
+/// That of a centre that is there.
+fn centre_bill<L: Ledger>(
+    alloc: Global,
+    ledger: &mut L,
+    form: StatementForm,
+    period: u16,
+    centre: Name,
+) -> Result<Vec<u8>, LedgerFault>
+    ensures { IsCall (λ text. text.items) (L.seen ledger.old) (L.seen ledger.new) result
+        (report_outcome (L.seen ledger.old).naming (Report.Bill form period (Some centre))) }
+{
+    known_centre(alloc, ledger, period, centre)?;
+    bill_made(alloc, ledger, form, period, Some(centre))
+}
+
+/// That of a centre that is there, or of the whole office.
+pub(crate) fn bill_report<L: Ledger>(
+    alloc: Global,
+    ledger: &mut L,
+    form: StatementForm,
+    period: u16,
+    centre: Option<Name>,
+) -> Result<Vec<u8>, LedgerFault>
+    ensures { IsCall (λ text. text.items) (L.seen ledger.old) (L.seen ledger.new) result
+        (report_outcome (L.seen ledger.old).naming (Report.Bill form period centre)) }
+{
+    match centre {
+        Some(centre) => centre_bill(alloc, ledger, form, period, centre),
+        None => bill_made(alloc, ledger, form, period, None),
+    }
 }

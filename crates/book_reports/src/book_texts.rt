@@ -1,15 +1,17 @@
 //! The texts that a ledger answers about its books, by calls of the ledger that change nothing: each
 //! is as one call.
 
-ghost use Rattle.std.specs.Prelude.{◌≡◌, IfOk};
+ghost use Rattle.std.specs.Prelude.{◌≡◌, IfOk, Some};
 ghost use Rattle.std.specs.Option.{ForSome};
 ghost use Rattle.book_model.specs.Words.{AreLines, AreRows, IsDay};
 ghost use Rattle.book_core.specs.Calls.{IsCall};
 ghost use Rattle.book_reports.specs.BookTexts as spec;
 
+use crate::bill_page_reports::bill_page_report;
 use crate::bills::bill_report;
 use crate::coverage::coverage_report;
 use crate::focus_reports::focus_report;
+use crate::known_centres::known_centre;
 use crate::pages::{office_page_report, period_page_report};
 use crate::report::{PeriodReport, Report};
 use crate::ruling_texts::{ruling_list, tariff_text};
@@ -123,7 +125,7 @@ fn period_adjustment_table(
     }
 }
 
-/// The text of what a period has.
+/// The text of what a period has, whatever the centre is.
 fn period_text<L: Ledger>(
     alloc: Global,
     ledger: &mut L,
@@ -132,7 +134,7 @@ fn period_text<L: Ledger>(
     centre: Option<Name>,
 ) -> Result<Vec<u8>, LedgerFault>
     ensures { IsCall (λ text. text.items) (L.seen ledger.old) (L.seen ledger.new) result
-        (spec.report_outcome (L.seen ledger.old).naming (Report.OfPeriod report period centre)) }
+        (spec.period_outcome (L.seen ledger.old).naming report period centre) }
 {
     match report {
         PeriodReport::Statement => {
@@ -160,6 +162,39 @@ fn period_text<L: Ledger>(
     }
 }
 
+/// The same of a centre that is there.
+fn centre_text<L: Ledger>(
+    alloc: Global,
+    ledger: &mut L,
+    report: PeriodReport,
+    period: u16,
+    centre: Name,
+) -> Result<Vec<u8>, LedgerFault>
+    ensures { IsCall (λ text. text.items) (L.seen ledger.old) (L.seen ledger.new) result
+        (spec.report_outcome (L.seen ledger.old).naming
+        (Report.OfPeriod report period (Some centre))) }
+{
+    known_centre(alloc, ledger, period, centre)?;
+    period_text(alloc, ledger, report, period, Some(centre))
+}
+
+/// The same of a centre that is there, or of the whole office.
+fn text_of_period<L: Ledger>(
+    alloc: Global,
+    ledger: &mut L,
+    report: PeriodReport,
+    period: u16,
+    centre: Option<Name>,
+) -> Result<Vec<u8>, LedgerFault>
+    ensures { IsCall (λ text. text.items) (L.seen ledger.old) (L.seen ledger.new) result
+        (spec.report_outcome (L.seen ledger.old).naming (Report.OfPeriod report period centre)) }
+{
+    match centre {
+        Some(centre) => centre_text(alloc, ledger, report, period, centre),
+        None => period_text(alloc, ledger, report, period, None),
+    }
+}
+
 /// The text of a report.
 pub fn report_text<L: Ledger>(
     alloc: Global,
@@ -174,7 +209,7 @@ pub fn report_text<L: Ledger>(
             report,
             period,
             centre,
-        } => period_text(alloc, ledger, report, period, centre),
+        } => text_of_period(alloc, ledger, report, period, centre),
         Report::DisputeList => made_of(
             ledger.disputes(),
             |disputes| Ok(dispute_list_text(alloc, &disputes)?.into_bytes()),
@@ -198,6 +233,7 @@ pub fn report_text<L: Ledger>(
             period,
             centre,
         } => bill_report(alloc, ledger, form, period, centre),
+        Report::BillPage { period, centre } => bill_page_report(alloc, ledger, period, centre),
         Report::Focus(period) => focus_report(alloc, ledger, period),
         Report::Coverage { form, period } => coverage_report(alloc, ledger, form, period),
         Report::OfficePage => office_page_report(alloc, ledger),

@@ -1,8 +1,8 @@
 //! The coverage of a period: its records are counted by day and system, as they are read one at a
 //! time.
 
-ghost use Rattle.std.specs.Prelude.{◌≡◌, ◌++◌, ◌∷◌, [], ◌+ℤ◌, ◌≤ℤ◌, IfErr, IfOk, IfSome};
-ghost use Rattle.std.specs.Prelude.{OnOk, Some, flat_map, map, pos};
+ghost use Rattle.std.specs.Prelude.{◌≡◌, ◌++◌, ◌∷◌, [], ◌≤ℤ◌, IfErr, IfOk, IfSome};
+ghost use Rattle.std.specs.Prelude.{OnOk, Some, flat_map, map};
 ghost use Rattle.std.specs.BTreeSet.{insert_key};
 ghost use Rattle.std.specs.Option.{ForSome};
 ghost use Rattle.smf_text.specs.Day.{last_day};
@@ -16,6 +16,7 @@ use book_lists::Step;
 use coverage_texts::{
     CoveragePlace, CoverageRow, SystemDetail, coverage_place, coverage_with, empty_coverage,
 };
+use page_texts::day_after;
 use std::alloc::{AllocError, Global};
 use std::collections::{BTreeMap, BTreeSet};
 
@@ -166,14 +167,6 @@ fn push_day(
         made.push(row_among(rows, place))?;
     }
     Ok(())
-}
-
-/// The day after one.
-fn day_after(day: &i32) -> i32
-    requires { day.now ≤ℤ last_day }
-    ensures { result ≡ day.now +ℤ pos 1 }
-{
-    *day + 1
 }
 
 /// The rows of the days from the first to the last, one for each system on each day.

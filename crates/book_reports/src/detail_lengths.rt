@@ -7,7 +7,7 @@ ghost use Rattle.book_model.specs.Words.{IsDay};
 ghost use Rattle.book_core.specs.Calls.{IsCall};
 ghost use Rattle.book_reports.specs.StreamedDetails as spec;
 
-use crate::book_texts::closed_through;
+use crate::known_centres::known_through;
 use crate::streamed_details::{DetailReport, NO_SUMS, Sums, end_of, head_of, part_of, with_detail};
 use book_core::{Detail, Ledger, LedgerFault};
 use book_lists::{DetailCursor, Step, fold};
@@ -129,7 +129,7 @@ pub fn details_length<L: Ledger>(
     ensures { IsCall (λ size. size) (L.seen ledger.old) (L.seen ledger.new) result
         (spec.detail_length_outcome report (L.seen ledger.old).naming) }
 {
-    let through = closed_through(ledger, report.period)?;
+    let through = known_through(alloc, ledger, report.period, &report.centre)?;
     let details = DetailCursor {
         period: report.period,
         centre: report.centre,

@@ -3,6 +3,8 @@
 #![tactic(auto)]
 
 mod bill_lines;
+mod bill_page_reports;
+mod bill_shifts;
 mod bill_tariffs;
 mod bill_work;
 mod bills;
@@ -15,6 +17,7 @@ mod figures;
 mod focus_days;
 mod focus_reports;
 mod held_back;
+mod known_centres;
 mod pages;
 mod period_days;
 mod receipt_lines;

@@ -5,10 +5,12 @@ ghost use Rattle.book_core.specs.Calls.{IsCall};
 ghost use Rattle.page_texts.specs.Figures.{figures_seen};
 ghost use Rattle.book_reports.specs.Pages as spec;
 
+use crate::bill_tariffs::billed_tariffs;
 use crate::coverage::period_coverage;
 use crate::figures::{lines_of_period, period_after, rows_of_period};
+use crate::streamed_disputes::count_disputes;
 use book_core::{Ledger, LedgerFault};
-use page_texts::{PeriodFigures, office_page, period_figures, period_page};
+use page_texts::{PeriodFigures, PeriodHead, office_page, period_figures, period_page};
 use std::alloc::Global;
 
 /// What the page of the office shows of a period.
@@ -41,7 +43,9 @@ pub(crate) fn office_page_report<L: Ledger>(
         let figures = figures_in_period(alloc, ledger, before + 1)?;
         periods.push(figures)?;
     }
-    let page = office_page(alloc, &closes, &periods)?;
+    let kept = billed_tariffs(alloc, ledger, open.number)?;
+    let disputes = count_disputes(alloc, ledger)?;
+    let page = office_page(alloc, &kept.letterhead, disputes, &closes, &periods)?;
     Ok(page.into_bytes())
 }
 
@@ -59,6 +63,11 @@ pub(crate) fn period_page_report<L: Ledger>(
     let lines = lines_of_period(alloc, ledger, period)?;
     let disputes = ledger.disputes()?;
     let closes = ledger.periods()?;
-    let page = period_page(alloc, period, &closes, &rows, &lines, &disputes, &coverage)?;
+    let kept = billed_tariffs(alloc, ledger, period)?;
+    let head = PeriodHead {
+        number: period,
+        letterhead: &kept.letterhead,
+    };
+    let page = period_page(alloc, &head, &closes, &rows, &lines, &disputes, &coverage)?;
     Ok(page.into_bytes())
 }

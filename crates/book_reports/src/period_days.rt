@@ -1,6 +1,7 @@
 //! The closes between which a period lies.
 
-ghost use Rattle.std.specs.Prelude.{◌≡◌, All, is_some};
+ghost use Rattle.std.specs.Prelude.{◌≡◌, All, IfOk, is_some};
+ghost use Rattle.std.specs.Option.{ForSome};
 ghost use Rattle.book_model.specs.Words.{IsDay};
 ghost use Rattle.book_core.specs.Calls.{IsCall};
 ghost use Rattle.book_reports.specs.PeriodDays as spec;
@@ -20,7 +21,8 @@ pub(crate) struct PeriodDays {
 /// The days of a period, by those of all closes.
 fn days_by(closes: &[i32], number: u16) -> PeriodDays
     requires { All IsDay closes.now }
-    ensures { result ≡ spec.days_by number closes.now }
+    ensures days { result ≡ spec.days_by number closes.now }
+    ensures before { ForSome result.before IsDay }
 {
     let number = usize::from(number);
     PeriodDays {
@@ -38,8 +40,9 @@ pub(crate) fn is_closed(days: PeriodDays) -> bool
 
 /// The days of a period.
 pub(crate) fn period_days<L: Ledger>(ledger: &mut L, number: u16) -> Result<PeriodDays, LedgerFault>
-    ensures { IsCall (λ days. days) (L.seen ledger.old) (L.seen ledger.new) result
+    ensures days { IsCall (λ days. days) (L.seen ledger.old) (L.seen ledger.new) result
         (spec.days_outcome number) }
+    ensures before { IfOk result (λ days. ForSome days.before IsDay) }
 {
     let closes = ledger.periods()?;
     Ok(days_by(&closes, number))

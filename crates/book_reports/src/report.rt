@@ -52,6 +52,14 @@ pub enum Report {
         /// The centre, `None` for the whole office.
         centre: Option<Name>,
     },
+    /// The bill of a period as a page, for a browser and for paper: of one centre, or where none is
+    /// named that of the office.
+    BillPage {
+        /// The number of the period.
+        period: u16,
+        /// The centre, `None` for the whole office.
+        centre: Option<Name>,
+    },
     /// A period as a table of cost and usage by FOCUS 1.0.
     Focus(u16),
     /// How many records a period counts of each day and system.

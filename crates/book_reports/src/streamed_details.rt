@@ -10,7 +10,7 @@ ghost use Rattle.book_lists.specs.Streamed.{refusal_in};
 ghost use Rattle.book_lists.specs.Writing.{is_write_fault};
 ghost use Rattle.book_reports.specs.StreamedDetails as spec;
 
-use crate::book_texts::closed_through;
+use crate::known_centres::known_through;
 use crate::what_if::StatementForm;
 use book_core::{Detail, Ledger, LedgerFault, Sink};
 use book_lists::{DetailCursor, Lines, ReportFault, Step, write_list};
@@ -178,9 +178,10 @@ impl Lines<Detail> for DetailLines {
 }
 
 /// Writes the details of a period, of the office or of one centre: all of them, or, before a fault,
-/// a prefix of their text that is not the whole. The first detail is asked for before anything
-/// else, so that a period that is not there is refused before any byte; nobody changes the books
-/// meanwhile. Nothing is written after a write that failed.
+/// a prefix of their text that is not the whole. A centre is looked for, and the first detail is
+/// asked for, before anything else, so that a centre or a period that is not there is refused
+/// before any byte; nobody changes the books meanwhile. Nothing is written after a write that
+/// failed.
 pub fn write_details<L: Ledger, W: Writer + Drop>(
     alloc: Global,
     ledger: &mut L,
@@ -196,7 +197,7 @@ pub fn write_details<L: Ledger, W: Writer + Drop>(
         (W.contents (writer_of sink.old)) (W.contents (writer_of sink.new)) result }
     ensures failed { has_failed sink.old ≡ false → has_failed sink.new ≡ is_write_fault result }
 {
-    let through = closed_through(ledger, report.period)?;
+    let through = known_through(alloc, ledger, report.period, &report.centre)?;
     let details = DetailCursor {
         period: report.period,
         centre: report.centre,

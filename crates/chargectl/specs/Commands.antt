@@ -1,6 +1,7 @@
 -- What each command on books asks of the office, what is written, and how it ends.
 use Rattle.std.specs.Prelude.{◌≡◌, ◌⊎◌, ⊤, Bool, true, false, ℕ, List, [], Option, Some, None}
 use Rattle.std.specs.Prelude.{Result, Ok, Err, IfSome, string_bytes, option_and_then, option_map, ℤ}
+use Rattle.std.specs.Prelude.{if◌then◌else◌}
 use Rattle.std.specs.Borrow.{Bor}
 use Rattle.std.specs.Io.KnownBytes.{Keeps}
 use Rattle.streams.specs.InputOutput.{Input}
@@ -23,8 +24,9 @@ use Rattle.command_line.specs.declared.request.PeriodWords.{PeriodWords}
 use Rattle.command_line.specs.declared.request.ReportAsked.{ReportAsked}
 use Rattle.command_line.specs.declared.request.Ruling.{Ruling}
 use Rattle.command_line.specs.declared.request.Words.{Words}
-use Rattle.report_rows.specs.ReportRows.{report_about}
+use Rattle.report_rows.specs.ReportRows.{page_of, report_about}
 use Rattle.report_rows.specs.declared.about.About.{About}
+use Rattle.report_rows.specs.declared.report_row.ReportName.{ReportName}
 use Rattle.program_output.specs.Marks.{is_receipt_torn}
 use Rattle.program_output.specs.Names.{name_in}
 use Rattle.without_books.specs.declared.command_fault.CommandFault.{CommandFault}
@@ -62,9 +64,13 @@ about_of worded.OfOffice = Some about.OfOffice
 about_of (worded.OfDay date) = option_map about.OfDay (day_of_text_of date.now)
 about_of (worded.OfRecord name) = option_map about.OfRecord (name_in name.now)
 
--- the report that they ask for
+-- the report that they ask for, or its page
+abbrev pub asked_name : ReportAsked → ReportName
+asked_name asked = if asked.html then page_of asked.name else asked.name
+
 abbrev pub report_of : ReportAsked → Option Report
-report_of asked = option_and_then (report_about asked.name asked.form) (about_of asked.words)
+report_of asked =
+    option_and_then (report_about (asked_name asked) asked.form) (about_of asked.words)
 
 -- a statement in this form by other prices, of one centre or of the whole office
 abbrev pub what_if_for : StatementForm → ℕ → Option (List ℕ) → WhatIf

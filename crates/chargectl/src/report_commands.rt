@@ -12,7 +12,7 @@ use command_line::{BookRequest, PeriodWords, ReportAsked, Words};
 use named_books::Repository;
 use office::{Asked, Report, StatementForm, WhatIf, centre_named};
 use program_output::name_of_text;
-use report_rows::{About, report_about};
+use report_rows::{About, ReportName, page_of, report_about};
 use smf_text::{Name, day_of_text};
 use std::io;
 use without_books::{CommandFault, Inputs, tariff_text};
@@ -41,8 +41,19 @@ fn report_of(asked: ReportAsked<'_>) -> Option<Report>
     ensures { result ≡ spec.report_of asked.entry }
 {
     match about_of(asked.words) {
-        Some(about) => report_about(asked.name, asked.form, about),
+        Some(about) => report_about(asked_name(asked), asked.form, about),
         None => None,
+    }
+}
+
+/// The report that is asked for, or its page.
+fn asked_name(asked: ReportAsked<'_>) -> ReportName
+    ensures { result ≡ spec.asked_name asked.entry }
+{
+    if asked.html {
+        page_of(asked.name)
+    } else {
+        asked.name
     }
 }
 

@@ -7,7 +7,8 @@ use Rattle.report_rows.specs.declared.report_row.ReportName.{ReportName}
 use Rattle.command_line.proofs.Shared.{same_Some, bytes_eq-Decides, Row, Text, HasWords, HasWordsOf}
 use Rattle.command_line.specs.Given.{HasWord, NoneIs}
 use Rattle.command_line.specs.Known.{WordSeen, chosen_by, commands_above, commands_below, if_csv}
-use Rattle.command_line.specs.Known.{if_prices, known_table, named_by, report_command, report_words}
+use Rattle.command_line.specs.Known.{if_html, if_prices, known_table, named_by, report_command}
+use Rattle.command_line.specs.Known.{report_words}
 use Rattle.command_line.proofs.ReaderLemmas.{not_named}
 use Rattle.command_line.proofs.RowLemmas.{none_some}
 use Rattle.report_rows.specs.ReportRows as reports
@@ -74,7 +75,7 @@ word_of (one ∷ names) name report is =
 
 pub named_word : (name : Text) (report : ReportName) → Some report ≡ named_report name
     → name ≡ (row_of report).word
-named_word name report is = word_of reports.reports name report (sym is)
+named_word name report is = word_of reports.commands name report (sym is)
 
 -- some words have their values, and so have the first of them and the rest
 apart : (rows : List Row) (words more : List WordSeen) → HasWords rows (words ++ more)
@@ -88,6 +89,7 @@ pub record HasReport (rows : List Row) (row : reports.Row) : Type 0 where
   pub book : HasWord rows known.book
   pub named : HasWords rows (named_by row.shape)
   pub csv : row.csv ≡ true → HasWord rows known.csv
+  pub html : row.html ≡ true → HasWord rows known.html
   pub wait : HasWord rows known.wait
 
 report_has : (rows : List Row) (row : reports.Row) → HasWords rows (report_words row)
@@ -96,14 +98,17 @@ report_has rows row has =
     let waits = known.wait ∷ known.explain ∷ [] in
     let priced = if_prices row.by_prices ++ waits in
     let chosen = chosen_by row.shape ++ priced in
-    let first = apart rows (named_by row.shape) (if_csv row.csv ++ chosen) has.1 in
-    let second = apart rows (if_csv row.csv) chosen first.1 in
-    let third = apart rows (chosen_by row.shape) priced second.1 in
-    let last = apart rows (if_prices row.by_prices) waits third.1 in
+    let paged = if_html row.html ++ chosen in
+    let first = apart rows (named_by row.shape) (if_csv row.csv ++ paged) has.1 in
+    let second = apart rows (if_csv row.csv) paged first.1 in
+    let third = apart rows (if_html row.html) chosen second.1 in
+    let fourth = apart rows (chosen_by row.shape) priced third.1 in
+    let last = apart rows (if_prices row.by_prices) waits fourth.1 in
     record {
       book = has.0;
       named = first.0;
       csv = λ is. (subst (λ (csv : Bool). HasWords rows (if_csv csv)) is second.0).0;
+      html = λ is. (subst (λ (html : Bool). HasWords rows (if_html html)) is third.0).0;
       wait = last.1.0;
     }
 
@@ -116,8 +121,8 @@ words_of_report rows name report is above has =
     report_has rows (row_of report)
     (subst (λ (met : Option (Text × List WordSeen)).
     IsSomeAnd met (λ command. HasWords rows command.1))
-    (passed commands_above (map report_command reports.reports ++ commands_below) name above
-    ∙ passed_reports reports.reports commands_below name (Some report) (sym is)) has)
+    (passed commands_above (map report_command reports.commands ++ commands_below) name above
+    ∙ passed_reports reports.commands commands_below name (Some report) (sym is)) has)
 
 -- no other name has any
 pub no_words : (rows : List Row) (name : Text) → None ≡ named_report name
@@ -128,5 +133,5 @@ no_words rows name is above below has =
     not_named (λ command. HasWords rows command.1) commands_below name below
     (subst (λ (met : Option (Text × List WordSeen)).
     IsSomeAnd met (λ command. HasWords rows command.1))
-    (passed commands_above (map report_command reports.reports ++ commands_below) name above
-    ∙ passed_reports reports.reports commands_below name None (sym is)) has)
+    (passed commands_above (map report_command reports.commands ++ commands_below) name above
+    ∙ passed_reports reports.commands commands_below name None (sym is)) has)

@@ -137,6 +137,9 @@ near = flag (codes "near")
 abbrev pub csv : WordSeen
 csv = flag (codes "csv")
 
+abbrev pub html : WordSeen
+html = flag (codes "html")
+
 abbrev pub centre : WordSeen
 centre = named_if_given (codes "centre") any
 
@@ -163,10 +166,14 @@ abbrev pub chosen_by : subject.Shape → List WordSeen
 chosen_by about.OfCentre = centre ∷ []
 chosen_by other = []
 
--- what may be a table, or be made by other prices
+-- what may be a table or a page, or be made by other prices
 abbrev pub if_csv : Bool → List WordSeen
 if_csv true = csv ∷ []
 if_csv false = []
+
+abbrev pub if_html : Bool → List WordSeen
+if_html true = html ∷ []
+if_html false = []
 
 abbrev pub if_prices : Bool → List WordSeen
 if_prices true = prices ∷ []
@@ -175,7 +182,8 @@ if_prices false = []
 -- the words of a report follow from its row
 abbrev pub report_words : reports.Row → List WordSeen
 report_words row = book ∷ (named_by row.shape
-    ++ (if_csv row.csv ++ (chosen_by row.shape ++ (if_prices row.by_prices ++ wait ∷ explain ∷ []))))
+    ++ (if_csv row.csv ++ (if_html row.html
+    ++ (chosen_by row.shape ++ (if_prices row.by_prices ++ wait ∷ explain ∷ [])))))
 
 abbrev pub report_command : ReportName → Text × List WordSeen
 report_command name = ((reports.row_of name).word, report_words (reports.row_of name))
@@ -206,7 +214,7 @@ commands_below = (codes "upgrade", book ∷ wait ∷ explain ∷ []) ∷
 
 -- The table of the commands.
 unfoldable pub known_table : List (Text × List WordSeen)
-known_table = commands_above ++ (map report_command reports.reports ++ commands_below)
+known_table = commands_above ++ (map report_command reports.commands ++ commands_below)
 
 -- The commands of the program are these; clap finds no fault with their words whatever the program is
 -- called, and no command has two words of one name.

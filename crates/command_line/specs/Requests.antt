@@ -58,6 +58,10 @@ IsPeriod rows period = IsNumber rows (codes "period") period
 abbrev pub IsCsv : List Row → Bool → Type 0
 IsCsv rows csv = IsFlag rows (codes "csv") csv
 
+-- or a page
+abbrev pub IsHtml : List Row → Bool → Type 0
+IsHtml rows html = IsFlag rows (codes "html") html
+
 -- a text was given for an argument that has no default
 abbrev pub IsGiven : List Row → Text → Type 0
 IsGiven rows name = IsSome (first_of name rows)
@@ -131,12 +135,14 @@ HasShape shape.OfDay rows (worded.OfDay date) = IsText rows (codes "date") date
 HasShape shape.OfRecord rows (worded.OfRecord digest) = IsText rows (codes "sha256") digest
 HasShape other rows words = ⊥
 
--- A report, as its row has it. What is never a table is a text, and a statement, where no tariff is named,
--- is of what was charged.
+-- A report, as its row has it. What is never a table is a text, what is never a page is none, and a
+-- statement, where no tariff is named, is of what was charged.
 pub record AsksReport (name : Text) (rows : List Row) (asked : ReportAsked) : Type 0 where
   pub word : name ≡ (reports.row_of asked.name).word
   pub table : (reports.row_of asked.name).csv ≡ true → IsForm rows asked.form
   pub text : (reports.row_of asked.name).csv ≡ false → asked.form ≡ form.Text
+  pub page : (reports.row_of asked.name).html ≡ true → IsHtml rows asked.html
+  pub no_page : (reports.row_of asked.name).html ≡ false → asked.html ≡ false
   pub words : HasShape (reports.row_of asked.name).shape rows asked.words
   pub charged : name ≡ codes "statement" → IsLeftOut rows (codes "tariff")
 
@@ -193,6 +199,11 @@ IsOfBooks name rows (book.Serve port requests) =
     (name ≡ codes "serve") × IsNumber rows (codes "port") port
     × IsNumber rows (codes "requests") requests
 
+-- a report is asked for as a table and as a page
+abbrev pub is_both : BookRequest → Bool
+is_both (book.Report asked) = asked.html && is_table asked.form
+is_both other = false
+
 -- the commands that wait for no books: new ones are not there yet, and a service has a time of its own
 abbrev pub IsAtOnce : Text → Type 0
 IsAtOnce name = (name ≡ codes "init") ⊎ (name ≡ codes "serve")
@@ -238,6 +249,8 @@ IsUnclear name rows unclear.Choice =
 IsUnclear name rows unclear.Prices =
     (name ≡ codes "trial") × IsGiven rows (codes "tariff") × NamesRate rows
 IsUnclear name rows unclear.Period = has_plain_period rows ≡ false
+IsUnclear name rows unclear.Form =
+    (asked : BookRequest) × IsOfBooks name rows asked × (is_both asked ≡ true)
 
 -- what is asked of the program, by the words of a command
 abbrev pub IsOfCommand : Text → List Row → Request → Type 0

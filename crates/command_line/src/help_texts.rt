@@ -24,6 +24,7 @@ pub(crate) enum Help {
     Near,
     Csv,
     DisputeCsv,
+    Html,
     Wait,
     Centre,
     Cpu,
@@ -67,6 +68,7 @@ impl Help {
             Help::Near => "Refuses a day that is far after the newest record, or after today",
             Help::Csv => "As comma-separated values, without the total",
             Help::DisputeCsv => "As comma-separated values, a line for each record",
+            Help::Html => "As a page for a browser and for paper",
             Help::Wait => {
                 "For how many seconds to wait while another program uses the books, up to 3600"
             }
@@ -102,7 +104,7 @@ impl Help {
             Help::NumberKind => "KIND",
             Help::Quiet | Help::Whole | Help::WithNames => "",
             Help::Explain | Help::DryRun | Help::Near => "",
-            Help::Csv | Help::DisputeCsv => "",
+            Help::Csv | Help::DisputeCsv | Help::Html => "",
         }
     }
 }

@@ -95,6 +95,8 @@ const CSV: Argument = Argument::Flag("csv", Help::Csv);
 
 const DISPUTE_CSV: Argument = Argument::Flag("csv", Help::DisputeCsv);
 
+const HTML: Argument = Argument::Flag("html", Help::Html);
+
 const WAIT: Argument = Argument::NamedOr("wait", Help::Wait, ValueKind::AtMost(MOST_WAIT), "10");
 
 const CENTRE: Argument = Argument::NamedIfGiven("centre", Help::Centre, ValueKind::Text);
@@ -194,7 +196,7 @@ pub(crate) static KNOWN_COMMANDS: [KnownCommand; 25] = [
     KnownCommand {
         name: "bill",
         about: "Prints the bill of a centre for a period, or what each centre owes",
-        words: &[BOOK, PERIOD, CSV, CENTRE, WAIT, EXPLAIN],
+        words: &[BOOK, PERIOD, CSV, HTML, CENTRE, WAIT, EXPLAIN],
     },
     KnownCommand {
         name: "focus",

@@ -15,6 +15,7 @@ use crate::given_words::{
 };
 use crate::report_words::{report_in, statement_in};
 use crate::request::{BookRequest, Request, Ruling, Unclear};
+use book_reports::StatementForm;
 use clap::ArgMatches;
 use report_rows::named_report;
 
@@ -96,7 +97,26 @@ fn service_in<'a>(name: &str, found: &ArgMatches<'a>) -> Option<Request<'a>>
     }
 }
 
-/// Another report, by its word.
+/// The report is asked for as a table and as a page.
+fn is_both(asked: BookRequest<'_>) -> bool
+    ensures { result ≡ spec.is_both asked.entry }
+{
+    match asked {
+        BookRequest::Report(report) => report.html && is_table(report.form),
+        _ => false,
+    }
+}
+
+fn is_table(form: StatementForm) -> bool
+    ensures { result ≡ spec.is_table form }
+{
+    match form {
+        StatementForm::Text => false,
+        StatementForm::Table => true,
+    }
+}
+
+/// Another report, by its word. As a table and as a page at once it is unclear.
 fn named_in<'a>(name: &str, found: &ArgMatches<'a>) -> Option<Request<'a>>
     ensures request { name.now ≢ codes "statement"
         → IfSome result (IsOfCommand name.now (rows_in found.now)) }
@@ -104,7 +124,11 @@ fn named_in<'a>(name: &str, found: &ArgMatches<'a>) -> Option<Request<'a>>
         → NoneIs (bookless ++ changes ++ services) name.now → IsSome result }
 {
     let report = named_report(name)?;
-    of_books_in(found, report_in(report, found))
+    let asked = report_in(report, found)?;
+    if is_both(asked) {
+        return Some(Request::Unclear(Unclear::Form));
+    }
+    of_books_in(found, Some(asked))
 }
 
 /// The request to books, where there is something asked of them, and how long it waits for them.

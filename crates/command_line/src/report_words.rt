@@ -4,8 +4,8 @@ ghost use Rattle.std.specs.Prelude.{◌≡◌, ◌≢◌, IfSome, IsSome, codes,
 ghost use Rattle.report_rows.specs.ReportRows as reports;
 ghost use Rattle.command_line.specs.Given.{HasWord, HasWords};
 ghost use Rattle.command_line.specs.Known as known;
-ghost use Rattle.command_line.specs.Requests.{AsksReport, HasShape, IsForm, IsLeftOut, IsOfBooks};
-ghost use Rattle.command_line.specs.Requests.{NamesPeriod, rows_in};
+ghost use Rattle.command_line.specs.Requests.{AsksReport, HasShape, IsForm, IsHtml, IsLeftOut};
+ghost use Rattle.command_line.specs.Requests.{IsOfBooks, NamesPeriod, rows_in};
 
 use crate::given_words::{flag_in, number_in, period_in, text_in};
 use crate::request::{BookRequest, PeriodWords, ReportAsked, Words};
@@ -45,6 +45,7 @@ fn charged<'a>(form: StatementForm, period: PeriodWords<'a>) -> BookRequest<'a>
     BookRequest::Report(ReportAsked {
         name: ReportName::Statement,
         form,
+        html: false,
         words: Words::OfCentre(period),
     })
 }
@@ -59,6 +60,19 @@ fn form_in(csv: bool, found: &ArgMatches<'_>) -> Option<StatementForm>
         asked_form(found)
     } else {
         Some(StatementForm::Text)
+    }
+}
+
+/// Whether a page is asked for, of a report that may be one.
+fn html_in(html: bool, found: &ArgMatches<'_>) -> Option<bool>
+    ensures page { html ≡ true → IfSome result (IsHtml (rows_in found.now)) }
+    ensures text { html ≡ false → IfSome result (λ page. page ≡ false) }
+    ensures some { (html ≡ true → HasWord (rows_in found.now) known.html) → IsSome result }
+{
+    if html {
+        flag_in(found, "html")
+    } else {
+        Some(false)
     }
 }
 
@@ -106,11 +120,18 @@ pub(crate) fn report_in<'a>(name: ReportName, found: &ArgMatches<'a>) -> Option<
         → IfSome result (IsOfBooks text (rows_in found.now)) }
     ensures some { HasWords (rows_in found.now) (known.named_by (reports.row_of name).shape)
         → ((reports.row_of name).csv ≡ true → HasWord (rows_in found.now) known.csv)
+        → ((reports.row_of name).html ≡ true → HasWord (rows_in found.now) known.html)
         → IsSome result }
 {
     let row = row_of(name);
     let form = form_in(row.csv, found)?;
+    let html = html_in(row.html, found)?;
     let words = words_in(row.shape, found)?;
-    let asked = ReportAsked { name, form, words };
+    let asked = ReportAsked {
+        name,
+        form,
+        html,
+        words,
+    };
     Some(request_for(row.streamed, asked))
 }

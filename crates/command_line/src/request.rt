@@ -56,6 +56,8 @@ pub enum Unclear {
     Prices,
     /// Which period: its number has a sign, or a 0 before other digits.
     Period,
+    /// What a bill is to be: a table and a page.
+    Form,
 }
 
 /// A ruling on the books.
@@ -112,6 +114,8 @@ pub struct ReportAsked<'a> {
     pub name: ReportName,
     /// As a text or as a table.
     pub form: StatementForm,
+    /// As a page.
+    pub html: bool,
     pub words: Words<'a>,
 }
 

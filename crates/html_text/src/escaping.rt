@@ -8,7 +8,7 @@ use smf_text::show;
 use text_drafts::Draft;
 
 /// Appends a byte as a page shows it.
-fn push_byte(out: &mut Draft, byte: u8)
+pub fn push_byte(out: &mut Draft, byte: u8)
     ensures { out.new ≡ out.old ++ spec.escape_byte byte }
 {
     match byte {

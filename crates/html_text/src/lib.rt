@@ -4,5 +4,5 @@
 mod escaping;
 mod laws;
 
-pub use escaping::{push_escaped, push_shown};
+pub use escaping::{push_byte, push_escaped, push_shown};
 pub use laws::data_makes_no_markup;

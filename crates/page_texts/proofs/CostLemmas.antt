@@ -1,4 +1,4 @@
--- What keys cost, one charge row more at a time; and the days that cost something.
+-- What keys cost, one charge row more at a time.
 use Rattle.std.proofs.Common.{◌≡◌, ◌∙◌, ℕ, ◌+◌, ◌<◌, ◌≤◌, Bool, List, [], ◌∷◌, ◌++◌, ap, arith}
 use Rattle.std.proofs.Common.{get_or, length, map, sym, take, unwrap_or}
 use Rattle.std.specs.Prelude.{filter, sum_by}
@@ -33,13 +33,18 @@ module _ {K : Type 0} {R : K → K → Ordering} (o : IsTotalOrder R)
   pub key_costs-none : key_costs [] ≡ []
   key_costs-none = groups-none o exact ties key (λ k rows. amount_of rows)
 
+  -- a key finds there what it costs, nothing where it has no row
+  pub cost_found : (rows : List ChargeRow) (k : K)
+      → unwrap_or (lookup (is_at (R k)) (key_costs rows)) 0 ≡ amount_of (of_key rows k)
+  cost_found rows k = lookup-groups o exact ties key (λ k rows. amount_of rows) rows k
+
   -- what a key costs so far
   so_far : (rows : List ChargeRow) (k : K) (costs : List (K × ℕ)) (cost : ℕ)
       → costs ≡ key_costs rows → cost ≡ unwrap_or (lookup (is_at (R k)) costs) 0
       → cost ≡ amount_of (of_key rows k)
   so_far rows k costs cost kept found =
       found ∙ ap (λ all. unwrap_or (lookup (is_at (R k)) all) 0) kept
-      ∙ lookup-groups o exact ties key (λ k rows. amount_of rows) rows k
+      ∙ cost_found rows k
 
   -- with the next row it costs no more than all rows
   pub cost_fits : (rows : List ChargeRow) (i : ℕ) (row : ChargeRow) (costs : List (K × ℕ))

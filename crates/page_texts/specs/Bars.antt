@@ -1,5 +1,5 @@
 -- Pictures: amounts as bars. A bar is as long as its amount is of the greatest one.
-use Rattle.std.specs.Prelude.{ℕ, ◌+◌, ◌*◌, ◌/◌, ◌%◌, ◌==◌, min, max, if◌then◌else◌}
+use Rattle.std.specs.Prelude.{ℕ, ◌+◌, ◌*◌, ◌/◌, ◌==◌, min, max, if◌then◌else◌}
 use Rattle.std.specs.Prelude.{List, [], ◌∷◌, ◌++◌, codes, map}
 use Rattle.std.specs.Fmt.{decimal}
 use Rattle.std.specs.List.{concat, fold}
@@ -12,9 +12,13 @@ use Rattle.page_texts.specs.Markup.{table_row}
 abbrev pub picture_width : ℕ
 picture_width = 10_000
 
--- how many colours there are
+-- how many centres have a colour of their own
 abbrev pub most_colours : ℕ
 most_colours = 8
+
+-- the colour of the centre of an index: those after them share one, which is grey
+abbrev pub colour_of : ℕ → ℕ
+colour_of index = min index most_colours
 
 -- the greatest amount of some things, 0 of none
 abbrev pub greatest : {X : Type 0} → (X → ℕ) → List X → ℕ
@@ -47,17 +51,20 @@ unfoldable pub bar_picture : ℕ → List ℕ → ℕ → List ℕ
 bar_picture long label amount =
     let title = cost_title label amount in picture title (bar 0 0 long title)
 
--- the row of what an amount is charged for: its text, its bar and the amount
+-- what an amount is charged for: its text, its bar and the amount
+abbrev pub bar_cells : ℕ → List ℕ → ℕ → List (List ℕ)
+bar_cells most label amount =
+    label ∷ bar_picture (bar_length most amount) label amount ∷ amount_text amount ∷ []
+
+-- the row of these
 unfoldable pub bar_row : ℕ → List ℕ → ℕ → List ℕ
-bar_row most label amount =
-    table_row
-    (label ∷ bar_picture (bar_length most amount) label amount ∷ amount_text amount ∷ [])
+bar_row most label amount = table_row (bar_cells most label amount)
 
 -- the bar of the centre of an index; one without cost has none
 unfoldable pub centre_bar : ℕ → ℕ → ℕ → List ℕ → ℕ → List ℕ
 centre_bar index start long centre amount =
     if amount == 0 then []
-    else bar (index % most_colours) start long (cost_title (escaped centre) amount)
+    else bar (colour_of index) start long (cost_title (escaped centre) amount)
 
 -- the bars of centres, one after the other; the first centre has that index, and its bar that start
 abbrev pub bars_from : ℕ → List (List ℕ × ℕ) → ℕ → ℕ → List (List ℕ) → List ℕ

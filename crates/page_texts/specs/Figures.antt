@@ -1,12 +1,16 @@
 -- Figures of a period: how many records it counts, what it charges, adds and reverses, and what each
 -- centre costs in it.
-use Rattle.std.specs.Prelude.{ℕ, ℤ, ◌+◌, List, filter, map, sum_by}
+use Rattle.std.specs.Prelude.{ℕ, ℤ, ◌+◌, ◌-◌, List, filter, length, map, sum_by, slice_get}
+use Rattle.std.specs.Prelude.{Option, option_map, unwrap_or}
+use Rattle.std.specs.BTreeMap.{is_at}
+use Rattle.std.specs.Map.{lookup}
 use Rattle.std.specs.Ordering.{int_cmp, int_eq}
 use Rattle.book_model.specs.declared.line.Line.{Line}
 use Rattle.book_model.specs.declared.row.ChargeRow.{ChargeRow}
 use Rattle.book_model.specs.Words.{by_bytes, members, set_of}
 use Rattle.report_texts.specs.AdjustmentLists.{charged_amount, reversed_amount, signed_text}
 use Rattle.report_texts.specs.CentreAmounts.{cost_of}
+use Rattle.coverage_texts.specs.Coverage.{days_between}
 use Rattle.page_texts.specs.declared.figures.PeriodFigures.{PeriodFigures}
 
 -- the centres of rows, each once and in order
@@ -21,10 +25,27 @@ costs_of rows = map (λ centre. (centre, cost_of rows centre)) (centres_of rows)
 abbrev pub cost_on : List ChargeRow → ℤ → ℕ
 cost_on rows day = sum_by (λ row. row.amount) (filter (λ row. int_eq row.day day) rows)
 
--- what each day costs, in their order
+-- what each day costs that has rows, in their order
+abbrev pub sums_by_day : List ChargeRow → List (ℤ × ℕ)
+sums_by_day rows =
+    map (λ day. (day, cost_on rows day)) (members (set_of int_cmp (map (λ row. row.day) rows)))
+
+-- a day with what it costs among these, nothing where it has no row
+abbrev pub day_cost : List (ℤ × ℕ) → ℤ → ℤ × ℕ
+day_cost sums day = (day, unwrap_or (lookup (is_at (int_cmp day)) sums) 0)
+
+-- the day of the first row, and that of the last, if there are rows
+abbrev pub first_on : List ChargeRow → Option ℤ
+first_on rows = option_map (λ row. row.day) (slice_get rows 0)
+
+abbrev pub last_on : List ChargeRow → Option ℤ
+last_on rows = option_map (λ row. row.day) (slice_get rows (length rows - 1))
+
+-- what each day costs from that of the first row to that of the last: rows stand in the order of their
+-- days
 abbrev pub costs_by_day : List ChargeRow → List (ℤ × ℕ)
 costs_by_day rows =
-    map (λ day. (day, cost_on rows day)) (members (set_of int_cmp (map (λ row. row.day) rows)))
+    map (λ day. (day, cost_on rows day)) (days_between (first_on rows) (last_on rows))
 
 -- what a page shows of a period; the costs are those of its centres
 pub record FiguresSeen : Type 0 where

@@ -4,7 +4,7 @@ use Rattle.page_texts.specs.Markup.{table_row}
 
 -- The style: one column of tables, numbers at the right, light and dark as the reader has it, wide
 -- tables scrolled in their own box, and on paper in black on white. A bar of the colour of index n has
--- the class `cn`.
+-- the class `cn`: c8 is the grey that many centres share.
 unfoldable pub style : List ℕ
 style =
     codes ":root{color-scheme:light dark;--ink:#1d2129;--soft:#626a78;--line:#dfe3ea;--page:#fbfbfa;"
@@ -12,7 +12,7 @@ style =
     ++ codes "@media(prefers-color-scheme:dark){:root{--ink:#e8eaee;--soft:#9aa3b2;--line:#333a46;"
     ++ codes "--page:#15181d;--card:#1c2027;--link:#8ab4f0}}\n"
     ++ codes ".c0{--c:#4c78a8}.c1{--c:#e08a2e}.c2{--c:#54a24b}.c3{--c:#b279a2}.c4{--c:#d8544f}"
-    ++ codes ".c5{--c:#5ea8a3}.c6{--c:#d9b53c}.c7{--c:#9d755d}\n"
+    ++ codes ".c5{--c:#5ea8a3}.c6{--c:#d9b53c}.c7{--c:#9d755d}.c8{--c:#8d95a3}\n"
     ++ codes "*{box-sizing:border-box}\n"
     ++ codes "body{margin:0;background:var(--page);color:var(--ink);"
     ++ codes "font:16px/1.5 system-ui,-apple-system,'Segoe UI',Roboto,sans-serif}\n"
@@ -32,7 +32,7 @@ style =
     ++ codes "tbody:empty::after{content:'None';color:var(--soft)}\n"
     ++ codes "tr>:last-child{padding-right:0}\n"
     ++ codes ".office tr>:nth-child(n+3),.statement tr>:nth-child(n+4),.adjustments tr>:nth-child(5),"
-    ++ codes ".disputes tr>:nth-child(3),.bars tr>:nth-child(3){text-align:right}\n"
+    ++ codes ".disputes tr>:nth-child(3),.bars tr>:nth-child(n+3){text-align:right}\n"
     ++ codes ".bars td:nth-child(2){width:100%}.disputes tbody th{padding-top:1rem;font-weight:500}\n"
     ++ codes "td a[href^='/record/']{display:inline-block;max-width:13ch;overflow:hidden;"
     ++ codes "text-overflow:ellipsis;vertical-align:bottom}\n"

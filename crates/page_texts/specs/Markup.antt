@@ -16,6 +16,11 @@ unfoldable pub period_link : ℕ → List ℕ
 period_link period =
     codes "<a href='/period/" ++ decimal period ++ codes "'>" ++ decimal period ++ codes "</a>"
 
+-- a link to the bill of a period
+unfoldable pub bill_link : ℕ → List ℕ → List ℕ
+bill_link period shown =
+    codes "<a href='/bill/" ++ decimal period ++ codes "'>" ++ shown ++ codes "</a>"
+
 -- a link to the text of the record of a name
 unfoldable pub record_link : List ℕ → List ℕ
 record_link name =

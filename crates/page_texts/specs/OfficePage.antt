@@ -1,17 +1,18 @@
 -- The page of the office: its periods, the open one first, and what each centre costs in each.
-use Rattle.std.specs.Prelude.{ℕ, ◌+◌, ◌-◌, ◌%◌, nat_le, ℤ, if◌then◌else◌, Option}
+use Rattle.std.specs.Prelude.{ℕ, ◌+◌, ◌-◌, nat_le, ℤ, if◌then◌else◌, Option}
 use Rattle.std.specs.Prelude.{List, [], ◌∷◌, ◌++◌, codes, flat_map, length, map, take}
 use Rattle.std.specs.Fmt.{decimal}
 use Rattle.std.specs.BTreeSet.{insert_key}
 use Rattle.std.specs.List.{concat, fold}
-use Rattle.book_model.specs.Words.{by_bytes, close_of, members, set_of}
+use Rattle.book_model.specs.Words.{LetterheadSeen, by_bytes, close_of, members, set_of}
 use Rattle.report_texts.specs.Columns.{amount_text}
 use Rattle.report_texts.specs.Periods.{head_text}
 use Rattle.html_text.specs.Escaping.{escaped}
-use Rattle.page_texts.specs.Bars.{bars_from, greatest, most_colours, picture}
+use Rattle.page_texts.specs.Bars.{bars_from, colour_of, greatest, most_colours, picture}
 use Rattle.page_texts.specs.Figures.{FiguresSeen, owed_text}
 use Rattle.page_texts.specs.Frame.{page_start, table_end}
-use Rattle.page_texts.specs.Markup.{period_link, table_row}
+use Rattle.page_texts.specs.Letterheads.{currency_figure, office_name}
+use Rattle.page_texts.specs.Markup.{bill_link, period_link, table_row}
 
 -- the rows of periods, the last one first; so many come before the first of the list
 abbrev pub last_first : (ℕ → FiguresSeen → List ℕ) → ℕ → List FiguresSeen → List ℕ
@@ -19,13 +20,14 @@ last_first row before [] = []
 last_first row before (figures ∷ periods) =
     last_first row (before + 1) periods ++ row (before + 1) figures
 
--- the row of a period: its number, whether it is open, how many records it counts, and its amounts
+-- the row of a period: its number, whether it is open, how many records it counts, and its amounts, of
+-- which the last leads to its bill
 unfoldable pub office_row : ℕ → Option ℤ → FiguresSeen → List ℕ
 office_row period through figures =
     table_row
     (period_link period ∷ head_text through ∷ decimal figures.records
     ∷ amount_text figures.charged ∷ amount_text figures.added ∷ amount_text figures.reversed
-    ∷ owed_text figures ∷ [])
+    ∷ bill_link period (owed_text figures) ∷ [])
 
 abbrev pub office_rows : List ℤ → List FiguresSeen → List ℕ
 office_rows closes periods =
@@ -61,15 +63,11 @@ cost_row most centres period figures =
 abbrev pub cost_rows : ℕ → List (List ℕ) → List FiguresSeen → List ℕ
 cost_rows most centres periods = last_first (cost_row most centres) 0 periods
 
--- the most centres that the legend names
-abbrev pub most_named : ℕ
-most_named = 12
-
 -- the line of a centre in the legend
 unfoldable pub legend_item : ℕ → List ℕ → List ℕ
 legend_item index centre =
     concat
-    (codes "<li class='c" ∷ decimal (index % most_colours) ∷ codes "'>" ∷ escaped centre
+    (codes "<li class='c" ∷ decimal (colour_of index) ∷ codes "'>" ∷ escaped centre
     ∷ codes "</li>\n" ∷ [])
 
 -- the lines of centres, of which the first has that index
@@ -78,24 +76,31 @@ legend_from index [] = []
 legend_from index (centre ∷ centres) =
     legend_item index centre ++ legend_from (index + 1) centres
 
--- how many of so many it does not name, where there are such
+-- how many of so many share the last colour, where there are such: these it does not name
 unfoldable pub legend_rest : ℕ → List ℕ
 legend_rest count =
-    if nat_le count most_named then []
+    if nat_le count most_colours then []
     else concat
-    (codes "<li class='more'>and " ∷ decimal (count - most_named) ∷ codes " more</li>\n" ∷ [])
+    (codes "<li class='c8'>and " ∷ decimal (count - most_colours) ∷ codes " more</li>\n" ∷ [])
 
 -- which colour is whose
 unfoldable pub legend : List (List ℕ) → List ℕ
 legend centres =
-    codes "<ul>\n" ++ legend_from 0 (take most_named centres) ++ legend_rest (length centres)
+    codes "<ul>\n" ++ legend_from 0 (take most_colours centres) ++ legend_rest (length centres)
     ++ codes "</ul>\n"
 
+-- what stands above the tables: the office's name, the currency, and how many disputes are open
+unfoldable pub office_head : LetterheadSeen → ℕ → List ℕ
+office_head letterhead disputes =
+    concat
+    (codes "<header>\n<p>" ∷ office_name (codes "Chargeback") letterhead.office
+    ∷ codes "</p>\n<h1>Office</h1>\n</header>\n<dl>\n" ∷ currency_figure letterhead.currency
+    ∷ codes "<div><dt>Disputes</dt><dd>" ∷ decimal disputes ∷ codes "</dd></div>\n</dl>\n" ∷ [])
+
 -- what stands above the rows of periods
-unfoldable pub office_head : List ℕ
-office_head =
-    codes "<header>\n<p>Chargeback</p>\n<h1>Office</h1>\n</header>\n"
-    ++ codes "<div class='scroll'>\n<table class='office'>\n<caption>Periods</caption>\n<thead><tr>"
+unfoldable pub periods_head : List ℕ
+periods_head =
+    codes "<div class='scroll'>\n<table class='office'>\n<caption>Periods</caption>\n<thead><tr>"
     ++ codes "<th scope='col'>Period</th><th scope='col'>State</th><th scope='col'>Records</th>"
     ++ codes "<th scope='col'>Charged</th><th scope='col'>Added</th><th scope='col'>Reversed</th>"
     ++ codes "<th scope='col'>Owed</th></tr></thead>\n<tbody>"
@@ -124,10 +129,11 @@ cost_table centres periods =
 unfoldable pub cost_part : List FiguresSeen → List ℕ
 cost_part periods = cost_table (all_centres periods) periods
 
--- the page, by the days that periods were closed through and by the figures of all periods from 1
--- on, the open one last
-abbrev pub office_page_text : List ℤ → List FiguresSeen → List ℕ
-office_page_text closes periods =
+-- the page, by what the last tariff of the open period says of the office, how many disputes are open,
+-- the days that periods were closed through, and the figures of all periods from 1 on, the open one last
+abbrev pub office_page_text : LetterheadSeen → ℕ → List ℤ → List FiguresSeen → List ℕ
+office_page_text letterhead disputes closes periods =
     page_start (codes "Office")
-    ++ office_head ++ office_rows closes periods ++ table_end
+    ++ office_head letterhead disputes
+    ++ periods_head ++ office_rows closes periods ++ table_end
     ++ cost_part periods ++ office_foot

@@ -8,16 +8,19 @@ use Rattle.coverage_texts.specs.Coverage.{gaps}
 use Rattle.coverage_texts.specs.declared.coverage_rows.CoverageRow.{CoverageRow}
 use Rattle.report_texts.specs.Periods.{head_text}
 use Rattle.page_texts.specs.Figures.{FiguresSeen, owed_text}
+use Rattle.page_texts.specs.Letterheads.{office_name}
 
 -- the title
 unfoldable pub period_title : ℕ → List ℕ
 period_title period = codes "Period " ++ decimal period
 
--- what stands above the parts of the page: under its title whether the period is open, and its sums
-unfoldable pub period_head : List ℕ → Option ℤ → FiguresSeen → List ℕ
-period_head title through figures =
+-- what stands above the parts of the page: the office's name, under its title whether the period is
+-- open, and its sums
+unfoldable pub period_head : Option (List ℕ) → List ℕ → Option ℤ → FiguresSeen → List ℕ
+period_head office title through figures =
     concat
-    (codes "<header>\n<p><a href='/'>Office</a></p>\n<h1>" ∷ title
+    (codes "<header>\n<p><a href='/'>" ∷ office_name (codes "Office") office
+    ∷ codes "</a></p>\n<h1>" ∷ title
     ∷ codes "</h1>\n<p>" ∷ head_text through
     ∷ codes "</p>\n</header>\n<dl>\n<div><dt>Charged</dt><dd>" ∷ amount_text figures.charged
     ∷ codes "</dd></div>\n<div><dt>Added</dt><dd>" ∷ amount_text figures.added
@@ -45,9 +48,9 @@ report_link period path =
 -- the reports on a period as texts and as comma-separated values
 abbrev pub report_paths : List (List ℕ)
 report_paths =
-    codes "statement" ∷ codes "statement-csv" ∷ codes "adjustments" ∷ codes "adjustments-csv"
-    ∷ codes "details" ∷ codes "details-csv" ∷ codes "focus" ∷ codes "coverage"
-    ∷ codes "coverage-csv" ∷ []
+    codes "bill" ∷ codes "bill-csv" ∷ codes "statement" ∷ codes "statement-csv"
+    ∷ codes "adjustments" ∷ codes "adjustments-csv" ∷ codes "details" ∷ codes "details-csv"
+    ∷ codes "focus" ∷ codes "coverage" ∷ codes "coverage-csv" ∷ []
 
 -- the links to them and back, and the end of the page
 unfoldable pub period_foot : ℕ → List ℕ

@@ -1,6 +1,6 @@
 -- The tables of a period's page: its statement, its adjustments, and disputes.
-use Rattle.std.specs.Prelude.{ℕ, ℤ, List, [], ◌∷◌, ◌++◌, codes, flat_map, sum_by, Option}
-use Rattle.std.specs.Prelude.{if◌then◌else◌}
+use Rattle.std.specs.Prelude.{ℕ, ℤ, List, [], ◌∷◌, ◌++◌, codes, flat_map, sum_by, Option, Some, None}
+use Rattle.std.specs.Prelude.{Bool, true, if◌then◌else◌}
 use Rattle.std.specs.Fmt.{decimal}
 use Rattle.std.specs.List.{concat, list_any}
 use Rattle.book_model.specs.declared.dispute.Variant.{Variant}
@@ -97,12 +97,18 @@ identity_row identity =
 unfoldable pub dispute_rows : Disputed → List ℕ
 dispute_rows dispute = identity_row dispute.identity ++ flat_map member_row dispute.members
 
--- those of a dispute that has a record dated in a period, by the close before it and by its own;
--- another has none
+-- whether a dispute stands on a period's page, by the close before the period and by its own: on that of
+-- the open one each does, as it holds work back now; on that of a closed one those that have a record
+-- dated in it
+abbrev pub is_shown_in : Option ℤ → Option ℤ → List Variant → Bool
+is_shown_in before None members = true
+is_shown_in before (Some last) members =
+    list_any (λ member. is_between before (Some last) member.priced.day) members
+
+-- the rows of one that does; another has none
 unfoldable pub dated_rows : Option ℤ → Option ℤ → Disputed → List ℕ
 dated_rows before through dispute =
-    if list_any (λ member. is_between before through member.priced.day) dispute.members
-    then dispute_rows dispute else []
+    if is_shown_in before through dispute.members then dispute_rows dispute else []
 
 -- the disputes of a period
 unfoldable pub dispute_part : Option ℤ → Option ℤ → List Disputed → List ℕ

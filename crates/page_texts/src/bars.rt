@@ -1,7 +1,8 @@
 //! Pictures: amounts as bars.
 
-ghost use Rattle.std.specs.Prelude.{◌≡◌, ◌≤◌, ◌++◌};
+ghost use Rattle.std.specs.Prelude.{◌≡◌, ◌≤◌, ◌++◌, flat_map};
 ghost use Rattle.page_texts.specs.Bars as spec;
+ghost use Rattle.page_texts.specs.Markup.{cell};
 
 use crate::amounts::push_money;
 use crate::markup::push_money_cell;
@@ -18,8 +19,15 @@ const PICTURE_WIDTH: u64 = 10_000;
 pub(crate) const PICTURE_START: &str =
     "<svg viewBox='0 0 10000 1' preserveAspectRatio='none' role='img' aria-label='";
 
-/// How many colours there are.
+/// How many centres have a colour of their own.
 pub(crate) const COLOURS: usize = 8;
+
+/// The colour of the centre of an index: those after them share one, which is grey.
+pub(crate) fn colour_of(index: usize) -> usize
+    ensures { result ≡ spec.colour_of index }
+{
+    if index < COLOURS { index } else { COLOURS }
+}
 
 /// How long an amount is where the greatest has the whole width.
 #[tactic(auto, unfolding(crate::specs::Bars::bar_length))]
@@ -73,17 +81,26 @@ fn push_bar_picture(out: &mut Draft, long: u64, label: &Draft, amount: u64)
     out.push_str("</svg>");
 }
 
-/// Appends the row of what an amount is charged for: its text, its bar and the amount.
-#[tactic(auto, unfolding(crate::specs::Bars::bar_row, crate::specs::Markup::table_row, crate::specs::Markup::cell))]
-pub(crate) fn push_bar_row(out: &mut Draft, most: u64, label: &Draft, amount: u64)
-    ensures { out.new ≡ out.old ++ spec.bar_row most label.now amount }
+/// Appends the cells of what an amount is charged for: its text, its bar and the amount.
+#[tactic(auto, unfolding(crate::specs::Markup::cell))]
+pub(crate) fn push_bar_cells(out: &mut Draft, most: u64, label: &Draft, amount: u64)
+    ensures { out.new ≡ out.old ++ flat_map cell (spec.bar_cells most label.now amount) }
 {
-    out.push_str("<tr><td>");
+    out.push_str("<td>");
     out.push_draft(label);
     out.push_str("</td><td>");
     push_bar_picture(out, bar_length(most, amount), label, amount);
     out.push_str("</td>");
     push_money_cell(out, amount);
+}
+
+/// Appends the row of these.
+#[tactic(auto, unfolding(crate::specs::Bars::bar_row, crate::specs::Markup::table_row))]
+pub(crate) fn push_bar_row(out: &mut Draft, most: u64, label: &Draft, amount: u64)
+    ensures { out.new ≡ out.old ++ spec.bar_row most label.now amount }
+{
+    out.push_str("<tr>");
+    push_bar_cells(out, most, label, amount);
     out.push_str("</tr>\n");
 }
 
@@ -97,7 +114,7 @@ fn push_centre_bar(out: &mut Draft, index: usize, start: u64, long: u64, centre:
     }
     let mut label = Draft::new(out.alloc());
     push_escaped(&mut label, centre.text());
-    push_bar(out, index % COLOURS, start, long, &label, amount);
+    push_bar(out, colour_of(index), start, long, &label, amount);
 }
 
 /// Appends the bars of centres, one after the other, by what each costs.

@@ -1,7 +1,8 @@
 //! The days of a period, by the days that periods were closed through.
 
-ghost use Rattle.std.specs.Prelude.{◌≡◌, All};
+ghost use Rattle.std.specs.Prelude.{◌≡◌, ◌≤ℤ◌, ◌+ℤ◌, All, pos};
 ghost use Rattle.std.specs.Option.{ForSome};
+ghost use Rattle.smf_text.specs.Day.{last_day};
 ghost use Rattle.book_model.specs.CloseDays as spec;
 ghost use Rattle.book_model.specs.Words.{IsDay};
 
@@ -24,4 +25,12 @@ pub(crate) fn is_between(before: Option<i32>, through: Option<i32>, day: i32) ->
     ensures { result ≡ spec.is_between before through day }
 {
     is_after(before, day) && is_through(through, day)
+}
+
+/// The day after one.
+pub fn day_after(day: &i32) -> i32
+    requires { day.now ≤ℤ last_day }
+    ensures { result ≡ day.now +ℤ pos 1 }
+{
+    *day + 1
 }

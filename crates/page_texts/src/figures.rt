@@ -1,10 +1,13 @@
 //! Figures of a period: what it comes to, and what each centre and each day costs in it.
 
-ghost use Rattle.std.specs.Prelude.{◌≡◌, ◌++◌, IfOk};
+ghost use Rattle.std.specs.Prelude.{◌≡◌, ◌≤ℤ◌, ◌++◌, IfOk, IfSome, Some, map};
+ghost use Rattle.smf_text.specs.Day.{last_day};
 ghost use Rattle.book_model.specs.Words.{AreLines, AreRows};
+ghost use Rattle.coverage_texts.specs.Coverage.{days_between};
 ghost use Rattle.page_texts.specs.Figures as spec;
 
 use crate::amounts::push_signed;
+use crate::closes::day_after;
 use book_model::{ChargeRow, Line};
 use report_texts::figures_of;
 use smf_text::Name;
@@ -41,28 +44,97 @@ fn costs_of(alloc: Global, rows: &[ChargeRow]) -> Result<BTreeMap<Name, u64>, Al
     Ok(costs)
 }
 
-/// The same as a list.
-pub(crate) fn centre_costs(
-    alloc: Global,
-    rows: &[ChargeRow],
-) -> Result<Vec<(Name, u64)>, AllocError>
+/// What each day costs that has rows, in their order.
+fn day_sums(alloc: Global, rows: &[ChargeRow]) -> Result<BTreeMap<i32, u64>, AllocError>
     requires { AreRows rows.now }
-    ensures { IfOk result (λ costs. costs.items ≡ spec.costs_of rows.now) }
-{
-    costs_of(alloc, rows)?.into_iter().collect(alloc)
-}
-
-/// What each day costs, in their order.
-pub(crate) fn day_costs(alloc: Global, rows: &[ChargeRow]) -> Result<Vec<(i32, u64)>, AllocError>
-    requires { AreRows rows.now }
-    ensures { IfOk result (λ costs. costs.items ≡ spec.costs_by_day rows.now) }
+    ensures { IfOk result (λ costs. costs.entries ≡ spec.sums_by_day rows.now) }
 {
     let mut costs = BTreeMap::new(alloc);
     for row in rows {
         let cost = costs.entry(row.day)?.or_insert(0);
         *cost += row.amount;
     }
-    costs.into_iter().collect(alloc)
+    Ok(costs)
+}
+
+/// A day with what it costs among these, nothing where it has no row.
+fn day_cost(sums: &BTreeMap<i32, u64>, day: &i32) -> (i32, u64)
+    ensures { result ≡ spec.day_cost sums.now.entries day.now }
+{
+    let cost = sums.get(day).copied().unwrap_or(0);
+    (*day, cost)
+}
+
+/// What the days cost from one to another.
+fn costs_through(
+    alloc: Global,
+    sums: &BTreeMap<i32, u64>,
+    first: i32,
+    last: i32,
+) -> Result<Vec<(i32, u64)>, AllocError>
+    requires { last ≤ℤ last_day }
+    ensures { IfOk result (λ costs. costs.items
+        ≡ map (spec.day_cost sums.now.entries) (days_between (Some first) (Some last))) }
+{
+    let mut costs = Vec::new(alloc);
+    let mut day = first;
+    while day <= last {
+        costs.push(day_cost(sums, &day))?;
+        day = day_after(&day);
+    }
+    Ok(costs)
+}
+
+/// The same, if there are both days.
+fn costs_between(
+    alloc: Global,
+    sums: &BTreeMap<i32, u64>,
+    first: Option<i32>,
+    last: Option<i32>,
+) -> Result<Vec<(i32, u64)>, AllocError>
+    requires { IfSome last (λ last. last ≤ℤ last_day) }
+    ensures { IfOk result (λ costs. costs.items
+        ≡ map (spec.day_cost sums.now.entries) (days_between first last)) }
+{
+    let Some(first) = first else {
+        return Ok(Vec::new(alloc));
+    };
+    let Some(last) = last else {
+        return Ok(Vec::new(alloc));
+    };
+    costs_through(alloc, sums, first, last)
+}
+
+/// The day of the first row, if there is one.
+fn first_on(rows: &[ChargeRow]) -> Option<i32>
+    ensures { result ≡ spec.first_on rows.now }
+{
+    match rows.first() {
+        Some(row) => Some(row.day),
+        None => None,
+    }
+}
+
+/// The day of the last row, if there is one.
+fn last_on(rows: &[ChargeRow]) -> Option<i32>
+    ensures { result ≡ spec.last_on rows.now }
+{
+    match rows.last() {
+        Some(row) => Some(row.day),
+        None => None,
+    }
+}
+
+/// What each day costs from that of the first row to that of the last: rows stand in the order of
+/// their days.
+pub(crate) fn day_costs(alloc: Global, rows: &[ChargeRow]) -> Result<Vec<(i32, u64)>, AllocError>
+    requires { AreRows rows.now }
+    ensures { IfOk result (λ costs. costs.items ≡ spec.costs_by_day rows.now) }
+{
+    let sums = day_sums(alloc, rows)?;
+    let first = first_on(rows);
+    let last = last_on(rows);
+    costs_between(alloc, &sums, first, last)
 }
 
 /// The figures of a period, by all its charge rows and adjustment lines.

@@ -19,7 +19,7 @@ const STYLE: &str = "\
     @media(prefers-color-scheme:dark){:root{--ink:#e8eaee;--soft:#9aa3b2;--line:#333a46;\
     --page:#15181d;--card:#1c2027;--link:#8ab4f0}}\n\
     .c0{--c:#4c78a8}.c1{--c:#e08a2e}.c2{--c:#54a24b}.c3{--c:#b279a2}.c4{--c:#d8544f}\
-    .c5{--c:#5ea8a3}.c6{--c:#d9b53c}.c7{--c:#9d755d}\n\
+    .c5{--c:#5ea8a3}.c6{--c:#d9b53c}.c7{--c:#9d755d}.c8{--c:#8d95a3}\n\
     *{box-sizing:border-box}\n\
     body{margin:0;background:var(--page);color:var(--ink);\
     font:16px/1.5 system-ui,-apple-system,'Segoe UI',Roboto,sans-serif}\n\
@@ -39,7 +39,7 @@ const STYLE: &str = "\
     tbody:empty::after{content:'None';color:var(--soft)}\n\
     tr>:last-child{padding-right:0}\n\
     .office tr>:nth-child(n+3),.statement tr>:nth-child(n+4),.adjustments tr>:nth-child(5),\
-    .disputes tr>:nth-child(3),.bars tr>:nth-child(3){text-align:right}\n\
+    .disputes tr>:nth-child(3),.bars tr>:nth-child(n+3){text-align:right}\n\
     .bars td:nth-child(2){width:100%}.disputes tbody th{padding-top:1rem;font-weight:500}\n\
     td a[href^='/record/']{display:inline-block;max-width:13ch;overflow:hidden;\
     text-overflow:ellipsis;vertical-align:bottom}\n\
@@ -63,7 +63,7 @@ const STYLE: &str = "\
 
 /// Appends what stands above the title.
 #[tactic(auto, unfolding(crate::specs::Frame::head_start))]
-fn push_head_start(out: &mut Draft)
+pub fn push_head_start(out: &mut Draft)
     ensures { out.new ≡ out.old ++ spec.head_start }
 {
     out.push_str(HEAD_START);

@@ -1,22 +1,20 @@
 //! Which colour is whose, under the pictures of the office.
 
 ghost use Rattle.std.specs.Prelude.{◌≡◌, ◌++◌, take};
+ghost use Rattle.page_texts.specs.Bars.{most_colours};
 ghost use Rattle.page_texts.specs.OfficePage as spec;
 
-use crate::bars::COLOURS;
+use crate::bars::{COLOURS, colour_of};
 use html_text::push_escaped;
 use smf_text::Name;
 use text_drafts::Draft;
-
-/// The most centres that the legend names.
-const MOST_NAMED: usize = 12;
 
 /// Appends the line of the centre of an index.
 fn push_item(out: &mut Draft, index: usize, centre: Name)
     ensures { out.new ≡ out.old ++ spec.legend_item index centre }
 {
     out.push_str("<li class='c");
-    out.push_number((index % COLOURS) as u64);
+    out.push_number(colour_of(index) as u64);
     out.push_str("'>");
     push_escaped(out, centre.text());
     out.push_str("</li>\n");
@@ -31,27 +29,27 @@ fn push_items(out: &mut Draft, centres: &[Name])
     }
 }
 
-/// Appends how many of so many it does not name, where there are such.
+/// Appends how many of so many share the last colour, where there are such: these it does not name.
 #[tactic(auto, unfolding(crate::specs::OfficePage::legend_rest))]
 fn push_rest(out: &mut Draft, count: usize)
     ensures { out.new ≡ out.old ++ spec.legend_rest count }
 {
-    if count <= MOST_NAMED {
+    if count <= COLOURS {
         return;
     }
-    out.push_str("<li class='more'>and ");
-    out.push_number((count - MOST_NAMED) as u64);
+    out.push_str("<li class='c8'>and ");
+    out.push_number((count - COLOURS) as u64);
     out.push_str(" more</li>\n");
 }
 
-/// The first centres, as many as it names.
+/// The first centres, as many as have a colour of their own.
 fn named(centres: &[Name]) -> &[Name]
-    ensures { result.now ≡ take spec.most_named centres.now }
+    ensures { result.now ≡ take most_colours centres.now }
 {
-    if centres.len() <= MOST_NAMED {
+    if centres.len() <= COLOURS {
         return centres;
     }
-    &centres[..MOST_NAMED]
+    &centres[..COLOURS]
 }
 
 /// Appends the legend of centres.

@@ -2,11 +2,11 @@
 
 ghost use Rattle.std.specs.Prelude.{◌≡◌, ◌++◌, All, IfOk, map, string_bytes};
 ghost use Rattle.std.specs.Option.{ForSome};
-ghost use Rattle.book_model.specs.Words.{IsDay};
+ghost use Rattle.book_model.specs.Words.{IsDay, letterhead_shown};
 ghost use Rattle.report_texts.specs.Periods.{head_text};
 ghost use Rattle.page_texts.specs.Bars.{greatest};
 ghost use Rattle.page_texts.specs.Figures.{figures_seen, owed_text};
-ghost use Rattle.page_texts.specs.Markup.{cell};
+ghost use Rattle.page_texts.specs.Markup.{bill_link, cell};
 ghost use Rattle.page_texts.specs.OfficePage as spec;
 
 use crate::amounts::push_head;
@@ -16,14 +16,15 @@ use crate::closes::close_of;
 use crate::figures::{PeriodFigures, push_owed};
 use crate::frame::{push_page_start, push_table_end};
 use crate::legend::push_legend;
+use crate::letterheads::{push_currency_figure, push_office_name};
 use crate::markup::{push_money_cell, push_number_cell, push_period_cell};
 use smf_text::Name;
 use std::alloc::{AllocError, Global};
+use tariff_rules::Letterhead;
 use text_drafts::Draft;
 
 /// What stands above the rows of periods.
-const OFFICE_HEAD: &str = "\
-    <header>\n<p>Chargeback</p>\n<h1>Office</h1>\n</header>\n\
+const PERIODS_HEAD: &str = "\
     <div class='scroll'>\n<table class='office'>\n<caption>Periods</caption>\n<thead><tr>\
     <th scope='col'>Period</th><th scope='col'>State</th><th scope='col'>Records</th>\
     <th scope='col'>Charged</th><th scope='col'>Added</th><th scope='col'>Reversed</th>\
@@ -52,13 +53,26 @@ fn push_state_cell(out: &mut Draft, through: Option<i32>)
     out.push_str("</td>");
 }
 
-/// Appends a cell of what is owed.
+/// Appends what is owed, which leads to the bill.
+#[tactic(auto, unfolding(crate::specs::Markup::bill_link))]
+fn push_bill_link(out: &mut Draft, period: u64, figures: &PeriodFigures)
+    ensures { out.new ≡ out.old ++ bill_link period (owed_text (figures_seen figures.now)) }
+{
+    out.push_str("<a href='/bill/");
+    out.push_number(period);
+    out.push_str("'>");
+    push_owed(out, figures);
+    out.push_str("</a>");
+}
+
+/// Appends a cell of that.
 #[tactic(auto, unfolding(crate::specs::Markup::cell))]
-fn push_owed_cell(out: &mut Draft, figures: &PeriodFigures)
-    ensures { out.new ≡ out.old ++ cell (owed_text (figures_seen figures.now)) }
+fn push_owed_cell(out: &mut Draft, period: u64, figures: &PeriodFigures)
+    ensures { out.new
+        ≡ out.old ++ cell (bill_link period (owed_text (figures_seen figures.now))) }
 {
     out.push_str("<td>");
-    push_owed(out, figures);
+    push_bill_link(out, period, figures);
     out.push_str("</td>");
 }
 
@@ -76,7 +90,7 @@ fn push_office_row(out: &mut Draft, period: u64, through: Option<i32>, figures: 
     push_money_cell(out, figures.charged);
     push_money_cell(out, figures.added);
     push_money_cell(out, figures.reversed);
-    push_owed_cell(out, figures);
+    push_owed_cell(out, period, figures);
     out.push_str("</tr>\n");
 }
 
@@ -157,12 +171,27 @@ fn greatest_charged(periods: &[PeriodFigures]) -> u64
     most
 }
 
-/// Appends what stands above the rows of periods.
-#[tactic(auto, unfolding(crate::specs::OfficePage::office_head))]
-fn push_office_head(out: &mut Draft)
-    ensures { out.new ≡ out.old ++ spec.office_head }
+/// Appends what stands above the tables: the office's name, the currency, and how many disputes are
+/// open.
+fn push_office_head(out: &mut Draft, letterhead: &Letterhead, disputes: u64)
+    ensures { out.new
+        ≡ out.old ++ spec.office_head (letterhead_shown letterhead.now) disputes }
 {
-    out.push_str(OFFICE_HEAD);
+    out.push_str("<header>\n<p>");
+    push_office_name(out, "Chargeback", &letterhead.office);
+    out.push_str("</p>\n<h1>Office</h1>\n</header>\n<dl>\n");
+    push_currency_figure(out, &letterhead.currency);
+    out.push_str("<div><dt>Disputes</dt><dd>");
+    out.push_number(disputes);
+    out.push_str("</dd></div>\n</dl>\n");
+}
+
+/// Appends what stands above the rows of periods.
+#[tactic(auto, unfolding(crate::specs::OfficePage::periods_head))]
+fn push_periods_head(out: &mut Draft)
+    ensures { out.new ≡ out.old ++ spec.periods_head }
+{
+    out.push_str(PERIODS_HEAD);
 }
 
 /// Appends what stands above the pictures.
@@ -193,24 +222,29 @@ fn push_cost_table(out: &mut Draft, centres: &[Name], periods: &[PeriodFigures])
     push_legend(out, centres);
 }
 
-/// The page of the office: by the days through which periods were closed, in order, and the figures
-/// of all periods from 1 on, the open one last.
+/// The page of the office: by what the last tariff of the open period says of the office, how many
+/// disputes are open, the days through which periods were closed, in order, and the figures of all
+/// periods from 1 on, the open one last.
 #[tactic(auto, unfolding(crate::specs::OfficePage::cost_part))]
 pub fn office_page(
     alloc: Global,
+    letterhead: &Letterhead,
+    disputes: u64,
     closes: &[i32],
     periods: &[PeriodFigures],
 ) -> Result<String, AllocError>
     requires { All IsDay closes.now }
-    ensures { IfOk result (λ page.
-        string_bytes page ≡ spec.office_page_text closes.now (map figures_seen periods.now)) }
+    ensures { IfOk result (λ page. string_bytes page
+        ≡ spec.office_page_text (letterhead_shown letterhead.now) disputes closes.now
+        (map figures_seen periods.now)) }
 {
     let centres = all_centres(alloc, periods)?;
     let mut title = Draft::new(alloc);
     title.push_str("Office");
     let mut page = Draft::new(alloc);
     push_page_start(&mut page, &title);
-    push_office_head(&mut page);
+    push_office_head(&mut page, letterhead, disputes);
+    push_periods_head(&mut page);
     push_office_rows(&mut page, closes, periods);
     push_table_end(&mut page);
     push_cost_table(&mut page, &centres, periods);

@@ -2,29 +2,35 @@
 
 ghost use Rattle.std.specs.Prelude.{◌≡◌, All, IfOk, map, string_bytes};
 ghost use Rattle.book_model.specs.Words.{AreDisputes, AreLines, AreRows, IsDay, dispute_shown};
+ghost use Rattle.book_model.specs.Words.{letterhead_shown};
 ghost use Rattle.page_texts.specs.PeriodPage as spec;
 
 use crate::closes::close_of;
-use crate::figures::{centre_costs, day_costs, period_figures};
+use crate::figures::{day_costs, period_figures};
 use crate::frame::push_page_start;
+use crate::letterheads::push_currency_figure;
 use crate::period_adjustments::push_adjustment_part;
 use crate::period_disputes::push_dispute_part;
-use crate::period_head::{period_title, push_gaps_figure, push_period_foot, push_period_head};
+use crate::period_head::{
+    PeriodHead, period_title, push_gaps_figure, push_period_foot, push_period_head,
+};
 use crate::period_pictures::{push_centre_table, push_day_table};
 use crate::period_statement::push_statement_part;
 use book_model::{ChargeRow, Dispute, Line};
 use coverage_texts::CoverageRow;
+use report_texts::each_charges;
 use std::alloc::{AllocError, Global};
 use text_drafts::Draft;
 
-/// The page of a period: by its number, the days through which periods were closed, in order, its
-/// charge rows and its adjustment lines in the order in which the books give them, all disputes of
-/// the office, and the rows of its coverage. It shows the disputes that have a record dated in the
-/// period.
+/// The page of a period: by its number and what the last of its tariffs says of the office, the
+/// days through which periods were closed, in order, its charge rows and its adjustment lines in
+/// the order in which the books give them, all disputes of the office, and the rows of its
+/// coverage. That of the open period shows all these disputes, that of a closed one those that have
+/// a record dated in it.
 #[tactic(auto, unfolding(crate::specs::PeriodPictures::day_part, crate::specs::PeriodPictures::centre_part))]
 pub fn period_page(
     alloc: Global,
-    period: u16,
+    head: &PeriodHead<'_>,
     closes: &[i32],
     rows: &[ChargeRow],
     lines: &[Line],
@@ -35,25 +41,33 @@ pub fn period_page(
     requires rows { AreRows rows.now }
     requires lines { AreLines lines.now }
     requires disputes { AreDisputes (map dispute_shown disputes.now) }
-    ensures { IfOk result (λ page. string_bytes page ≡ spec.period_page_text period closes.now
-        rows.now lines.now (map dispute_shown disputes.now) coverage.now) }
+    ensures { IfOk result (λ page. string_bytes page
+        ≡ spec.period_page_text head.now.number (letterhead_shown head.now.letterhead.now)
+        closes.now rows.now lines.now (map dispute_shown disputes.now) coverage.now) }
 {
-    let number = usize::from(period);
+    let number = usize::from(head.number);
     let before = close_of(closes, number.saturating_sub(1));
     let through = close_of(closes, number);
     let figures = period_figures(alloc, rows, lines)?;
     let days = day_costs(alloc, rows)?;
-    let centres = centre_costs(alloc, rows)?;
-    let title = period_title(alloc, period);
+    let centres = each_charges(alloc, rows, &[], lines)?;
+    let title = period_title(alloc, head.number);
     let mut page = Draft::new(alloc);
     push_page_start(&mut page, &title);
-    push_period_head(&mut page, &title, through, &figures);
+    push_period_head(
+        &mut page,
+        &head.letterhead.office,
+        &title,
+        through,
+        &figures,
+    );
+    push_currency_figure(&mut page, &head.letterhead.currency);
     push_gaps_figure(&mut page, coverage);
     push_day_table(&mut page, &days);
     push_centre_table(&mut page, &centres);
     push_statement_part(&mut page, rows);
     push_adjustment_part(&mut page, lines);
     push_dispute_part(&mut page, before, through, disputes);
-    push_period_foot(&mut page, period);
+    push_period_foot(&mut page, head.number);
     page.finish()
 }

@@ -128,21 +128,31 @@ fn is_dated(before: Option<i32>, through: Option<i32>, members: &[Variant]) -> b
     false
 }
 
-/// Appends the rows of a dispute of which a record is dated so: its identity, and its records.
+/// Whether a dispute of these records stands on the page: on that of an open period each does.
+fn is_shown_in(before: Option<i32>, through: Option<i32>, members: &[Variant]) -> bool
+    ensures { result ≡ spec.is_shown_in before through members.now }
+{
+    match through {
+        None => true,
+        Some(_) => is_dated(before, through, members),
+    }
+}
+
+/// Appends the rows of a dispute that stands on the page: its identity, and its records.
 #[tactic(auto, unfolding(crate::specs::PeriodTables::dated_rows, crate::specs::PeriodTables::dispute_rows))]
 fn push_dated(out: &mut Draft, before: Option<i32>, through: Option<i32>, dispute: &Dispute)
     requires { IsDispute (dispute_shown dispute.now) }
     ensures { out.new
         ≡ out.old ++ spec.dated_rows before through (dispute_shown dispute.now) }
 {
-    if !is_dated(before, through, &dispute.members) {
+    if !is_shown_in(before, through, &dispute.members) {
         return;
     }
     push_identity(out, &dispute.identity);
     push_members(out, &dispute.members);
 }
 
-/// Appends the rows of the disputes of which a record is dated so.
+/// Appends the rows of the disputes that stand on the page.
 #[tactic(auto, using(std::proofs::lemmas::List::flat_map_more))]
 fn push_disputes(out: &mut Draft, before: Option<i32>, through: Option<i32>, disputes: &[Dispute])
     requires { AreDisputes (map dispute_shown disputes.now) }
@@ -154,7 +164,8 @@ fn push_disputes(out: &mut Draft, before: Option<i32>, through: Option<i32>, dis
     }
 }
 
-/// Appends the disputes of the office that have a record dated in a period.
+/// Appends the disputes of the office that stand on a period's page: of the open one all of them,
+/// as they hold work back now; of a closed one those that have a record dated in it.
 #[tactic(auto, unfolding(crate::specs::PeriodTables::dispute_part))]
 pub(crate) fn push_dispute_part(
     out: &mut Draft,

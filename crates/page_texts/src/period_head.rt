@@ -1,6 +1,6 @@
 //! The head of a period's page, and its foot with the links.
 
-ghost use Rattle.std.specs.Prelude.{◌≡◌, ◌++◌, flat_map, map};
+ghost use Rattle.std.specs.Prelude.{◌≡◌, ◌++◌, flat_map, map, option_map, string_bytes};
 ghost use Rattle.std.specs.Option.{ForSome};
 ghost use Rattle.book_model.specs.Words.{IsDay};
 ghost use Rattle.page_texts.specs.Figures.{figures_seen};
@@ -8,9 +8,20 @@ ghost use Rattle.page_texts.specs.PeriodHead as spec;
 
 use crate::amounts::{push_head, push_money};
 use crate::figures::{PeriodFigures, push_owed};
+use crate::letterheads::push_office_name;
 use coverage_texts::{CoverageRow, count_gaps};
 use std::alloc::Global;
+use tariff_rules::Letterhead;
 use text_drafts::Draft;
+
+/// Whose page it is.
+#[derive(Clone, Copy)]
+pub struct PeriodHead<'a> {
+    /// The number of the period.
+    pub number: u16,
+    /// What the last of its tariffs says of the office.
+    pub letterhead: &'a Letterhead,
+}
 
 /// The title.
 #[tactic(auto, unfolding(crate::specs::PeriodHead::period_title))]
@@ -23,19 +34,23 @@ pub(crate) fn period_title(alloc: Global, period: u16) -> Draft
     title
 }
 
-/// Appends what stands above the parts of the page: under its title whether the period is open, and
-/// its sums.
+/// Appends what stands above the parts of the page: the office's name, under its title whether the
+/// period is open, and its sums.
 pub(crate) fn push_period_head(
     out: &mut Draft,
+    office: &Option<String>,
     title: &Draft,
     through: Option<i32>,
     figures: &PeriodFigures,
 )
     requires { ForSome through IsDay }
-    ensures { out.new
-        ≡ out.old ++ spec.period_head title.now through (figures_seen figures.now) }
+    ensures { out.new ≡ out.old
+        ++ spec.period_head (option_map (λ text. string_bytes text) office.now) title.now through
+        (figures_seen figures.now) }
 {
-    out.push_str("<header>\n<p><a href='/'>Office</a></p>\n<h1>");
+    out.push_str("<header>\n<p><a href='/'>");
+    push_office_name(out, "Office", office);
+    out.push_str("</a></p>\n<h1>");
     out.push_draft(title);
     out.push_str("</h1>\n<p>");
     push_head(out, through);
@@ -101,7 +116,9 @@ fn push_links(out: &mut Draft, period: u16, paths: &[&str])
 pub(crate) fn push_period_foot(out: &mut Draft, period: u16)
     ensures { out.new ≡ out.old ++ spec.period_foot period }
 {
-    let paths: [&str; 9] = [
+    let paths: [&str; 11] = [
+        "bill",
+        "bill-csv",
         "statement",
         "statement-csv",
         "adjustments",

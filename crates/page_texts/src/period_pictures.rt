@@ -2,18 +2,26 @@
 
 ghost use Rattle.std.specs.Prelude.{◌≡◌, ◌++◌, All};
 ghost use Rattle.book_model.specs.Words.{IsDay};
+ghost use Rattle.report_texts.specs.Charges.{owed_text};
 ghost use Rattle.page_texts.specs.Bars.{greatest};
+ghost use Rattle.page_texts.specs.Markup.{cell};
 ghost use Rattle.page_texts.specs.PeriodPictures as spec;
 
-use crate::bars::push_bar_row;
+use crate::amounts::push_signed;
+use crate::bars::{push_bar_cells, push_bar_row};
 use crate::frame::push_table_end;
+use crate::markup::push_money_cell;
 use html_text::push_escaped;
-use smf_text::Name;
+use report_texts::{CentreCharges, Charges};
 use text_drafts::Draft;
 
-/// The headings of the other columns, and where the rows begin.
-const COLUMNS: &str =
-    "</th><th scope='col'>Cost</th><th scope='col'>Charged</th></tr></thead>\n<tbody>";
+/// The other headings of days, and where their rows begin.
+const DAY_COLUMNS: &str = "</tr></thead>\n<tbody>";
+
+/// Those of centres.
+const CENTRE_COLUMNS: &str = "\
+    <th scope='col'>Late</th><th scope='col'>Reversed</th><th scope='col'>Owed</th>\
+    </tr></thead>\n<tbody>";
 
 /// Appends what stands above the bars, under a caption and the heading of the first column.
 fn push_bars_head(out: &mut Draft, caption: &str, heading: &str)
@@ -23,7 +31,23 @@ fn push_bars_head(out: &mut Draft, caption: &str, heading: &str)
     out.push_str(caption);
     out.push_str("</caption>\n<thead><tr><th scope='col'>");
     out.push_str(heading);
-    out.push_str(COLUMNS);
+    out.push_str("</th><th scope='col'>Cost</th><th scope='col'>Charged</th>");
+}
+
+/// Appends the other headings of days.
+#[tactic(auto, unfolding(crate::specs::PeriodPictures::day_columns))]
+fn push_day_columns(out: &mut Draft)
+    ensures { out.new ≡ out.old ++ spec.day_columns }
+{
+    out.push_str(DAY_COLUMNS);
+}
+
+/// Appends those of centres.
+#[tactic(auto, unfolding(crate::specs::PeriodPictures::centre_columns))]
+fn push_centre_columns(out: &mut Draft)
+    ensures { out.new ≡ out.old ++ spec.centre_columns }
+{
+    out.push_str(CENTRE_COLUMNS);
 }
 
 /// What the day that costs most is charged.
@@ -52,26 +76,52 @@ fn push_day_rows(out: &mut Draft, costs: &[(i32, u64)])
 }
 
 /// What the centre that costs most is charged.
-fn greatest_centre(costs: &[(Name, u64)]) -> u64
-    ensures { result ≡ greatest (λ cost. cost.1) costs.now }
+fn greatest_centre(costs: &[CentreCharges]) -> u64
+    ensures { result ≡ greatest (λ cost. cost.charges.steps) costs.now }
 {
     let mut most = 0;
     for cost in costs {
-        most = if most < cost.1 { cost.1 } else { most };
+        let charged = cost.charges.steps;
+        most = if most < charged { charged } else { most };
     }
     most
 }
 
-/// Appends the rows of centres, by what each costs.
+/// Appends a cell of what is owed.
+#[tactic(auto, unfolding(crate::specs::Markup::cell, report_texts::specs::Charges::owed_text))]
+fn push_owed_cell(out: &mut Draft, charges: &Charges)
+    ensures { out.new ≡ out.old ++ cell (owed_text charges.now) }
+{
+    let work = u128::from(charges.steps) + u128::from(charges.jobs);
+    let charged = work + u128::from(charges.late);
+    out.push_str("<td>");
+    push_signed(out, charged, charges.reversed);
+    out.push_str("</td>");
+}
+
+/// Appends the row of a centre, whose bar has the whole width where it is charged the most.
+#[tactic(auto, unfolding(crate::specs::PeriodPictures::centre_row, crate::specs::Markup::table_row))]
+fn push_centre_row(out: &mut Draft, most: u64, cost: &CentreCharges)
+    ensures { out.new ≡ out.old ++ spec.centre_row most cost.now }
+{
+    let mut label = Draft::new(out.alloc());
+    push_escaped(&mut label, cost.centre.text());
+    out.push_str("<tr>");
+    push_bar_cells(out, most, &label, cost.charges.steps);
+    push_money_cell(out, cost.charges.late);
+    push_money_cell(out, cost.charges.reversed);
+    push_owed_cell(out, &cost.charges);
+    out.push_str("</tr>\n");
+}
+
+/// Appends the rows of centres, by what each is charged.
 #[tactic(auto, using(std::proofs::lemmas::List::flat_map_more))]
-fn push_centre_rows(out: &mut Draft, costs: &[(Name, u64)])
+fn push_centre_rows(out: &mut Draft, costs: &[CentreCharges])
     ensures { out.new ≡ out.old ++ spec.centre_rows costs.now }
 {
     let most = greatest_centre(costs);
     for cost in costs {
-        let mut label = Draft::new(out.alloc());
-        push_escaped(&mut label, cost.0.text());
-        push_bar_row(out, most, &label, cost.1);
+        push_centre_row(out, most, cost);
     }
 }
 
@@ -82,15 +132,17 @@ pub(crate) fn push_day_table(out: &mut Draft, costs: &[(i32, u64)])
     ensures { out.new ≡ out.old ++ spec.day_table costs.now }
 {
     push_bars_head(out, "Cost by day", "Day");
+    push_day_columns(out);
     push_day_rows(out, costs);
     push_table_end(out);
 }
 
 /// Appends the picture of what centres cost.
-pub(crate) fn push_centre_table(out: &mut Draft, costs: &[(Name, u64)])
+pub(crate) fn push_centre_table(out: &mut Draft, costs: &[CentreCharges])
     ensures { out.new ≡ out.old ++ spec.centre_table costs.now }
 {
     push_bars_head(out, "Cost by centre", "Centre");
+    push_centre_columns(out);
     push_centre_rows(out, costs);
     push_table_end(out);
 }

@@ -7,7 +7,7 @@ ghost use Rattle.plain_ledger.specs.Treatments.{line_at, line_of};
 
 use crate::held::HeldRecord;
 use crate::treatment::Treatment;
-use book_core::{copied, detail_with};
+use book_core::{copied, detail_with, line_with};
 use book_model::{Detail, Line, Variant};
 
 /// The record that is held under a name, as a list of disputes shows it.
@@ -29,13 +29,7 @@ pub(crate) fn variant(name: &[u8; 32], held: &HeldRecord) -> Variant
 fn signed_line(plus: bool, name: &[u8; 32], held: &HeldRecord) -> Line
     ensures { result ≡ line_of plus (name.now, held.now) }
 {
-    let usage = held.usage();
-    Line {
-        plus,
-        name: *name,
-        job: copied(usage.job()),
-        priced: held.priced,
-    }
+    line_with(plus, name, &held.usage(), held.priced)
 }
 
 /// The line of the record that is held under a name, where a period adds it or takes it back.

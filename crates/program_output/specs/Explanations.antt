@@ -57,5 +57,5 @@ pub record NumbersAreOneToOne : Type 0 where
   pub ledgers : MeaningsFixNumbers ledger_texts
   pub tariffs : MeaningsFixNumbers tariff_texts
   pub damages : MeaningsFixNumbers damage_texts
-  pub counts : (length frame_texts ≡ 8) × (length ledger_texts ≡ 19) × (length tariff_texts ≡ 7)
+  pub counts : (length frame_texts ≡ 8) × (length ledger_texts ≡ 20) × (length tariff_texts ≡ 7)
       × (length damage_texts ≡ 9)

@@ -166,6 +166,11 @@ ledger_texts =
       codes "No tariff begins on that day.",
       codes "Take a tariff's first day from the list of rulings.",
     ) ∷
+    -- 20 NoSuchCentre
+    (
+      codes "No tariff has a rule for that centre.",
+      codes "Take the name from the statement, or from a tariff: see tariff-text.",
+    ) ∷
     []
 
 -- the faults of a tariff file, from number 1 on

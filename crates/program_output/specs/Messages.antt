@@ -78,7 +78,7 @@ torn_line = line_of (codes "torn")
 -- nothing has the number that was to be explained; these are the numbers that there are
 abbrev pub no_number_line : List ℕ
 no_number_line =
-    codes "error: nothing has this number: frame has 1 to 8, ledger 1 to 19, tariff 1 to 7, "
+    codes "error: nothing has this number: frame has 1 to 8, ledger 1 to 20, tariff 1 to 7, "
     ++ codes "damaged 1 to 9, a word none\n"
 
 -- the books refused

@@ -33,6 +33,7 @@ fn of_number(number: u16) -> Option<LedgerFault>
         17 => Some(LedgerFault::OldForm),
         18 => Some(LedgerFault::NewForm),
         19 => Some(LedgerFault::NoSuchTariff),
+        20 => Some(LedgerFault::NoSuchCentre),
         _ => None,
     }
 }
@@ -139,6 +140,11 @@ const NO_SUCH_TARIFF: Explanation = Explanation {
     advice: "Take a tariff's first day from the list of rulings.",
 };
 
+const NO_SUCH_CENTRE: Explanation = Explanation {
+    meaning: "No tariff has a rule for that centre.",
+    advice: "Take the name from the statement, or from a tariff: see tariff-text.",
+};
+
 /// What a refusal of the books means, and what to do about it.
 #[tactic(auto, unfolding(crate::specs::Meanings::ledger_texts))]
 fn explanation_of(fault: LedgerFault) -> Explanation
@@ -165,6 +171,7 @@ fn explanation_of(fault: LedgerFault) -> Explanation
         LedgerFault::OldForm => OLD_FORM,
         LedgerFault::NewForm => NEW_FORM,
         LedgerFault::NoSuchTariff => NO_SUCH_TARIFF,
+        LedgerFault::NoSuchCentre => NO_SUCH_CENTRE,
     }
 }
 

@@ -74,7 +74,7 @@ pub fn no_such_number<E: Writer>(errors: &mut E) -> Status
 {
     say(
         errors,
-        "error: nothing has this number: frame has 1 to 8, ledger 1 to 19, tariff 1 to 7, damaged \
+        "error: nothing has this number: frame has 1 to 8, ledger 1 to 20, tariff 1 to 7, damaged \
          1 to 9, a word none\n",
     );
     Status::Usage

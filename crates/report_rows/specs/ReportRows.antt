@@ -18,13 +18,14 @@ use Rattle.report_rows.specs.declared.report_row.Shape.{Shape}
 use Rattle.report_rows.specs.declared.report_row.Shape.TheVariants.{OfCentre, OfDay, OfOffice}
 use Rattle.report_rows.specs.declared.report_row.Shape.TheVariants.{OfPeriod, OfRecord}
 
--- A report's word; what it is about; whether it is also a table; whether it is written while the books are
--- open; whether it is also made by the prices of another tariff; where it is served, as a text and as a
--- table; and what it is as a text.
+-- The word that asks for a report; what it is about; whether it is also a table, and also a page; whether
+-- it is written while the books are open; whether it is also made by the prices of another tariff; where it
+-- is served, as a text and as a table; and what it is as a text.
 pub record Row : Type 0 where
   pub word : List ℕ
   pub shape : Shape
   pub csv : Bool
+  pub html : Bool
   pub streamed : Bool
   pub by_prices : Bool
   pub path : Option (List ℕ)
@@ -37,6 +38,7 @@ row_seen row = record {
   word = row.word.now;
   shape = row.shape;
   csv = row.csv;
+  html = row.html;
   streamed = row.streamed;
   by_prices = row.by_prices;
   path = option_map (λ path. path.now) row.path;
@@ -50,6 +52,7 @@ text_row word shape path = record {
   word = word;
   shape = shape;
   csv = false;
+  html = false;
   streamed = false;
   by_prices = false;
   path = path;
@@ -74,7 +77,14 @@ row_of report.Details =
     record (table_row (codes "details") OfCentre (codes "/details/") (codes "/details-csv/")) {
       streamed = true;
     }
-row_of report.Bill = record (text_row (codes "bill") OfCentre None) { csv = true }
+row_of report.Bill =
+    record (text_row (codes "bill") OfCentre None) {
+      csv = true;
+      html = true;
+      csv_path = Some (codes "/bill-csv/");
+    }
+row_of report.BillPage =
+    record (text_row (codes "bill") OfCentre (Some (codes "/bill/"))) { kind = body.Page }
 row_of report.Focus =
     record (text_row (codes "focus") OfPeriod (Some (codes "/focus/"))) { kind = body.Csv }
 row_of report.Coverage =
@@ -92,19 +102,28 @@ row_of report.Rulings =
 row_of report.TariffText =
     record (text_row (codes "tariff-text") OfDay (Some (codes "/tariff/"))) { kind = body.TariffFile }
 
--- the reports in the order of the program's help
-abbrev pub reports : List ReportName
-reports = report.Statement ∷ report.Adjustments ∷ report.Details ∷ report.Bill ∷ report.Focus
+-- the report that is the page of one that is also a page
+abbrev pub page_of : ReportName → ReportName
+page_of report.Bill = report.BillPage
+page_of name = name
+
+-- the reports that have a command of their own, in the order of the program's help
+abbrev pub commands : List ReportName
+commands = report.Statement ∷ report.Adjustments ∷ report.Details ∷ report.Bill ∷ report.Focus
     ∷ report.Coverage ∷ report.Page ∷ report.Disputes ∷ report.Record ∷ report.Periods
     ∷ report.Rulings ∷ report.TariffText ∷ []
+
+-- all reports: the page of another one, and those
+abbrev pub reports : List ReportName
+reports = report.BillPage ∷ commands
 
 -- the text is the word of the report
 abbrev pub has_word : List ℕ → ReportName → Bool
 has_word text name = bytes_eq (row_of name).word text
 
--- the report of a word, if it is the word of one
+-- the report whose command a word is, if it is one
 abbrev pub named_report : List ℕ → Option ReportName
-named_report text = find (has_word text) reports
+named_report text = find (has_word text) commands
 
 -- where a report is served in a form, if it is, and what it is in that form
 abbrev pub path_in : Row → StatementForm → Option (List ℕ)
@@ -131,6 +150,7 @@ report_of_centre report.Statement form period centre =
 report_of_centre report.Adjustments form period centre =
     Some (made.OfPeriod (adjustments_in form) period centre)
 report_of_centre report.Bill form period centre = Some (made.Bill form period centre)
+report_of_centre report.BillPage form.Text period centre = Some (made.BillPage period centre)
 report_of_centre name form period centre = None
 
 -- of a period of the whole office: coverage alone has two forms

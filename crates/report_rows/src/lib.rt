@@ -7,5 +7,6 @@ pub mod report_row;
 
 pub use about::About;
 pub use report_row::{
-    BodyKind, ReportName, ReportRow, Shape, all_reports, named_report, report_about, row_of,
+    BodyKind, ReportName, ReportRow, Shape, all_reports, command_reports, named_report, page_of,
+    report_about, row_of,
 };

@@ -19,6 +19,8 @@ pub enum ReportName {
     Details,
     /// A bill: that of a centre, or what each centre owes.
     Bill,
+    /// A bill as a page for a browser and for paper.
+    BillPage,
     /// A period as a table of cost and usage by FOCUS 1.0.
     Focus,
     /// How many records a period counts of each day and system.
@@ -68,11 +70,13 @@ pub enum BodyKind {
 /// All that sets a report apart from the others but its text.
 #[derive(Clone, Copy)]
 pub struct ReportRow {
-    /// Its word on the command line.
+    /// The word that asks for it on the command line.
     pub word: &'static str,
     pub shape: Shape,
     /// It is also a table of comma-separated values, where `--csv` asks for one.
     pub csv: bool,
+    /// It is also a page to print, where `--html` asks for one.
+    pub html: bool,
     /// It is written while the books are open, and never held whole.
     pub streamed: bool,
     /// It is also made by the prices of another tariff, which `--tariff` names.
@@ -113,6 +117,7 @@ const PLAIN: ReportRow = ReportRow {
     word: "",
     shape: Shape::OfOffice,
     csv: false,
+    html: false,
     streamed: false,
     by_prices: false,
     path: None,
@@ -149,11 +154,22 @@ pub const DETAILS: ReportRow = ReportRow {
     ..PLAIN
 };
 
-/// A bill. It is not served.
+/// A bill. Its text is not served: its page is.
 pub const BILL: ReportRow = ReportRow {
     word: "bill",
     shape: Shape::OfCentre,
     csv: true,
+    html: true,
+    csv_path: Some("/bill-csv/"),
+    ..PLAIN
+};
+
+/// The page of a bill, for which the bill's own word asks.
+pub const BILL_PAGE: ReportRow = ReportRow {
+    word: "bill",
+    shape: Shape::OfCentre,
+    path: Some("/bill/"),
+    kind: BodyKind::Page,
     ..PLAIN
 };
 
@@ -230,6 +246,7 @@ pub fn row_of(name: ReportName) -> ReportRow
         ReportName::Adjustments => ADJUSTMENTS,
         ReportName::Details => DETAILS,
         ReportName::Bill => BILL,
+        ReportName::BillPage => BILL_PAGE,
         ReportName::Focus => FOCUS,
         ReportName::Coverage => COVERAGE,
         ReportName::Page => PAGE,
@@ -241,8 +258,35 @@ pub fn row_of(name: ReportName) -> ReportRow
     }
 }
 
-/// The reports in the order of the program's help.
-static REPORTS: [ReportName; 12] = [
+/// The report that is the page of one that is also a page.
+pub fn page_of(name: ReportName) -> ReportName
+    ensures { result ≡ spec.page_of name }
+{
+    match name {
+        ReportName::Bill => ReportName::BillPage,
+        _ => name,
+    }
+}
+
+/// The reports that have a command of their own, in the order of the program's help.
+static COMMANDS: [ReportName; 12] = [
+    ReportName::Statement,
+    ReportName::Adjustments,
+    ReportName::Details,
+    ReportName::Bill,
+    ReportName::Focus,
+    ReportName::Coverage,
+    ReportName::Page,
+    ReportName::Disputes,
+    ReportName::Record,
+    ReportName::Periods,
+    ReportName::Rulings,
+    ReportName::TariffText,
+];
+
+/// All reports: the page of another one, and those.
+static REPORTS: [ReportName; 13] = [
+    ReportName::BillPage,
     ReportName::Statement,
     ReportName::Adjustments,
     ReportName::Details,
@@ -300,6 +344,10 @@ fn report_of_centre(
             period,
             centre,
         }),
+        ReportName::BillPage => match form {
+            StatementForm::Text => Some(Report::BillPage { period, centre }),
+            StatementForm::Table => None,
+        },
         _ => None,
     }
 }
@@ -350,7 +398,14 @@ pub fn report_about(name: ReportName, form: StatementForm, about: About) -> Opti
     }
 }
 
-/// The reports in the order of the program's help.
+/// The reports that have a command of their own, in the order of the program's help.
+pub fn command_reports() -> &'static [ReportName]
+    ensures { result.now ≡ spec.commands }
+{
+    COMMANDS.as_slice()
+}
+
+/// All reports.
 pub fn all_reports() -> &'static [ReportName]
     ensures { result.now ≡ spec.reports }
 {
@@ -370,11 +425,11 @@ fn report_among<'a>(names: &'a [ReportName], word: &str) -> Option<&'a ReportNam
     names.iter().find(|name| has_word(**name, word))
 }
 
-/// The report of a word, if it is the word of one.
+/// The report whose command the word is, if it is one.
 pub fn named_report(word: &str) -> Option<ReportName>
     ensures { result ≡ spec.named_report word.now }
 {
-    match report_among(all_reports(), word) {
+    match report_among(command_reports(), word) {
         Some(name) => Some(*name),
         None => None,
     }

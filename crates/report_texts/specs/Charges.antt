@@ -1,6 +1,7 @@
 -- What a bill charges: for steps and for jobs, what came late, and what was reversed; all that it
 -- has, and what one centre has of that.
 use Rattle.std.specs.Prelude.{ℕ, ◌+◌, ◌<◌, ◌^◌, All, List, ◌++◌, map, sum_by}
+use Rattle.std.specs.Option.{ForSome}
 use Rattle.book_model.specs.declared.bill.BilledLine.{BilledLine}
 use Rattle.book_model.specs.declared.line.Line.{Line}
 use Rattle.book_model.specs.declared.row.ChargeRow.{ChargeRow}
@@ -57,11 +58,14 @@ owed_text charges = signed_text (charges.steps + charges.jobs + charges.late) ch
 abbrev pub FitCharges : Charges → Type 0
 FitCharges charges = charges.steps + charges.jobs + charges.late < 2 ^ 64
 
--- a bill that can be shown: its rows and its lines can, its tariffs begin on days, and what its rows
--- cost fits a signed number of 64 bits, as what its lines do
+-- a bill that can be shown: its rows and its lines can, the period before was closed through a day,
+-- its tariffs begin on days, and what its rows cost fits a signed number of 64 bits, as what its lines
+-- do
 pub record IsBill (bill : BillSeen) : Type 0 where
   pub steps : AreRows bill.steps
   pub jobs : AreRows bill.jobs
   pub lines : AreLines (plain_lines bill.lines)
+  pub before : ForSome bill.before IsDay
   pub tariffs : All (λ tariff. IsDay tariff.day) bill.tariffs
+  pub shifts : All (λ shift. IsDay shift.day) bill.shifts
   pub amount : sum_by (λ row. row.amount) bill.steps + sum_by (λ row. row.amount) bill.jobs < 2 ^ 63

@@ -1,9 +1,8 @@
 -- Read in this order: columns and numbers, how a period is named, each text of a whole period, those
 -- of one centre, what-ifs, the disputes as a list and as a table, the details of a period as both,
--- the bills of a centre and of the office by what they charge, all centres at once too, as texts and
--- as tables, the lists of periods and of rulings, the text of one record in its parts, what a dry run
--- of a ruling shows: its figures, and its text; and midnights, and a period as a table of cost and
--- usage.
+-- what the bills of a centre and of the office charge, all centres at once too, the lists of periods and
+-- of rulings, the text of one record in its parts, what a dry run of a ruling shows: its figures, and its
+-- text; and midnights, and a period as a table of cost and usage.
 pub mod Columns
 pub mod Periods
 pub mod Statements
@@ -20,9 +19,6 @@ pub mod DetailLists
 pub mod DetailTables
 pub mod Charges
 pub mod CentreAmounts
-pub mod BillTexts
-pub mod OfficeBills
-pub mod BillTables
 pub mod PeriodLists
 pub mod RulingLists
 pub mod UsageLines

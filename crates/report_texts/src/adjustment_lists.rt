@@ -71,7 +71,7 @@ pub fn word_of(line: &Line) -> &'static str
 
 /// Appends the columns that say what a line does, and where its record is charged.
 #[tactic(auto, unfolding(crate::specs::AdjustmentLists::line_place, crate::specs::AdjustmentLists::action_columns))]
-pub(crate) fn push_line_place(out: &mut Draft, line: &Line)
+fn push_line_place(out: &mut Draft, line: &Line)
     requires { IsDay line.now.priced.day }
     ensures { out.new ≡ out.old ++ spec.line_place line.now }
 {

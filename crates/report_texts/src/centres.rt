@@ -36,7 +36,7 @@ pub fn keep_lines(lines: &mut Vec<Line>, centre: Name)
 
 /// Appends the first line of a report on the centre in a period.
 #[tactic(auto, unfolding(crate::specs::Centres::centre_title, crate::specs::Periods::title_line, crate::specs::Periods::title_end))]
-pub(crate) fn push_centre_title(
+pub fn push_centre_title(
     out: &mut Draft,
     report: &str,
     centre: Name,

@@ -30,20 +30,20 @@ pub struct Charges {
 
 /// What one centre is charged.
 #[derive(Clone, Copy)]
-pub(crate) struct CentreCharges {
-    pub(crate) centre: Name,
-    pub(crate) charges: Charges,
+pub struct CentreCharges {
+    pub centre: Name,
+    pub charges: Charges,
 }
 
 /// What each centre of a bill is charged, in the order of the centres, and what all of them are.
 #[derive(Drop)]
-pub(crate) struct OfficeCharges {
-    pub(crate) each: Vec<CentreCharges>,
-    pub(crate) all: Charges,
+pub struct OfficeCharges {
+    pub each: Vec<CentreCharges>,
+    pub all: Charges,
 }
 
 /// A bill's lines, as a list of adjustments has them.
-pub(crate) fn plain_lines(alloc: Global, billed: &[BilledLine]) -> Result<Vec<Line>, AllocError>
+fn plain_lines(alloc: Global, billed: &[BilledLine]) -> Result<Vec<Line>, AllocError>
     ensures { IfOk result (λ lines. lines.items ≡ spec.plain_lines billed.now) }
 {
     let mut lines = Vec::new(alloc);
@@ -54,7 +54,7 @@ pub(crate) fn plain_lines(alloc: Global, billed: &[BilledLine]) -> Result<Vec<Li
 }
 
 /// What rows of steps, rows of jobs and lines charge.
-pub(crate) fn charges_of(steps: &[ChargeRow], jobs: &[ChargeRow], lines: &[Line]) -> Charges
+fn charges_of(steps: &[ChargeRow], jobs: &[ChargeRow], lines: &[Line]) -> Charges
     requires steps { AreRows steps.now }
     requires jobs { AreRows jobs.now }
     requires lines { AreLines lines.now }
@@ -69,6 +69,16 @@ pub(crate) fn charges_of(steps: &[ChargeRow], jobs: &[ChargeRow], lines: &[Line]
         late,
         reversed,
     }
+}
+
+/// What a bill charges.
+pub fn bill_charges(alloc: Global, bill: &Bill) -> Result<Charges, AllocError>
+    requires { IsBill (bill_shown bill.now) }
+    ensures charges { IfOk result (λ charges. charges ≡ spec.all_charges (bill_shown bill.now)) }
+    ensures fits { IfOk result (λ charges. FitCharges charges) }
+{
+    let lines = plain_lines(alloc, &bill.lines)?;
+    Ok(charges_of(&bill.work.steps, &bill.work.jobs, &lines))
 }
 
 /// The centres of rows and lines, each once and in order.
@@ -94,8 +104,8 @@ fn centres_of(
     centres.into_iter().collect(alloc)
 }
 
-/// What each centre of rows and lines is charged.
-fn each_charges(
+/// What each centre of rows and lines is charged, in the order of the centres.
+pub fn each_charges(
     alloc: Global,
     steps: &[ChargeRow],
     jobs: &[ChargeRow],
@@ -122,7 +132,7 @@ fn each_charges(
 }
 
 /// What a bill charges its centres.
-pub(crate) fn office_charges(alloc: Global, bill: &Bill) -> Result<OfficeCharges, AllocError>
+pub fn office_charges(alloc: Global, bill: &Bill) -> Result<OfficeCharges, AllocError>
     requires { IsBill (bill_shown bill.now) }
     ensures each { IfOk result (λ own. own.each.items ≡ spec.each_charges (bill_shown bill.now)) }
     ensures all { IfOk result (λ own. own.all ≡ spec.all_charges (bill_shown bill.now)) }
@@ -137,7 +147,7 @@ pub(crate) fn office_charges(alloc: Global, bill: &Bill) -> Result<OfficeCharges
 
 /// Appends the sum owed: all that is charged, less what is reversed.
 #[tactic(auto, unfolding(crate::specs::Charges::owed_text))]
-pub(crate) fn push_owed(out: &mut Draft, charges: &Charges)
+pub fn push_owed(out: &mut Draft, charges: &Charges)
     requires { FitCharges charges.now }
     ensures { out.new ≡ out.old ++ spec.owed_text charges.now }
 {

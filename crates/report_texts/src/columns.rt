@@ -7,7 +7,7 @@ use std::alloc::{AllocError, Global};
 use text_drafts::Draft;
 
 /// Appends blanks.
-fn push_blanks(out: &mut Draft, count: usize)
+pub fn push_blanks(out: &mut Draft, count: usize)
     ensures { out.new ≡ out.old ++ spec.blanks count }
 {
     for _ in 0..count {
@@ -26,7 +26,7 @@ pub(crate) fn push_left_aligned(out: &mut Draft, width: usize, text: &str)
 }
 
 /// Appends a text at the right of a column. A text that is wider than the column is kept whole.
-pub(crate) fn push_right_aligned(out: &mut Draft, width: usize, text: &str)
+pub fn push_right_aligned(out: &mut Draft, width: usize, text: &str)
     ensures { out.new ≡ out.old ++ spec.right_aligned width text.now }
 {
     push_blanks(out, width.saturating_sub(text.len()));

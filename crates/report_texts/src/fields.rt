@@ -23,7 +23,7 @@ pub fn add_number(row: &mut RowDraft, number: u64)
 }
 
 /// Adds a number, or `-` where there is none.
-pub(crate) fn add_number_or_dash(row: &mut RowDraft, number: Option<u16>)
+pub fn add_number_or_dash(row: &mut RowDraft, number: Option<u16>)
     ensures { row.new ≡ row.old ++ number_text number ∷ [] }
 {
     let mut text = Draft::new(row.alloc());
@@ -32,7 +32,7 @@ pub(crate) fn add_number_or_dash(row: &mut RowDraft, number: Option<u16>)
 }
 
 /// Adds hundredths of a second, in seconds.
-pub(crate) fn add_seconds(row: &mut RowDraft, hundredths: u64)
+pub fn add_seconds(row: &mut RowDraft, hundredths: u64)
     ensures { row.new ≡ row.old ++ seconds_text hundredths ∷ [] }
 {
     let mut text = Draft::new(row.alloc());
@@ -61,7 +61,7 @@ pub fn add_day(row: &mut RowDraft, day: i32)
 
 /// Adds where a record is charged: on which day, to which centre, and in which shift.
 #[tactic(auto, unfolding(crate::specs::Tables::key_fields))]
-pub(crate) fn add_key(row: &mut RowDraft, priced: &Priced)
+pub fn add_key(row: &mut RowDraft, priced: &Priced)
     requires { IsDay priced.now.day }
     ensures { row.new ≡ row.old ++ key_fields priced.now }
 {
@@ -71,7 +71,7 @@ pub(crate) fn add_key(row: &mut RowDraft, priced: &Priced)
 }
 
 /// Adds ten-thousandths of the money unit, in units.
-pub(crate) fn add_amount(row: &mut RowDraft, amount: u64)
+pub fn add_amount(row: &mut RowDraft, amount: u64)
     ensures { row.new ≡ row.old ++ amount_text amount ∷ [] }
 {
     let mut text = Draft::new(row.alloc());
@@ -80,7 +80,7 @@ pub(crate) fn add_amount(row: &mut RowDraft, amount: u64)
 }
 
 /// Adds what a line charges or reverses.
-pub(crate) fn add_signed(row: &mut RowDraft, line: &Line)
+pub fn add_signed(row: &mut RowDraft, line: &Line)
     ensures { row.new ≡ row.old
         ++ signed_text (charged_amount line.now) (reversed_amount line.now) ∷ [] }
 {
@@ -90,7 +90,7 @@ pub(crate) fn add_signed(row: &mut RowDraft, line: &Line)
 }
 
 /// Adds the name of a record, in hexadecimal digits of lower case.
-pub(crate) fn add_name(row: &mut RowDraft, name: &[u8])
+pub fn add_name(row: &mut RowDraft, name: &[u8])
     ensures { row.new ≡ row.old ++ encode_lower name.now ∷ [] }
 {
     let mut text = Draft::new(row.alloc());

@@ -3,8 +3,6 @@
 
 mod adjustment_lists;
 mod adjustment_tables;
-mod bill_tables;
-mod bill_texts;
 mod centre_amounts;
 mod centres;
 mod charges;
@@ -20,7 +18,6 @@ mod focus_tables;
 mod life_lines;
 mod midnights;
 mod moments;
-mod office_bills;
 mod period_lists;
 mod periods;
 mod reckoning_lines;
@@ -33,15 +30,18 @@ mod what_ifs;
 
 pub use adjustment_lists::{adjustment_list_text, word_of};
 pub use adjustment_tables::adjustment_table;
-pub use bill_tables::{bill_table, office_bill_table};
-pub use bill_texts::bill_text;
 pub use centre_amounts::cost_among;
 pub use centres::{
     centre_adjustment_table, centre_adjustments_text, centre_statement_table,
-    centre_statement_text, keep_lines,
+    centre_statement_text, keep_lines, push_centre_title,
 };
-pub use charges::Charges;
-pub use columns::{push_amount, push_count, push_left, push_number, push_seconds, seconds_text};
+pub use charges::{
+    CentreCharges, Charges, OfficeCharges, bill_charges, each_charges, office_charges, push_owed,
+};
+pub use columns::{
+    push_amount, push_blanks, push_count, push_left, push_number, push_right_aligned, push_seconds,
+    seconds_text,
+};
 pub use detail_lists::{detail_head, detail_total, push_detail_line};
 pub use detail_tables::{detail_row, detail_table_head};
 pub use dispute_lists::{
@@ -50,12 +50,14 @@ pub use dispute_lists::{
 };
 pub use dispute_tables::{dispute_rows, dispute_table, dispute_table_head};
 pub use dry_runs::{TriedRuling, dry_run_text};
-pub use fields::{add_day, add_number, add_row, add_shown};
+pub use fields::{
+    add_amount, add_day, add_key, add_name, add_number, add_number_or_dash, add_row, add_seconds,
+    add_shown, add_signed,
+};
 pub use figures::{Figures, figures_of, record_count, record_count_from};
 pub use focus_tables::{FocusHead, focus_table};
 pub use life_lines::is_charge;
 pub use moments::push_time;
-pub use office_bills::office_bill_text;
 pub use period_lists::period_list_text;
 pub use periods::{push_head, push_title};
 pub use record_texts::record_text;

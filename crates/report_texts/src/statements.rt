@@ -59,7 +59,7 @@ pub(crate) fn push_work(out: &mut Draft, count: &str, cpu: &str, blocks: &str)
 }
 
 /// Appends the column that says what it costs, and ends the line.
-pub(crate) fn push_last(out: &mut Draft, amount: &str)
+fn push_last(out: &mut Draft, amount: &str)
     ensures { out.new ≡ out.old ++ spec.amount_column amount.now }
 {
     push_right_aligned(out, 21, amount);
@@ -67,7 +67,7 @@ pub(crate) fn push_last(out: &mut Draft, amount: &str)
 }
 
 /// Appends the same column of ten-thousandths of the money unit, and ends the line.
-pub(crate) fn push_cost(out: &mut Draft, amount: u64)
+fn push_cost(out: &mut Draft, amount: u64)
     ensures { out.new ≡ out.old ++ spec.amount_column (amount_text amount) }
 {
     let mut cost = Draft::new(out.alloc());

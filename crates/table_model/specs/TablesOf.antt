@@ -4,6 +4,7 @@ use Rattle.std.specs.Prelude.{unwrap_or, ℤ, filter_map, option_map}
 use Rattle.std.specs.FinMap.{from_entries}
 use Rattle.book_model.specs.declared.row.ChargeRow.{ChargeRow}
 use Rattle.book_model.specs.declared.row.RowKey.{RowKey}
+pub use Rattle.book_model.specs.Rows.{row_key}
 use Rattle.book_model.specs.Words.{data_of, total_of, Book, charged_of, Period, Records, Naming}
 use Rattle.book_model.specs.Words.{name_of, Rulings, AcceptedTerms, price_in, identity_by, members}
 use Rattle.book_model.specs.Words.{has, period_by, rule_by, rows_of, Choice, is_counted_in}
@@ -73,10 +74,6 @@ abbrev pub record_entries :
     Naming → Rulings → Records → Records → Records → List (List ℕ × RecordRow)
 record_entries naming rulings held charged =
     entries_by naming (status_by rulings charged) held
-
--- a row's place
-abbrev pub row_key : ChargeRow → RowKey
-row_key row = record { day = row.day; centre = row.centre; shift = row.shift }
 
 -- what records cost, each that has a price
 abbrev pub prices_by : (List ℕ → Option Priced) → Records → List Priced

@@ -4,3 +4,4 @@ pub mod RefusedLemmas
 pub mod FaultLemmas
 pub mod SearchLemmas
 pub mod WeekdayLemmas
+pub mod HeadedLemmas

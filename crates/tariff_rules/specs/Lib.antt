@@ -1,6 +1,7 @@
 -- Read in this order: the office's limits, what a tariff says, what a record costs by it, and how that
 -- comes about. Then the file: its faults and keys, what its tables have at a key, its shifts and its
--- centres, the whole of it, and the entry at which it has a fault. Last what it says of the office.
+-- centres, the whole of it, and the entry at which it has a fault. Last what it says of the office,
+-- and its tariff beside that.
 pub mod Limits
 pub mod Terms
 pub mod Price
@@ -15,3 +16,4 @@ pub mod CentreEntry
 pub mod TariffFile
 pub mod Entry
 pub mod Letterhead
+pub mod Headed

@@ -42,3 +42,7 @@ most_job_prefix = 8
 -- the most characters of each text in a letterhead
 abbrev pub most_letters : ℕ
 most_letters = 40
+
+-- the most decimals that are booked, which are those of an amount
+abbrev pub most_decimals : ℕ
+most_decimals = 4

@@ -3,6 +3,7 @@ use Rattle.std.specs.Prelude.{◌+◌, ◌*◌, ◌/◌, ◌≤◌, ◌<◌, ◌
 use Rattle.std.specs.Prelude.{ℕ, nat_eq, nat_le, nat_lt, ℤ, Bool, false, List, codes, find}
 use Rattle.std.specs.Prelude.{Option, Some, None}
 use Rattle.std.specs.List.{list_any, starts_with}
+use Rattle.std.specs.Cmp.Lexicographic.{pointwise}
 use Rattle.smf_text.specs.Day.{IsDay, weekday_of}
 use Rattle.smf_text.specs.Names.{IsName}
 use Rattle.smf_type30.specs.Layout.{step_end}
@@ -77,6 +78,13 @@ centre_by (Some rule) = rule.centre
 -- the centre that pays for a record: that of the first rule that applies
 abbrev pub centre_of : List CentreRule → List ℕ → List ℕ
 centre_of rules bytes = centre_by (find (applies_to bytes) rules)
+
+-- the rule is the centre's, and some rule is
+abbrev pub is_of : List ℕ → CentreRule → Bool
+is_of centre rule = pointwise nat_eq rule.centre centre
+
+abbrev pub has_centre : List ℕ → List CentreRule → Bool
+has_centre centre rules = list_any (is_of centre) rules
 
 -- the rates for a record's subtype: those of a step's end, or those of a job's
 abbrev pub rates_for : Terms → ℕ → RatesOf

@@ -1,12 +1,12 @@
 //! What a tariff file says of the office, as it stands in the head of a bill.
 
-ghost use Rattle.std.specs.Prelude.{◌≡◌, IfOk, option_map, string_bytes};
+ghost use Rattle.std.specs.Prelude.{◌≡◌, ◌≤◌, IfOk, option_map, string_bytes};
 ghost use Rattle.std.specs.List.{list_all};
 ghost use Rattle.toml.specs.View.{table_view};
 ghost use Rattle.tariff_rules.specs.Letterhead as spec;
+ghost use Rattle.tariff_rules.specs.Limits.{most_decimals};
 
 use crate::document::member_at;
-use crate::tariff::document_in;
 use std::alloc::{AllocError, Global};
 use toml::Table;
 
@@ -15,6 +15,15 @@ const OFFICE: &str = "office";
 
 /// The key of the currency.
 const CURRENCY: &str = "currency";
+
+/// The key of the number of decimals.
+const DECIMALS: &str = "decimals";
+
+/// How many decimals are booked where a file does not say it.
+const USUAL_DECIMALS: u8 = 2;
+
+/// The most decimals that are booked, which are those of an amount.
+const MAX_DECIMALS: i64 = 4;
 
 /// The most characters of each text in a letterhead.
 const MAX_LETTERS: usize = 40;
@@ -27,6 +36,8 @@ pub struct Letterhead {
     pub office: Option<String>,
     /// The currency of the amounts, at the key `currency`.
     pub currency: Option<String>,
+    /// How many decimals of it are booked, at the key `decimals`: 0 to 4, and 2 where it says none.
+    pub decimals: u8,
 }
 
 /// Whether a letterhead can show the character.
@@ -65,30 +76,42 @@ fn letters_at(alloc: Global, document: &Table, key: &str) -> Result<Option<Strin
     }
 }
 
+/// How many decimals are booked.
+#[tactic(auto, unfolding(crate::specs::Letterhead::decimals_at))]
+fn decimals_at(document: &Table) -> u8
+    ensures value { result ≡ spec.decimals_at (table_view document.now) }
+    ensures within { result ≤ most_decimals }
+{
+    let Some(value) = member_at(document, DECIMALS) else {
+        return USUAL_DECIMALS;
+    };
+    match value.as_integer() {
+        Some(decimals) if 0 <= decimals && decimals <= MAX_DECIMALS => decimals as u8,
+        _ => USUAL_DECIMALS,
+    }
+}
+
 impl Letterhead {
+    /// A letterhead that says nothing.
+    pub fn empty() -> Letterhead
+        ensures { spec.letterhead_shown result ≡ spec.no_letterhead }
+    {
+        Letterhead {
+            office: None,
+            currency: None,
+            decimals: USUAL_DECIMALS,
+        }
+    }
+
     /// The letterhead of a document.
-    fn of_document(alloc: Global, document: &Table) -> Result<Letterhead, AllocError>
+    pub(crate) fn of_document(alloc: Global, document: &Table) -> Result<Letterhead, AllocError>
         ensures { IfOk result (λ letterhead.
             spec.letterhead_shown letterhead ≡ spec.letterhead_of (table_view document.now)) }
     {
         Ok(Letterhead {
             office: letters_at(alloc, document, OFFICE)?,
             currency: letters_at(alloc, document, CURRENCY)?,
+            decimals: decimals_at(document),
         })
-    }
-
-    /// The letterhead of a tariff file. A text that is no document has neither part; nothing but
-    /// want of memory fails.
-    pub fn parse(alloc: Global, text: &str) -> Result<Letterhead, AllocError>
-        ensures { IfOk result (λ letterhead.
-            spec.letterhead_shown letterhead ≡ spec.letterhead_in text.now) }
-    {
-        match document_in(alloc, text)? {
-            Some(document) => Letterhead::of_document(alloc, &document),
-            None => Ok(Letterhead {
-                office: None,
-                currency: None,
-            }),
-        }
     }
 }

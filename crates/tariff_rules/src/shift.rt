@@ -27,16 +27,16 @@ const BASE_LETTERS: [u8; MAX_NAME] = *b"BASE\0\0\0\0\0\0\0\0\0\0\0\0";
 const HUNDREDTHS_PER_MINUTE: u32 = 6000;
 
 /// A shift, and what it charges.
-#[derive(Clone, Copy)]
-pub(crate) struct Shift {
-    pub(crate) name: Name,
+#[derive(Clone, Copy, PartialEq, Eq, PartialOrd, Ord)]
+pub struct Shift {
+    pub name: Name,
     /// In percent of the rates.
-    pub(crate) percent: u16,
+    pub percent: u16,
 }
 
 impl Shift {
     /// The shift of the moments that no rule has.
-    fn base() -> Shift
+    pub fn base() -> Shift
         ensures { result ≡ spec.base_shift }
     {
         Shift {
@@ -49,7 +49,7 @@ impl Shift {
 /// When a shift is worked: its weekdays, Monday 1 to Sunday 7, its first minute of the day, and the
 /// first after it.
 #[derive(Drop)]
-pub(crate) struct ShiftRule {
+pub struct ShiftRule {
     shift: Shift,
     days: Vec<u8>,
     from: u32,
@@ -67,6 +67,13 @@ impl Model for ShiftRule {
 }
 
 impl ShiftRule {
+    /// The shift that it is a rule of.
+    pub fn shift(&self) -> Shift
+        ensures { result ≡ self.now.shift }
+    {
+        self.shift
+    }
+
     /// Whether the shift is worked in that minute of that weekday.
     fn has_moment(&self, weekday: u8, minute: u32) -> bool
         ensures { result ≡ spec.has_moment weekday minute self.now }

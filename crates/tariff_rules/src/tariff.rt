@@ -11,7 +11,7 @@ ghost use Rattle.tariff_rules.specs.Terms as terms;
 mod entry;
 mod file;
 
-use crate::centre::{CentreRule, centre_of, centre_rule};
+use crate::centre::{CentreRule, centre_of, centre_rule, has_centre};
 use crate::rates::Rates;
 use crate::shift::{Shift, ShiftRule, shift_at, shift_rule};
 pub use entry::Entry;
@@ -99,6 +99,13 @@ impl Tariff {
         self.job
     }
 
+    /// Its shift rules, in the order of its text.
+    pub fn shift_rules(&self) -> &[ShiftRule]
+        ensures { result.now ≡ self.now.shifts }
+    {
+        &self.shifts
+    }
+
     /// The rates for records of a subtype.
     pub(crate) fn rates_for(&self, subtype: u16) -> Rates
         ensures { result ≡ spec.rates_for self.now subtype }
@@ -134,6 +141,13 @@ impl Tariff {
         ensures { result ≡ rule_number (spec.applies_to usage.now) self.now.centres }
     {
         centre_rule(&self.centres, usage)
+    }
+
+    /// Whether some rule is the centre's.
+    pub fn has_centre(&self, centre: &Name) -> bool
+        ensures { result ≡ spec.has_centre centre.now self.now.centres }
+    {
+        has_centre(&self.centres, centre)
     }
 
     /// The centre that pays for the record.

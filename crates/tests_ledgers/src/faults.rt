@@ -59,7 +59,7 @@ fn tariff_fault(words: &[&str]) -> LineResult<TariffFault> {
 }
 
 /// The faults of books that are a word alone.
-const LEDGER_FAULTS: [(&str, LedgerFault); 17] = [
+const LEDGER_FAULTS: [(&str, LedgerFault); 18] = [
     ("memory", LedgerFault::Memory),
     ("store", LedgerFault::Store),
     ("reopen", LedgerFault::Reopen),
@@ -77,6 +77,7 @@ const LEDGER_FAULTS: [(&str, LedgerFault); 17] = [
     ("old_form", LedgerFault::OldForm),
     ("new_form", LedgerFault::NewForm),
     ("no_such_tariff", LedgerFault::NoSuchTariff),
+    ("no_such_centre", LedgerFault::NoSuchCentre),
 ];
 
 /// The fault of books: `tariff` with a tariff's fault, `wrong_period` with the open period, or a

@@ -18,6 +18,7 @@
 //! | `details PERIOD`, `details-table PERIOD` | the text, and its comma-separated values |
 //! | `bill PERIOD`, `bill-table PERIOD` | the same |
 //! | these four and the first three with `PERIOD CENTRE` | the text of the centre |
+//! | `bill-page PERIOD [CENTRE]` | the page of a bill |
 //! | `focus PERIOD` | the table of cost and usage |
 //! | `coverage PERIOD`, `coverage-table PERIOD` | the text, and its comma-separated values |
 //! | `page PERIOD`, `office-page` | the page as HTML |

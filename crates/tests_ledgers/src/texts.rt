@@ -26,6 +26,7 @@ enum PeriodText {
     Report(PeriodReport),
     Details(StatementForm),
     Bill(StatementForm),
+    BillPage,
     /// A table of cost and usage. It is of all centres alone, and so are coverage and a page.
     Focus,
     Coverage(StatementForm),
@@ -33,7 +34,7 @@ enum PeriodText {
 }
 
 /// By the verbs that ask for it.
-const PERIOD_TEXTS: [(&str, PeriodText); 11] = [
+const PERIOD_TEXTS: [(&str, PeriodText); 12] = [
     ("statement", PeriodText::Report(PeriodReport::Statement)),
     ("table", PeriodText::Report(PeriodReport::StatementTable)),
     (
@@ -44,6 +45,7 @@ const PERIOD_TEXTS: [(&str, PeriodText); 11] = [
     ("details-table", PeriodText::Details(StatementForm::Table)),
     ("bill", PeriodText::Bill(StatementForm::Text)),
     ("bill-table", PeriodText::Bill(StatementForm::Table)),
+    ("bill-page", PeriodText::BillPage),
     ("focus", PeriodText::Focus),
     ("coverage", PeriodText::Coverage(StatementForm::Text)),
     ("coverage-table", PeriodText::Coverage(StatementForm::Table)),
@@ -64,6 +66,7 @@ impl PeriodText {
                 period,
                 centre,
             },
+            PeriodText::BillPage => Report::BillPage { period, centre },
             PeriodText::Focus if centre.is_none() => Report::Focus(period),
             PeriodText::Coverage(form) if centre.is_none() => Report::Coverage { form, period },
             PeriodText::Page if centre.is_none() => Report::PeriodPage(period),

@@ -79,7 +79,7 @@ impl RowDraft {
     }
 
     /// The fields, if none of them is left out.
-    pub(crate) fn whole(&self) -> Option<&StringRecord>
+    pub fn whole(&self) -> Option<&StringRecord>
         ensures { IfSome result (λ fields. fields_of fields.now ≡ self.now) }
     {
         if self.is_cut {

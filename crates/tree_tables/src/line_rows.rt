@@ -14,7 +14,7 @@ use crate::stored_record::{data_of, read_price};
 use crate::stored_usage::put_usage;
 use crate::tables::TreeTables;
 use crate::trees::{LINES, RECORDS};
-use book_core::copied;
+use book_core::line_with;
 use book_model::Line;
 use smf_type30::Type30;
 use sqlite_trees::error::StoreError;
@@ -70,12 +70,7 @@ fn line_of(row: &Row, bytes: &mut Vec<u8>, stored: &StoredLine) -> Result<Line, 
     put_usage(bytes, data)?;
     let priced = read_price(row)?;
     let usage = Type30::of_usage(bytes.as_slice());
-    Ok(Line {
-        plus: stored.plus,
-        name: stored.name,
-        job: copied(usage.job()),
-        priced,
-    })
+    Ok(line_with(stored.plus, &stored.name, &usage, priced))
 }
 
 impl ReadRow for StoredLine {

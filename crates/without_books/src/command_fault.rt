@@ -84,6 +84,7 @@ fn unclear_text(why: Unclear) -> &'static str
         Unclear::Choice => "error: choose takes either SHA256 or --from FILE\n",
         Unclear::Prices => "error: trial takes either rates or --tariff FILE\n",
         Unclear::Period => "error: PERIOD is a number without a sign or a leading 0\n",
+        Unclear::Form => "error: bill takes either --csv or --html\n",
     }
 }
 

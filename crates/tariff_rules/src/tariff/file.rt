@@ -92,7 +92,7 @@ pub(crate) fn document_in(alloc: Global, text: &str) -> Result<Option<Table>, Al
 impl Tariff {
     /// The tariff of a document.
     #[tactic(auto, unfolding(crate::specs::TariffFile::terms_of))]
-    fn of_document(alloc: Global, document: &Table) -> Result<Tariff, TariffFault>
+    pub(crate) fn of_document(alloc: Global, document: &Table) -> Result<Tariff, TariffFault>
         ensures { IsUnlessMemory result (spec.terms_of (table_view document.now)) }
     {
         let head = head_of(document)?;

@@ -7,7 +7,7 @@ use Rattle.book_reports.proofs.bill_tariffs.billed_tariffs.Goals as goal
 pub returns-in_err-days-clause-tariffs : goal.returns-in_err-days-clause-tariffs
 returns-in_err-days-clause-tariffs g c =
     call_failed c.from_residual.result c.from_residual.ensures.1 (λ book. refl) (λ book. refl)
-    (λ book is. cc is) c.in_err-days.ensures
+    (λ book is. cc is) c.in_err-days.ensures.days
 
 -- the days were read, and then the tariffs: all from one book
 pub returns-clause-tariffs : goal.returns-clause-tariffs
@@ -16,4 +16,4 @@ returns-clause-tariffs g c =
     (λ book early. subst (Tells tariffs_shown c.tariffs_on.result)
     (ap (λ days. Ok (tariffs_billed (kept_of days (tariffs_seen book.rulings.tariffs))))
     (sym (same_value early))))
-    c.in_ok-days.ensures c.tariffs_on.ensures.tariffs
+    c.in_ok-days.ensures.days c.tariffs_on.ensures.tariffs

@@ -1,6 +1,6 @@
 use Rattle.std.proofs.Common.{sym}
 use Rattle.book_reports.proofs.Words.{folded, kept_of, tariffs_billed, tariffs_shown}
-use Rattle.book_reports.proofs.KeptTariffLemmas.{kept_dated, kept_shown}
+use Rattle.book_reports.proofs.KeptTariffLemmas.{kept_dated, kept_shown, shifts_kept_dated}
 use Rattle.book_reports.proofs.bill_tariffs.tariffs_on.Goals as goal
 
 pub returns-clause-tariffs : goal.returns-clause-tariffs
@@ -10,3 +10,6 @@ returns-clause-tariffs g c =
 
 pub returns-clause-days : goal.returns-clause-days
 returns-clause-days g c = kept_dated c.fold.result _ c.fold.ensures.has
+
+pub returns-clause-shift_days : goal.returns-clause-shift_days
+returns-clause-shift_days g c = shifts_kept_dated c.fold.result _ c.fold.ensures.has

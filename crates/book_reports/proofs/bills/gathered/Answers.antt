@@ -22,7 +22,7 @@ returns-in_err-lines-clause-bill g c =
     (λ book known. bill_unlined naming c.args.period c.args.centre.now book c.in_err-lines.field-0.0)
     work (rw work.work.naming at c.in_err-lines.ensures.lines)
 
--- what is held back, or the tariffs
+-- what is held back, the days or the tariffs
 pub returns-in_err-held-clause-bill : goal.returns-in_err-held-clause-bill
 returns-in_err-held-clause-bill g c =
     refused_next c.from_residual-in_err-held.result c.from_residual-in_err-held.ensures.1
@@ -31,14 +31,26 @@ returns-in_err-held-clause-bill g c =
     c.in_ok-lines.ensures.lines)
     c.in_err-held.ensures
 
-pub returns-in_err-kept-clause-bill : goal.returns-in_err-kept-clause-bill
-returns-in_err-kept-clause-bill g c =
-    refused_next c.from_residual-in_err-kept.result c.from_residual-in_err-kept.ensures.1
+pub returns-in_err-days-clause-bill : goal.returns-in_err-days-clause-bill
+returns-in_err-days-clause-bill g c =
+    refused_next c.from_residual-in_err-days.result c.from_residual-in_err-days.ensures.1
     (λ book. refl) (λ book. refl) (λ book known is. cc is)
     (then_stays (λ book. refl)
     (then_stays (λ book. refl) (shown (λ book. refl) c.in_ok-work.ensures.work)
     c.in_ok-lines.ensures.lines)
     c.in_ok-held.ensures)
+    c.in_err-days.ensures.days
+
+pub returns-in_err-kept-clause-bill : goal.returns-in_err-kept-clause-bill
+returns-in_err-kept-clause-bill g c =
+    refused_next c.from_residual-in_err-kept.result c.from_residual-in_err-kept.ensures.1
+    (λ book. refl) (λ book. refl) (λ book known is. cc is)
+    (then_stays (λ book. refl)
+    (then_stays (λ book. refl)
+    (then_stays (λ book. refl) (shown (λ book. refl) c.in_ok-work.ensures.work)
+    c.in_ok-lines.ensures.lines)
+    c.in_ok-held.ensures)
+    c.in_ok-days.ensures.days)
     c.in_err-kept.ensures.tariffs
 
 -- all were read
@@ -49,9 +61,11 @@ returns-clause-bill g c =
     let lines = both_shown (λ book. refl) work
     (rw work.work.naming at c.in_ok-lines.ensures.lines) in
     let held = both_shown (λ book. refl) lines (rw lines.work.naming at c.in_ok-held.ensures) in
-    let all = both_shown (λ book. refl) held c.in_ok-kept.ensures.tariffs in
+    let days = both_shown (λ book. refl) held c.in_ok-days.ensures.days in
+    let all = both_shown (λ book. refl) days c.in_ok-kept.ensures.tariffs in
     answers _ (λ book. refl)
     (λ book known. bill_known naming c.args.period c.args.centre.now c.in_ok-work.work
-    c.in_ok-lines.lines.items c.in_ok-held.held c.in_ok-kept.kept book known.first.first.first
-    known.first.first.next known.first.next known.next)
+    c.in_ok-lines.lines.items c.in_ok-held.held c.in_ok-days.days c.in_ok-kept.kept book
+    known.first.first.first.first known.first.first.first.next known.first.first.next
+    known.first.next known.next)
     all

@@ -32,6 +32,10 @@ returns-in-Record g c =
 pub returns-in-Bill : goal.returns-in-Bill
 returns-in-Bill g c = rw c.in-Bill.is c.bill_report.ensures
 
+-- its page
+pub returns-in-BillPage : goal.returns-in-BillPage
+returns-in-BillPage g c = rw c.in-BillPage.is c.bill_page_report.ensures
+
 -- a table of cost and usage
 pub returns-in-Focus : goal.returns-in-Focus
 returns-in-Focus g c = rw c.in-Focus.is c.focus_report.ensures

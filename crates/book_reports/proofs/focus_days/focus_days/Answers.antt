@@ -1,6 +1,6 @@
 use Rattle.std.proofs.Common.{◌-◌, ◌∙◌, length, sym}
 use Rattle.book_model.specs.Words.{IsDay}
-use Rattle.book_reports.proofs.FocusLemmas.{found_as_all}
+use Rattle.bill_texts.proofs.FoundLemmas.{found_as_all}
 use Rattle.book_reports.proofs.Words.{BilledTariff, ChargeRow}
 use Rattle.book_reports.proofs.focus_days.focus_days.Goals as goal
 

@@ -1,9 +1,10 @@
 use Rattle.std.proofs.Common.{◌≡◌, ◌∙◌, ap, arith, length, map, refl, rules, ℤ, List}
+use Rattle.book_model.specs.Words.{letterhead_shown}
 use Rattle.book_reports.specs.declared.figures.OpenPeriod.{OpenPeriod}
 use Rattle.book_reports.proofs.PageLemmas.{office_known, period_known}
 use Rattle.book_reports.proofs.Words.{figures_seen, office_page_text, number_after, call_failed}
-use Rattle.book_reports.proofs.Words.{passed_on, answers, answers_none, refused_next, shown}
-use Rattle.book_reports.proofs.Words.{shown_as, then_shown, then_stays}
+use Rattle.book_reports.proofs.Words.{passed_on, answers, answers_none, both_shown, refused_next}
+use Rattle.book_reports.proofs.Words.{shown, shown_as, then_shown, then_stays}
 use Rattle.book_reports.proofs.pages.office_page_report.Goals as goal
 
 pub returns-in_err-closes : goal.returns-in_err-closes
@@ -43,11 +44,28 @@ loop-before-preserved g c =
     c.in_ok-push.ensures.items)
     it (rw it.work.naming at c.in_ok-figures.ensures)
 
--- or for the page
+-- the tariffs are refused, or the disputes
+pub returns-in_err-kept : goal.returns-in_err-kept
+returns-in_err-kept g c =
+    refused_next c.from_residual-in_err-kept.result c.from_residual-in_err-kept.ensures.1
+    (λ book. refl) (λ book. refl) (λ book known is. cc is) c.loop-before.invariant
+    c.in_err-kept.ensures.tariffs
+
+pub returns-in_err-disputes : goal.returns-in_err-disputes
+returns-in_err-disputes g c =
+    refused_next c.from_residual-in_err-disputes.result c.from_residual-in_err-disputes.ensures.1
+    (λ book. refl) (λ book. refl) (λ book known is. cc is)
+    (then_stays (λ book. refl) c.loop-before.invariant c.in_ok-kept.ensures.tariffs)
+    c.in_err-disputes.ensures
+
+-- there is no memory for the page
 pub returns-in_err-page : goal.returns-in_err-page
 returns-in_err-page g c =
     rw (passed_on c.from_residual-in_err-page.result c.from_residual-in_err-page.ensures.1)
-    (answers_none (λ book. refl) c.loop-before.invariant)
+    (answers_none (λ book. refl)
+    (then_stays (λ book. refl)
+    (then_stays (λ book. refl) c.loop-before.invariant c.in_ok-kept.ensures.tariffs)
+    c.in_ok-disputes.ensures))
 
 -- these are all
 pub returns : goal.returns
@@ -59,8 +77,13 @@ returns g c =
     let few = c.loop-before.auto.before-end in
     let ended = c.loop-before-test.false in
     let all : c.loop-before.before ≡ c.period_after-open.result.number = omega (arith, few, ended) in
+    let kept = both_shown (λ book. refl) c.loop-before.invariant c.in_ok-kept.ensures.tariffs in
+    let counted = both_shown (λ book. refl) kept (rw kept.work.naming at c.in_ok-disputes.ensures) in
     let made : c.into_bytes.result.items
-    ≡ office_page_text closes (map figures_seen c.loop-before.periods.items) = search rules in
+    ≡ office_page_text (letterhead_shown c.in_ok-kept.kept.letterhead) c.in_ok-disputes.disputes closes
+    (map figures_seen c.loop-before.periods.items) = search rules in
     answers c.into_bytes.result (λ book. refl)
-    (λ book known. office_known known c.into_bytes.result.items (all ∙ last) made)
-    c.loop-before.invariant
+    (λ book known. office_known known.first.first c.period_after-open.result.number
+    c.in_ok-kept.kept c.in_ok-disputes.disputes c.into_bytes.result.items all last known.first.next
+    known.next made)
+    counted

@@ -1,5 +1,5 @@
 use Rattle.std.proofs.Common.{◌≡◌, ap, map, refl, rules}
-use Rattle.book_model.specs.Words.{dispute_shown}
+use Rattle.book_model.specs.Words.{dispute_shown, letterhead_shown}
 use Rattle.book_reports.specs.Pages.{page_with}
 use Rattle.book_reports.proofs.PageLemmas.{page_known}
 use Rattle.book_reports.proofs.Words.{period_page_text, shown_by, call_failed, passed_on, answers}
@@ -49,6 +49,20 @@ returns-in_err-closes g c =
     c.in_ok-disputes.ensures.disputes)
     c.in_err-closes.ensures.days
 
+pub returns-in_err-kept : goal.returns-in_err-kept
+returns-in_err-kept g c =
+    refused_next c.from_residual-in_err-kept.result c.from_residual-in_err-kept.ensures.1
+    (λ book. refl) (λ book. refl) (λ book known is. cc is)
+    (then_stays (λ book. refl)
+    (then_stays (λ book. refl)
+    (then_stays (λ book. refl)
+    (then_stays (λ book. refl) (shown (λ book. refl) c.in_ok-coverage.ensures)
+    c.in_ok-rows.ensures.rows)
+    c.in_ok-lines.ensures.lines)
+    c.in_ok-disputes.ensures.disputes)
+    c.in_ok-closes.ensures.days)
+    c.in_err-kept.ensures.tariffs
+
 -- there is no memory for the page
 pub returns-in_err-page : goal.returns-in_err-page
 returns-in_err-page g c =
@@ -57,11 +71,13 @@ returns-in_err-page g c =
     (then_stays (λ book. refl)
     (then_stays (λ book. refl)
     (then_stays (λ book. refl)
+    (then_stays (λ book. refl)
     (then_stays (λ book. refl) (shown (λ book. refl) c.in_ok-coverage.ensures)
     c.in_ok-rows.ensures.rows)
     c.in_ok-lines.ensures.lines)
     c.in_ok-disputes.ensures.disputes)
-    c.in_ok-closes.ensures.days))
+    c.in_ok-closes.ensures.days)
+    c.in_ok-kept.ensures.tariffs))
 
 -- all were read
 pub returns : goal.returns
@@ -72,15 +88,18 @@ returns g c =
     let lines = both_shown (λ book. refl) rows (rw rows.work.naming at c.in_ok-lines.ensures.lines) in
     let disputes = both_shown (λ book. refl) lines
     (rw lines.work.naming at c.in_ok-disputes.ensures.disputes) in
-    let all = both_shown (λ book. refl) disputes c.in_ok-closes.ensures.days in
+    let closes = both_shown (λ book. refl) disputes c.in_ok-closes.ensures.days in
+    let all = both_shown (λ book. refl) closes c.in_ok-kept.ensures.tariffs in
     let made : c.into_bytes.result.items
-    ≡ period_page_text c.args.period c.in_ok-closes.closes.items c.in_ok-rows.rows.items
-    c.in_ok-lines.lines.items (map dispute_shown c.in_ok-disputes.disputes.items)
-    c.in_ok-coverage.coverage.items = search rules in
+    ≡ period_page_text c.args.period (letterhead_shown c.in_ok-kept.kept.letterhead)
+    c.in_ok-closes.closes.items c.in_ok-rows.rows.items c.in_ok-lines.lines.items
+    (map dispute_shown c.in_ok-disputes.disputes.items) c.in_ok-coverage.coverage.items =
+    search rules in
     answers c.into_bytes.result (λ book. refl)
-    (λ book known. page_known naming c.args.period c.in_ok-closes.closes.items
+    (λ book known. page_known naming c.args.period c.in_ok-kept.kept c.in_ok-closes.closes.items
     c.in_ok-rows.rows.items c.in_ok-lines.lines.items
     (map dispute_shown c.in_ok-disputes.disputes.items) c.in_ok-coverage.coverage.items
-    c.into_bytes.result.items book made known.first.first.first.first known.first.first.first.next
-    known.first.first.next known.first.next known.next)
+    c.into_bytes.result.items book made known.first.first.first.first.first
+    known.first.first.first.first.next known.first.first.first.next known.first.first.next
+    known.first.next known.next)
     all

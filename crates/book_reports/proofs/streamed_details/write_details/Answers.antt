@@ -4,7 +4,7 @@ use Rattle.book_reports.proofs.Words.{details_end, details_part, details_text, s
 use Rattle.book_reports.proofs.DetailLemmas.{details_then, details_written, none_read}
 use Rattle.book_reports.proofs.streamed_details.write_details.Goals as goal
 
--- the day of the close is not answered
+-- the centre is not there
 pub returns-in_err-through-clause-written : goal.returns-in_err-through-clause-written
 returns-in_err-through-clause-written g c =
     rw (passed_on c.from_residual.result c.from_residual.ensures.1)

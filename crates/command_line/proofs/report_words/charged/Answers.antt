@@ -1,4 +1,4 @@
-use Rattle.std.proofs.Common.{refl}
+use Rattle.std.proofs.Common.{refl, sym}
 use Rattle.report_rows.specs.ReportRows.{row_of}
 use Rattle.command_line.proofs.RowLemmas.{true_false}
 use Rattle.command_line.proofs.report_words.charged.Goals as goal
@@ -12,6 +12,8 @@ returns c =
         word = refl;
         table = λ is. shown;
         text = λ never. absurd (true_false never);
+        page = λ may. absurd (true_false (sym may));
+        no_page = λ is. refl;
         words = named;
         charged = λ is. left_out;
       },

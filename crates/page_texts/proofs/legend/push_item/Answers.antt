@@ -10,6 +10,7 @@ returns c =
       c.push_escaped.ensures,
       c.push_str-2.ensures,
       c.push_number.ensures,
+      c.colour_of.ensures,
       c.push_str.ensures,
       c.text.ensures.value,
     )

@@ -6,18 +6,20 @@ pub returns : goal.returns
 unfolding period_head
 returns c =
     rw (
-      c.push_str-7.ensures,
+      c.push_str-8.ensures,
       c.push_owed.ensures,
-      c.push_str-6.ensures,
+      c.push_str-7.ensures,
       c.push_money-3.ensures,
-      c.push_str-5.ensures,
+      c.push_str-6.ensures,
       c.push_money-2.ensures,
-      c.push_str-4.ensures,
+      c.push_str-5.ensures,
       c.push_money.ensures,
-      c.push_str-3.ensures,
+      c.push_str-4.ensures,
       c.push_head.ensures,
-      c.push_str-2.ensures,
+      c.push_str-3.ensures,
       c.push_draft.ensures,
+      c.push_str-2.ensures,
+      c.push_office_name.ensures,
       c.push_str.ensures,
     )
     (simp append_assoc)

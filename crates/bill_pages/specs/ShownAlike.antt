@@ -1,0 +1,53 @@
+-- What the text and the page of a bill show alike: each row of its parts, and each figure.
+use Rattle.std.specs.Prelude.{◌≡◌, ℕ, ℤ, ◌==◌, ◌||◌, Bool, true, not, Contains, List, [], ◌∷◌, ◌++◌}
+use Rattle.std.specs.Prelude.{Option, decimal, filter}
+use Rattle.std.specs.List.{list_all}
+use Rattle.std.specs.Str.{byte}
+use Rattle.book_model.specs.Words.{BillSeen}
+use Rattle.bill_texts.specs.BillSheets.{centre_parts}
+use Rattle.bill_texts.specs.BillTexts.{bill_text}
+use Rattle.bill_texts.specs.SheetTexts.{row_text}
+use Rattle.bill_texts.specs.Sheets.{Fields, PartSeen, PartsSeen, SheetSeen}
+use Rattle.bill_pages.specs.BillPages.{HeadSeen, centre_bill_page}
+use Rattle.bill_pages.specs.Grouped.{grouped, is_whole}
+use Rattle.bill_pages.specs.SheetPages.{line_page}
+
+-- a text stands in another
+pub record StandsIn (part all : List ℕ) : Type 0 where
+  pub front : List ℕ
+  pub behind : List ℕ
+  pub is : all ≡ front ++ part ++ behind
+
+-- the parts of a centre's bill, in their order
+abbrev pub parts_in : PartsSeen → List PartSeen
+parts_in parts =
+    parts.steps_by_shift ∷ parts.jobs_by_shift ∷ parts.steps_by_day ∷ parts.jobs_by_day
+    ∷ parts.late ∷ parts.reversed ∷ []
+
+-- a byte that figures are made of: a digit, a sign, or the point
+abbrev pub is_figure_byte : ℕ → Bool
+is_figure_byte b = is_whole b || b == byte "."
+
+-- what is left of a text without its commas
+abbrev pub is_kept : ℕ → Bool
+is_kept b = not (b == byte ",")
+
+abbrev pub without_commas : List ℕ → List ℕ
+without_commas text = filter is_kept text
+
+-- Each row of what a bill's sums are made of stands in the bill's text and on its page; and a figure on
+-- the page is that of the text, but for its commas.
+pub record SheetsAreShownAlike : Type 0 where
+  pub text : (centre : List ℕ) (period : ℕ) (through : Option ℤ) (bill : BillSeen)
+      (part : PartSeen) (row : Fields)
+      → Contains (parts_in (centre_parts bill)) part
+      → Contains part.rows row
+      → StandsIn (row_text part.layout row) (bill_text centre period through bill)
+  pub page : (head : HeadSeen) (sheet : SheetSeen) (parts : PartsSeen) (part : PartSeen)
+      (row : Fields)
+      → Contains (parts_in parts) part
+      → Contains part.rows row
+      → StandsIn (line_page (decimal head.period) part.layout row)
+      (centre_bill_page head sheet parts)
+  pub figures : (figure : List ℕ) → list_all is_figure_byte figure ≡ true
+      → without_commas (grouped figure) ≡ figure
