@@ -168,13 +168,15 @@ part_lines period part =
 unfoldable pub part_page : List ℕ → PartSeen → List ℕ
 part_page period part = if nat_lt 0 (length part.rows) then part_lines period part else []
 
--- the prices and the percents, side by side
+-- the prices and the percents, side by side, where there are prices
+unfoldable pub both_terms : List ℕ → SheetSeen → List ℕ
+both_terms period sheet =
+    codes "<div class='both'>\n" ++ part_page period sheet.prices
+    ++ part_page period sheet.percents ++ codes "</div>\n"
+
 unfoldable pub terms_page : List ℕ → SheetSeen → List ℕ
 terms_page period sheet =
-    if nat_lt 0 (length sheet.prices.rows)
-    then codes "<div class='both'>\n" ++ part_page period sheet.prices
-    ++ part_page period sheet.percents ++ codes "</div>\n"
-    else []
+    if nat_lt 0 (length sheet.prices.rows) then both_terms period sheet else []
 
 -- what the sums of a centre are made of
 unfoldable pub parts_page : List ℕ → PartsSeen → List ℕ

@@ -102,12 +102,10 @@ pub fn office_bill_page(
     ensures { IfOk result (λ page. string_bytes page
         ≡ spec.office_bill_page (spec.head_shown head.now) (sheet_shown sheet.now)) }
 {
-    let mut period = Draft::new(alloc);
-    period.push_number(u64::from(head.period));
     let mut page = Draft::new(alloc);
     push_top(&mut page, head, sheet);
-    push_part_lines(&mut page, &period, &sheet.sums);
-    push_terms(&mut page, &period, sheet);
+    push_part_lines(&mut page, head.period, &sheet.sums);
+    push_terms(&mut page, head.period, sheet);
     push_links_start(&mut page, head);
     push_links_end(&mut page, head);
     page.finish()
@@ -127,13 +125,11 @@ pub fn centre_bill_page(
         (parts_shown parts.now)) }
     ensures alike { SheetsAreShownAlike }
 {
-    let mut period = Draft::new(alloc);
-    period.push_number(u64::from(head.period));
     let mut page = Draft::new(alloc);
     push_top(&mut page, head, sheet);
-    push_terms(&mut page, &period, sheet);
+    push_terms(&mut page, head.period, sheet);
     push_check(&mut page, sheet);
-    push_parts(&mut page, &period, parts);
+    push_parts(&mut page, head.period, parts);
     push_links_start(&mut page, head);
     push_centre_links(&mut page, head);
     push_links_end(&mut page, head);

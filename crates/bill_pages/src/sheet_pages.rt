@@ -1,6 +1,6 @@
 //! A sheet on a page: of each part its title, the words above its columns, and its rows.
 
-ghost use Rattle.std.specs.Prelude.{◌≡◌, ◌++◌, flat_map};
+ghost use Rattle.std.specs.Prelude.{◌≡◌, ◌++◌, decimal, flat_map};
 ghost use Rattle.csv.specs.Records.{fields_of};
 ghost use Rattle.html_text.specs.Escaping.{escaped};
 ghost use Rattle.bill_pages.specs.Grouped.{grouped};
@@ -137,13 +137,13 @@ fn push_record(out: &mut Draft, row: &StringRecord)
     out.push_str("</td></tr>\n</tbody>\n");
 }
 
-/// Appends a link to the bill of a centre, of the period with this path.
+/// Appends a link to the bill of a centre for a period.
 #[tactic(auto, unfolding(crate::specs::SheetPages::centre_link))]
-fn push_centre_link(out: &mut Draft, period: &Draft, row: &StringRecord)
-    ensures { out.new ≡ out.old ++ spec.centre_link period.now (fields_of row.now) }
+fn push_centre_link(out: &mut Draft, period: u16, row: &StringRecord)
+    ensures { out.new ≡ out.old ++ spec.centre_link (decimal period) (fields_of row.now) }
 {
     out.push_str("<a href='/bill/");
-    out.push_draft(period);
+    out.push_number(u64::from(period));
     out.push_str("/");
     push_escaped(out, text_at(row, 0));
     out.push_str("'>");
@@ -152,9 +152,9 @@ fn push_centre_link(out: &mut Draft, period: &Draft, row: &StringRecord)
 }
 
 /// Appends the sums of a centre.
-fn push_centre(out: &mut Draft, period: &Draft, row: &StringRecord)
+fn push_centre(out: &mut Draft, period: u16, row: &StringRecord)
     ensures { out.new ≡ out.old ++ spec.row_page Layout.Sums
-        (spec.centre_link period.now (fields_of row.now)) (fields_of row.now) }
+        (spec.centre_link (decimal period) (fields_of row.now)) (fields_of row.now) }
 {
     let mut first = Draft::new(out.alloc());
     push_centre_link(&mut first, period, row);
@@ -163,8 +163,8 @@ fn push_centre(out: &mut Draft, period: &Draft, row: &StringRecord)
 
 /// Appends a row of a part, on the page of a period.
 #[tactic(auto, unfolding(crate::specs::SheetPages::line_page))]
-fn push_fields(out: &mut Draft, period: &Draft, layout: Layout, row: &StringRecord)
-    ensures { out.new ≡ out.old ++ spec.line_page period.now layout (fields_of row.now) }
+fn push_fields(out: &mut Draft, period: u16, layout: Layout, row: &StringRecord)
+    ensures { out.new ≡ out.old ++ spec.line_page (decimal period) layout (fields_of row.now) }
 {
     match layout {
         Layout::Sums => push_centre(out, period, row),
@@ -177,8 +177,8 @@ fn push_fields(out: &mut Draft, period: &Draft, layout: Layout, row: &StringReco
 }
 
 /// Appends it, if there was memory to make it.
-fn push_line(out: &mut Draft, period: &Draft, layout: Layout, row: &RowDraft)
-    ensures { out.new ≡ out.old ++ spec.line_page period.now layout row.now }
+fn push_line(out: &mut Draft, period: u16, layout: Layout, row: &RowDraft)
+    ensures { out.new ≡ out.old ++ spec.line_page (decimal period) layout row.now }
 {
     match row.whole() {
         Some(fields) => push_fields(out, period, layout, fields),
@@ -188,8 +188,8 @@ fn push_line(out: &mut Draft, period: &Draft, layout: Layout, row: &RowDraft)
 
 /// Appends the rows of a part.
 #[tactic(auto, using(std::proofs::lemmas::List::flat_map_more))]
-fn push_lines(out: &mut Draft, period: &Draft, layout: Layout, rows: &[RowDraft])
-    ensures { out.new ≡ out.old ++ flat_map (spec.line_page period.now layout) rows.now }
+fn push_lines(out: &mut Draft, period: u16, layout: Layout, rows: &[RowDraft])
+    ensures { out.new ≡ out.old ++ flat_map (spec.line_page (decimal period) layout) rows.now }
 {
     for row in rows {
         push_line(out, period, layout, row);
@@ -391,8 +391,8 @@ fn push_part_head(out: &mut Draft, part: &Part)
 
 /// Appends a part, on the page of a period.
 #[tactic(auto, unfolding(crate::specs::SheetPages::part_lines))]
-pub(crate) fn push_part_lines(out: &mut Draft, period: &Draft, part: &Part)
-    ensures { out.new ≡ out.old ++ spec.part_lines period.now (part_shown part.now) }
+pub(crate) fn push_part_lines(out: &mut Draft, period: u16, part: &Part)
+    ensures { out.new ≡ out.old ++ spec.part_lines (decimal period) (part_shown part.now) }
 {
     push_part_head(out, part);
     push_body_start(out, part.layout);
@@ -404,8 +404,8 @@ pub(crate) fn push_part_lines(out: &mut Draft, period: &Draft, part: &Part)
 
 /// Appends it, if it has rows.
 #[tactic(auto, unfolding(crate::specs::SheetPages::part_page))]
-fn push_part(out: &mut Draft, period: &Draft, part: &Part)
-    ensures { out.new ≡ out.old ++ spec.part_page period.now (part_shown part.now) }
+fn push_part(out: &mut Draft, period: u16, part: &Part)
+    ensures { out.new ≡ out.old ++ spec.part_page (decimal period) (part_shown part.now) }
 {
     if 0 < part.rows.len() {
         push_part_lines(out, period, part);
@@ -413,22 +413,30 @@ fn push_part(out: &mut Draft, period: &Draft, part: &Part)
 }
 
 /// Appends the prices and the percents.
+#[tactic(auto, unfolding(crate::specs::SheetPages::both_terms))]
+fn push_both_terms(out: &mut Draft, period: u16, sheet: &Sheet)
+    ensures { out.new ≡ out.old ++ spec.both_terms (decimal period) (sheet_shown sheet.now) }
+{
+    out.push_str("<div class='both'>\n");
+    push_part(out, period, &sheet.prices);
+    push_part(out, period, &sheet.percents);
+    out.push_str("</div>\n");
+}
+
+/// Appends these, if there are prices.
 #[tactic(auto, unfolding(crate::specs::SheetPages::terms_page))]
-pub(crate) fn push_terms(out: &mut Draft, period: &Draft, sheet: &Sheet)
-    ensures { out.new ≡ out.old ++ spec.terms_page period.now (sheet_shown sheet.now) }
+pub(crate) fn push_terms(out: &mut Draft, period: u16, sheet: &Sheet)
+    ensures { out.new ≡ out.old ++ spec.terms_page (decimal period) (sheet_shown sheet.now) }
 {
     if 0 < sheet.prices.rows.len() {
-        out.push_str("<div class='both'>\n");
-        push_part(out, period, &sheet.prices);
-        push_part(out, period, &sheet.percents);
-        out.push_str("</div>\n");
+        push_both_terms(out, period, sheet);
     }
 }
 
 /// Appends what the sums of a centre are made of.
 #[tactic(auto, unfolding(crate::specs::SheetPages::parts_page))]
-pub(crate) fn push_parts(out: &mut Draft, period: &Draft, parts: &CentreParts)
-    ensures { out.new ≡ out.old ++ spec.parts_page period.now (parts_shown parts.now) }
+pub(crate) fn push_parts(out: &mut Draft, period: u16, parts: &CentreParts)
+    ensures { out.new ≡ out.old ++ spec.parts_page (decimal period) (parts_shown parts.now) }
 {
     push_part(out, period, &parts.steps_by_shift);
     push_part(out, period, &parts.jobs_by_shift);
