@@ -21,12 +21,21 @@ fn insert_base(shifts: &mut BTreeSet<Shift>) -> Result<(), AllocError>
     Ok(())
 }
 
+/// The shift of a rule joins others.
+fn insert_shift(shifts: &mut BTreeSet<Shift>, rule: &ShiftRule) -> Result<(), AllocError>
+    ensures { OnOk result
+        (shifts.new.keys ≡ insert_key by_shift shifts.old.keys rule.now.shift) }
+{
+    shifts.insert(rule.shift())?;
+    Ok(())
+}
+
 /// The shifts of rules join others.
 fn insert_shifts(shifts: &mut BTreeSet<Shift>, rules: &[ShiftRule]) -> Result<(), AllocError>
     ensures { OnOk result (shifts.new.keys ≡ with_shifts shifts.old.keys rules.now) }
 {
     for rule in rules {
-        shifts.insert(rule.shift())?;
+        insert_shift(shifts, rule)?;
     }
     Ok(())
 }
