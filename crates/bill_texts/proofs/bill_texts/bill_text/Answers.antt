@@ -3,7 +3,7 @@ use Rattle.std.proofs.lemmas.Result.{IfOk-weaker}
 use Rattle.book_model.specs.Words.{BillSeen, bill_shown}
 use Rattle.report_texts.specs.Centres.{centre_title}
 use Rattle.report_texts.specs.Periods.{title_line}
-use Rattle.bill_texts.specs.BillSheets.{centre_parts, centre_sheet}
+use Rattle.bill_texts.specs.BillSheets.{centre_sheet}
 use Rattle.bill_texts.specs.BillTexts.{bill_text, head_lines, sheet_lines}
 use Rattle.bill_texts.specs.SheetTexts.{parts_text}
 use Rattle.bill_texts.proofs.bill_texts.bill_text.Goals as goal
