@@ -2,6 +2,7 @@
 use Rattle.std.specs.Prelude.{◌+◌, ◌*◌, ◌/◌, ◌≤◌, ◌<◌, ◌^◌, ◌==◌, ◌&&◌, if◌then◌else◌}
 use Rattle.std.specs.Prelude.{ℕ, nat_eq, nat_le, nat_lt, ℤ, Bool, false, List, codes, find}
 use Rattle.std.specs.Prelude.{Option, Some, None}
+use Rattle.std.specs.Cmp.Lexicographic.{pointwise}
 use Rattle.std.specs.List.{list_any, starts_with}
 use Rattle.smf_text.specs.Day.{IsDay, weekday_of}
 use Rattle.smf_text.specs.Names.{IsName}
@@ -68,6 +69,14 @@ applies_to bytes rule = begins_with rule.prefix (field_text bytes rule.field)
 -- the centre of the records that no rule applies to
 abbrev pub unassigned : List ℕ
 unassigned = codes "UNASSIGNED"
+
+-- it is that centre
+abbrev pub is_unassigned : List ℕ → Bool
+is_unassigned centre = pointwise nat_eq centre unassigned
+
+-- the rule is one of the centre
+abbrev pub is_rule_of : List ℕ → CentreRule → Bool
+is_rule_of centre rule = pointwise nat_eq rule.centre centre
 
 -- the centre of the rule that was found, or UNASSIGNED where none was
 abbrev pub centre_by : Option CentreRule → List ℕ

@@ -1,6 +1,7 @@
 //! Centres, and which records each pays for.
 
 ghost use Rattle.std.specs.Prelude.{◌≡◌};
+ghost use Rattle.std.specs.List.{list_any};
 ghost use Rattle.std.specs.Option.{option_copied};
 ghost use Rattle.smf_text.specs.Names.{IsName};
 ghost use Rattle.tariff_rules.specs.Price as spec;
@@ -66,6 +67,13 @@ impl CentreRule {
             Some(text) => text.starts_with(&self.prefix),
         }
     }
+
+    /// It is a rule of the centre.
+    fn is_of(&self, centre: Name) -> bool
+        ensures { result ≡ spec.is_rule_of centre self.now }
+    {
+        self.centre == centre
+    }
 }
 
 /// The centre of the records that no rule applies to.
@@ -73,6 +81,25 @@ fn unassigned() -> Name
     ensures { result ≡ spec.unassigned }
 {
     Name::of_letters(UNASSIGNED_LETTERS, 10)
+}
+
+/// The centre is that one.
+pub fn is_unassigned(centre: Name) -> bool
+    ensures { result ≡ spec.is_unassigned centre }
+{
+    centre == unassigned()
+}
+
+/// Some rule is of the centre.
+pub(crate) fn has_centre(rules: &[CentreRule], centre: Name) -> bool
+    ensures { result ≡ list_any (spec.is_rule_of centre) rules.now }
+{
+    for rule in rules {
+        if rule.is_of(centre) {
+            return true;
+        }
+    }
+    false
 }
 
 /// The centre that pays for the record: that of the first rule that applies.

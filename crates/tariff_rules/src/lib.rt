@@ -15,6 +15,7 @@ mod rules;
 mod shift;
 mod tariff;
 
+pub use centre::is_unassigned;
 pub use fault::TariffFault;
 pub use key::Key;
 pub use letterhead::Letterhead;

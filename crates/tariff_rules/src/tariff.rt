@@ -1,6 +1,7 @@
 //! Tariffs.
 
 ghost use Rattle.std.specs.Prelude.{◌≡◌, ◌↔◌, IsSome, IfSome};
+ghost use Rattle.std.specs.List.{list_any};
 ghost use Rattle.smf_text.specs.Day.{IsDay, weekday_of};
 ghost use Rattle.smf_text.specs.Names.{IsName};
 ghost use Rattle.tariff_rules.specs.Price as spec;
@@ -11,7 +12,7 @@ ghost use Rattle.tariff_rules.specs.Terms as terms;
 mod entry;
 mod file;
 
-use crate::centre::{CentreRule, centre_of, centre_rule};
+use crate::centre::{CentreRule, centre_of, centre_rule, has_centre};
 use crate::rates::Rates;
 use crate::shift::{Shift, ShiftRule, shift_at, shift_rule};
 pub use entry::Entry;
@@ -134,6 +135,13 @@ impl Tariff {
         ensures { result ≡ rule_number (spec.applies_to usage.now) self.now.centres }
     {
         centre_rule(&self.centres, usage)
+    }
+
+    /// Some rule is of the centre.
+    pub fn has_centre(&self, centre: Name) -> bool
+        ensures { result ≡ list_any (spec.is_rule_of centre) self.now.centres }
+    {
+        has_centre(&self.centres, centre)
     }
 
     /// The centre that pays for the record.
