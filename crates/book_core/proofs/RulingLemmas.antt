@@ -1,12 +1,17 @@
 -- The rulings of an office: the day of the last close, one tariff more, and what is asked for.
 use Rattle.std.proofs.Common.{◌≡◌, ◌∙◌, ◌-◌, List, [], ◌∷◌, ◌++◌, length, refl, sym, ap, arith}
 use Rattle.std.proofs.Common.{None, slice_get, true, ◌≢◌, ℕ, Bool, false, Option, Some, Ok, Err}
-use Rattle.std.proofs.Common.{Result, if◌then◌else◌, option_map}
+use Rattle.std.proofs.Common.{Result, if◌then◌else◌, option_map, ◌<◌, slice_index_or, slice_set}
+use Rattle.std.proofs.Common.{take, take_all}
+use Rattle.std.proofs.lemmas.List.{get_or_push, length-set, length_push, set-append_left}
+use Rattle.std.proofs.lemmas.List.{take-append-le}
+use Rattle.std.specs.List.{swap_remove}
 use Rattle.book_model.proofs.Std.{last_or, result_ok}
 use Rattle.book_model.specs.declared.answer.Ruled.TheVariants.{Done}
 use Rattle.book_model.specs.declared.fault.LedgerFault.TheVariants.{Full}
 use Rattle.book_model.specs.Words.{AcceptedTerms, are_rising, is_later, Terms, Event, RulingGiven}
-use Rattle.book_model.specs.Words.{TariffAccepted, RecordChosen, TariffFault}
+use Rattle.book_model.specs.Words.{TariffAccepted, TariffReplaced, RecordChosen, TariffFault}
+use Rattle.book_model.specs.Words.{WorkWithheld}
 use Rattle.book_model.proofs.Lemmas.{later-before, rising-behind}
 use Rattle.book_model.proofs.ListLemmas.{last_or-is}
 use Rattle.book_core.specs.declared.rulings.Rulings.{Rulings}
@@ -17,6 +22,19 @@ use Rattle.book_model.proofs.TestLemmas.{by_tests}
 pub last_found : {X : Type 0} (xs : List X) → slice_get xs (length xs - 1) ≡ last_or None xs
 last_found [] = refl
 last_found (x ∷ xs) = ap (slice_get (x ∷ xs)) (omega arith) ∙ sym (last_or-is x xs)
+
+-- the last of some elements comes into the place of one of the others
+pub last_into : {X : Type 0} (xs : List X) (x d : X) (i : ℕ) → i < length xs
+    → swap_remove (xs ++ x ∷ []) i d ≡ slice_set xs i x
+last_into xs x d i within =
+    let last : length (xs ++ x ∷ []) - 1 ≡ length xs = omega (arith, length_push xs x) in
+    let whole : length xs ≡ length (slice_set xs i x) = sym (length-set xs i x) in
+    (λ k. take (last k) (slice_set (xs ++ x ∷ []) i (slice_index_or (xs ++ x ∷ []) (last k) d)))
+    ∙ ap (λ end. take (length xs) (slice_set (xs ++ x ∷ []) i end))
+    (get_or_push xs x d (length xs) refl)
+    ∙ ap (take (length xs)) (set-append_left xs (x ∷ []) i x within)
+    ∙ take-append-le (length xs) (slice_set xs i x) (x ∷ []) (omega (arith, whole))
+    ∙ take_all (length xs) (slice_set xs i x) (omega (arith, whole))
 
 -- the tariffs are in order with one more that is later than all that was ruled
 pub rising_with : (rulings : Rulings) (accepted : AcceptedTerms)
@@ -50,3 +68,11 @@ said_by text said =
 -- the choice of the record that is meant, if there is one
 abbrev pub meant_by : Option (List ℕ) → Option Event
 meant_by meant = option_map (λ bytes. RulingGiven (RecordChosen bytes)) meant
+
+-- the tariff that a text says in the place of another, if it says one
+abbrev pub replaced_by : List ℕ → Result Terms TariffFault → Option Event
+replaced_by text said = option_map (λ terms. RulingGiven (TariffReplaced text terms)) (result_ok said)
+
+-- the choice of none of the work of the record that is meant, if there is one
+abbrev pub withheld_by : Option (List ℕ) → Option Event
+withheld_by meant = option_map (λ bytes. RulingGiven (WorkWithheld bytes)) meant
