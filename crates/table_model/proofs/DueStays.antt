@@ -8,7 +8,8 @@ use Rattle.book_model.proofs.Std.{length-map, filter-append, exact_bytes}
 use Rattle.book_model.specs.Words.{same_bytes}
 use Rattle.book_model.proofs.Lemmas.{filter-map, last_or-behind}
 use Rattle.table_model.specs.Laws.{DueStays}
-use Rattle.table_model.specs.Words.{updated, charge_due_step, walk, ChoiceTable, RecordRow}
+use Rattle.table_model.specs.Words.{updated, charge_due_step, walk, ChoiceRow, ChoiceTable}
+use Rattle.table_model.specs.Words.{RecordRow, is_withheld_in}
 use Rattle.table_model.specs.Words.{RecordTable, Tables, name_has_identity, is_due_at, is_due_in}
 use Rattle.table_model.specs.Words.{last_named, rows_with}
 use Rattle.table_model.proofs.MovedLemmas.{entries-updated, get-updated, updated-insert}
@@ -79,21 +80,30 @@ count_told records identity =
 abbrev has_row : List ℕ → Option RecordRow → Bool
 has_row identity found = option_map_or (λ row. same_bytes row.identity identity) found false
 
-last_told : (tables : Tables) (identity : List ℕ)
-    → last_named tables identity ≡ last_named (with_lasting tables (lasting tables)) identity
-last_told tables identity = λ i. last_or None (filter (λ name. has_told name i)
-    (map (λ choice. choice.name) (values tables.choices)))
+has_told : (tables : Tables) (identity name : List ℕ)
+    → name_has_identity tables.records identity name
+    ≡ name_has_identity (updated plain tables.records) identity name
+has_told tables identity name =
+    by_row (get tables.records name)
+    ∙ ap (has_row identity)
+    (sym (get-updated nat_list_cmp_total exact_bytes plain tables.records name))
   where
     by_row : (found : Option RecordRow)
         → has_row identity found ≡ has_row identity (option_map plain found)
     by_row None = refl
     by_row (Some row) = refl
 
-    has_told : (name : List ℕ) → name_has_identity tables.records identity name
-        ≡ name_has_identity (updated plain tables.records) identity name
-    has_told name = by_row (get tables.records name)
-        ∙ ap (has_row identity)
-        (sym (get-updated nat_list_cmp_total exact_bytes plain tables.records name))
+last_told : (tables : Tables) (identity : List ℕ)
+    → last_named tables identity ≡ last_named (with_lasting tables (lasting tables)) identity
+last_told tables identity = λ i. last_or None (filter (λ name. has_told tables identity name i)
+    (map (λ choice. choice.name) (values tables.choices)))
+
+-- so it is withheld or not,
+withheld_told : (tables : Tables) (identity : List ℕ)
+    → is_withheld_in tables identity ≡ is_withheld_in (with_lasting tables (lasting tables)) identity
+withheld_told tables identity = λ i. option_map_or (λ (row : ChoiceRow). not row.counts)
+    (last_or None (filter (λ (row : ChoiceRow). has_told tables identity row.name i)
+    (values tables.choices))) false
 
 -- and a record is due
 due_told : (tables : Tables) (name : List ℕ)
@@ -106,8 +116,9 @@ due_told tables name =
     by_row : (found : Option RecordRow) → is_due_at tables name found
         ≡ is_due_at (with_lasting tables (lasting tables)) name (option_map plain found)
     by_row None = refl
-    by_row (Some row) = λ i. (count_told tables.records row.identity i == 1)
-        || option_map_or (same_bytes name) (last_told tables row.identity i) false
+    by_row (Some row) = λ i. not (withheld_told tables row.identity i)
+        && ((count_told tables.records row.identity i == 1)
+        || option_map_or (same_bytes name) (last_told tables row.identity i) false)
 
 pub due_stays : DueStays
 due_stays period last is_due names tables name =
