@@ -42,6 +42,9 @@ pub mod BilledTariffs
 pub mod RulingTariffs
 pub mod LinePeriods
 pub mod TariffTexts
+pub mod CreditSums
+pub mod RulingLemmas
+pub mod ReplacedStays
 pub mod PageLemmas
 pub mod OtherPriceLemmas
 pub mod OtherWorkLemmas
