@@ -1,6 +1,6 @@
 -- Choices: how one is written into the two trees, and what the last row of their own shows.
 use Rattle.std.proofs.Common.{◌≡◌, ◌∙◌, ℕ, pos, List, [], ◌∷◌, ◌++◌, Option, Some, None}
-use Rattle.std.proofs.Common.{false, true, map, refl, reverse, sym, ap, ap₂}
+use Rattle.std.proofs.Common.{Bool, false, true, map, refl, reverse, sym, ap, ap₂}
 use Rattle.std.specs.Prelude.{unwrap_or}
 use Rattle.std.specs.Cmp.{nat_cmp_total}
 use Rattle.std.specs.FinMap.{entries, get, keys, nat_cmp-IsAntisymmetric}
@@ -16,7 +16,7 @@ use Rattle.sqlite_value.specs.Order.{Row, column}
 use Rattle.sqlite_value.specs.declared.value.Value.{Value}
 use Rattle.sqlite_value.specs.declared.value.Value.TheVariants.{Int}
 use Rattle.book_model.proofs.ListLemmas.{last_or-behind}
-use Rattle.table_model.specs.Steps.{put_choice_row}
+use Rattle.table_model.specs.Steps.{put_named_row}
 use Rattle.table_model.specs.Tables.{ChoiceRow, ChoiceTable, Tables}
 use Rattle.tree_rows.specs.Indexes.{IsIndexKey}
 use Rattle.tree_rows.specs.Rows.{IsFirst, Rewrites}
@@ -44,16 +44,16 @@ chosen_named = record {
 
 -- The row of a new choice joins the choices, and its key the tree that finds them.
 pub choice_added : {old mid new : View} {tables : Tables} (number : ℕ) (name : List ℕ)
-    (period : ℕ) {made found : Row}
+    (counts : Bool) (period : ℕ) {made found : Row}
     → Rewrites old mid 8 (insert_entry plain made (old.trees 8))
     → Rewrites mid new 9 (insert_entry plain found (mid.trees 9))
-    → made ≡ choice_columns (number, record { name = name; period = period })
+    → made ≡ choice_columns (number, record { name = name; counts = counts; period = period })
     → found ≡ choice_name_columns ((name, number), tt)
     → Holds old.trees tables → get tables.choices number ≡ None
-    → Holds new.trees (put_choice_row number name period tables)
-choice_added {old} {mid} {new} {tables} number name period first second made_is found_is holds
+    → Holds new.trees (put_named_row number name counts period tables)
+choice_added {old} {mid} {new} {tables} number name counts period first second made_is found_is holds
     none =
-    let choice : ChoiceRow = record { name = name; period = period } in
+    let choice : ChoiceRow = record { name = name; counts = counts; period = period } in
     holds_rows holds.placed (have_but 9 second.others
     (second.rows_now
     ∙ index_row_added chosen_named choice_name_layout tables.choices number choice found_is

@@ -101,7 +101,8 @@ line_layout = record {
 abbrev pub choice_layout : Layout ℕ ChoiceRow nat_cmp
 choice_layout = record {
   key = λ number. Int (pos number) ∷ [];
-  rest = λ choice. Blob choice.name ∷ Int (pos choice.period) ∷ [];
+  rest = λ choice.
+      Blob choice.name ∷ Int (pos choice.period) ∷ Int (pos (flag choice.counts)) ∷ [];
   total = nat_cmp_total;
   exact = nat_cmp-IsAntisymmetric;
   alike = λ k l. refl;

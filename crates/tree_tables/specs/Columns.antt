@@ -57,9 +57,12 @@ day_columns entry =
 abbrev pub line_columns : (ℕ × List ℕ) × Bool → Row
 line_columns line = Int (pos line.0.0) ∷ Blob line.0.1 ∷ Int (pos (flag line.1)) ∷ []
 
--- a choice: its number, the name of the record that was chosen, and the period that was open then
+-- a choice: its number, the name of the record that was named, the period that was open then, and
+-- whether it counts from then on or none of its work does
 abbrev pub choice_columns : ℕ × ChoiceRow → Row
-choice_columns choice = Int (pos choice.0) ∷ Blob choice.1.name ∷ Int (pos choice.1.period) ∷ []
+choice_columns choice =
+    Int (pos choice.0) ∷ Blob choice.1.name ∷ Int (pos choice.1.period)
+    ∷ Int (pos (flag choice.1.counts)) ∷ []
 
 -- the name of a record that was chosen, and the number of the choice
 abbrev pub choice_name_columns : (List ℕ × ℕ) × Unit {0} → Row

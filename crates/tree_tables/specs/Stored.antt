@@ -36,13 +36,17 @@ close_entry close = (close.period, close.through)
 
 -- a choice as an entry of its table
 abbrev pub choice_entry : StoredChoice → ℕ × ChoiceRow
-choice_entry choice = (choice.number, record { name = choice.name; period = choice.period })
+choice_entry choice = (
+  choice.number,
+  record { name = choice.name; counts = choice.counts; period = choice.period },
+)
 
 -- the columns are those of the choice
 pub record SaysChoice (row : Row) (choice : StoredChoice) : Type 0 where
   pub number : column row 0 ≡ Int (pos choice.number)
   pub name : column row 1 ≡ Blob choice.name
   pub period : column row 2 ≡ Int (pos choice.period)
+  pub counts : column row 3 ≡ Int (pos (flag choice.counts))
 
 -- a record that is to be written
 abbrev pub new_entry : NewRecord → List ℕ × RecordRow

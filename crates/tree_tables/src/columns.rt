@@ -129,11 +129,14 @@ pub const MARK_NAME: usize = 2;
 /// Its number, from 1.
 pub const CHOICE_NUMBER: usize = 0;
 
-/// The name of the record that was chosen.
+/// The name of the record that was named.
 pub const CHOICE_NAME: usize = 1;
 
 /// The period that was open then.
 pub const CHOICE_PERIOD: usize = 2;
+
+/// Whether it counts, or none of its work does.
+pub const CHOICE_COUNTS: usize = 3;
 
 // Choices by the names of the records that were chosen.
 
