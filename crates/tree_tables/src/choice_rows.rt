@@ -7,7 +7,7 @@ ghost use Rattle.tree_tables.specs.Stored.{SaysChoice};
 use crate::chosen_numbers::ChosenNumber;
 use crate::column_values::{hash_at, mark_at, number_at, period_at};
 use crate::columns::{CHOICE_COUNTS, CHOICE_NAME, CHOICE_NUMBER, CHOICE_PERIOD};
-use crate::keys::{bytes_key, choice_key};
+use crate::keys::{bytes_key, ruling_key};
 use crate::tables::TreeTables;
 use crate::trees::{CHOICE_NAMES, CHOICES};
 use sqlite_trees::error::StoreError;
@@ -41,7 +41,7 @@ fn choice_row(
     ensures { OnOk result (row.new
         ≡ choice_columns (number, record { name = name.now; counts = counts; period = period })) }
 {
-    choice_key(row, number)?;
+    ruling_key(row, number)?;
     row.push(ValueRef::Blob(name))?;
     row.push(ValueRef::Int(i64::from(period)))?;
     row.push(ValueRef::Int(i64::from(counts)))?;
@@ -120,7 +120,7 @@ impl<S: Store> TreeTables<S> {
     pub fn find_choice(&mut self, number: u32) -> Result<Option<StoredChoice>, StoreError>
         ensures looks { Looks result (state_of self.old) (state_of self.new) (FindsChoice number) }
     {
-        choice_key(&mut self.key, number)?;
+        ruling_key(&mut self.key, number)?;
         if !find_row(&mut self.store, CHOICES, &self.key, &mut self.row)? {
             return Ok(None);
         }
