@@ -10,9 +10,9 @@ use Rattle.book_model.specs.Words.{Book, Event, Naming, book_after, IsMadeByCall
 use Rattle.book_core.specs.Transition.{NoEvent}
 use Rattle.tree_tables.specs.Forms.{this_form}
 use Rattle.book_trees.specs.Closing.{MayBeFound}
-use Rattle.book_trees.specs.FirstForm.{HoldsFirstForm, ListMore}
+use Rattle.book_trees.specs.OldForms.{HoldsOldForm, ListMore}
 use Rattle.book_trees.specs.Forms.{HoldNoNewer}
-use Rattle.book_trees.specs.LedgerFiles.{HoldsBooks, HoldsFile, HoldsFirstBooks, rows_held}
+use Rattle.book_trees.specs.LedgerFiles.{HoldsBooks, HoldsFile, HoldsOldBooks, rows_held}
 use Rattle.book_trees.specs.LedgerFiles.{trees_held}
 use Rattle.book_trees.specs.Schema.{first_schema}
 use Rattle.book_trees.specs.StoreView.{ListsBooks}
@@ -21,26 +21,26 @@ use Rattle.book_sessions.specs.Causes.{IsToldOfThis, WhyNotUpgraded}
 use Rattle.book_sessions.specs.Sessions.{AreAsFound, AreInHand, FilesGoOn, MayFollow}
 use Rattle.book_sessions.specs.declared.ended.Ended.{Ended}
 use Rattle.book_sessions.specs.declared.ended.Ended.TheVariants.{Closed, Refused}
-use Rattle.table_ledger.specs.FirstForm.{IsStoredInFirst, RestsAtFirst}
+use Rattle.table_ledger.specs.OldForms.{IsStoredInOld, RestsAtOld}
 use Rattle.table_ledger.specs.Ready.{IsStoredIn}
 use Rattle.named_books.specs.declared.repository.RepositoryFault.{RepositoryFault}
 use Rattle.named_books.specs.declared.repository.Upgraded.{Upgraded}
 use Rattle.named_books.specs.declared.repository.Upgraded.TheVariants.{Already, To}
 
 -- The files hold this book, which calls made, in the first form.
-abbrev pub HoldsFirstBook : Naming → Book → Image → Type 0
-HoldsFirstBook naming book image =
-    ∥ ((held : HoldsFirstBooks image) × IsStoredInFirst naming book (trees_held held)) ∥₁
+abbrev pub HoldsOldBook : Naming → Book → Image → Type 0
+HoldsOldBook naming book image =
+    ∥ ((held : HoldsOldBooks image) × IsStoredInOld naming book (trees_held held)) ∥₁
 
 -- They hold the book of this history, which calls made, in the first form.
-pub record HoldsFirstHistory (naming : Naming) (history : List Event) (image : Image) : Type 0 where
+pub record HoldsOldHistory (naming : Naming) (history : List Event) (image : Image) : Type 0 where
   pub answered : IsMadeByCalls naming history
-  pub held : HoldsFirstBook naming (book_after history) image
+  pub held : HoldsOldBook naming (book_after history) image
 
 -- Trees list what books of the first form list, and hold a book so.
-abbrev pub IsLeftInFirst : Naming → Book → Trees → Type 0
-IsLeftInFirst naming book trees =
-    (trees catalog_tree ≡ listed_from 0 first_schema) × IsStoredInFirst naming book trees
+abbrev pub IsLeftInOld : Naming → Book → Trees → Type 0
+IsLeftInOld naming book trees =
+    (trees catalog_tree ≡ listed_from 0 first_schema) × IsStoredInOld naming book trees
 
 -- Trees list something else, and hold a book in the present form.
 abbrev pub IsBroughtOver : Naming → Book → Trees → Type 0
@@ -49,25 +49,25 @@ IsBroughtOver naming book trees = ListMore trees × IsStoredIn naming book trees
 -- What the one commit may leave of a store that was at rest: its book, brought over.
 abbrev pub MayBringOver : Naming → View → Trees → Type 0
 MayBringOver naming old trees =
-    (book : Book) → RestsAtFirst naming book old → IsBroughtOver naming book trees
+    (book : Book) → RestsAtOld naming book old → IsBroughtOver naming book trees
 
 -- a store that was at rest is so again, and shows its book, brought over
 abbrev pub RestsBroughtOver : Naming → View → View → Type 0
 RestsBroughtOver naming old new =
-    (book : Book) → RestsAtFirst naming book old → ListMore new.trees × RestsAt naming book new
+    (book : Book) → RestsAtOld naming book old → ListMore new.trees × RestsAt naming book new
 
 -- Trees that held a book in the first form hold it in this one; or, where it was not brought over,
 -- in one of the two.
 abbrev pub LeavesUpgraded : {A F : Type 0} → Naming → Book → Result A F → Trees → Type 0
 LeavesUpgraded naming book (Ok done) trees = IsBroughtOver naming book trees
 LeavesUpgraded naming book (Err fault) trees =
-    IsLeftInFirst naming book trees ⊎ IsBroughtOver naming book trees
+    IsLeftInOld naming book trees ⊎ IsBroughtOver naming book trees
 
 -- so do files
 abbrev pub HoldsUpgraded : {A F : Type 0} → Naming → Book → Result A F → Image → Type 0
 HoldsUpgraded naming book (Ok done) image = HoldsBook naming book image
 HoldsUpgraded naming book (Err fault) image =
-    ∥ (HoldsFirstBook naming book image ⊎ HoldsBook naming book image) ∥₁
+    ∥ (HoldsOldBook naming book image ⊎ HoldsBook naming book image) ∥₁
 
 -- what is answered where books were brought over, or were not
 abbrev pub upgrade_answer : Result (Unit {0}) RepositoryFault → Result Upgraded RepositoryFault
@@ -83,7 +83,7 @@ TellsThisForm Already = ⊤
 -- first one, and did not say that they are of a newer form.
 abbrev pub HoldsWhatIsTold : Image → Upgraded → Type 0
 HoldsWhatIsTold found Already = ∥ ListsBooks found ∥₁
-HoldsWhatIsTold found (To form) = ∥ HoldsFirstBooks found ∥₁ × HoldNoNewer first_schema found
+HoldsWhatIsTold found (To form) = ∥ HoldsOldBooks found ∥₁ × HoldNoNewer first_schema found
 
 -- What may be found of files that held the books of a history in the first form, by what was
 -- answered: the same books in this form; or, where they were not brought over, the old books or the
@@ -92,7 +92,7 @@ abbrev pub BringsOver : Naming → List Event → Result Upgraded RepositoryFaul
 BringsOver naming history (Ok (To form)) image = HoldsHistory naming history image
 BringsOver naming history (Ok Already) image = ⊥
 BringsOver naming history (Err fault) image =
-    ∥ (HoldsFirstHistory naming history image ⊎ HoldsHistory naming history image) ∥₁
+    ∥ (HoldsOldHistory naming history image ⊎ HoldsHistory naming history image) ∥₁
 
 -- Whatever the next session may find of files that held the books of a history in the first form:
 -- books of this history, in this form; or, where they were not brought over, in one of the two.
@@ -100,7 +100,7 @@ abbrev pub FilesBroughtOver : {D : Type 0} (g : Ghosts D) → Image → Result U
     → Ended D → Type 0
 FilesBroughtOver g found told ended =
     (image : Image) → MayFollow g ended image → (history : List Event)
-    → HoldsFirstHistory file_names history found → BringsOver file_names history told image
+    → HoldsOldHistory file_names history found → BringsOver file_names history told image
 
 -- Files that were closed are a sound file of some tables, whether or not they are seen to be those
 -- of books: whatever may be found of it has the rows of the book that they held in the first form,
@@ -109,7 +109,7 @@ abbrev pub RowsBroughtOver : {D : Type 0} (g : Ghosts D) → Image → Result Up
     → Ended D → Type 0
 RowsBroughtOver g found told (Closed closed) =
     (image : Image) → MayBeFound g closed.files image
-    → (book : Book) → HoldsFirstBook file_names book found
+    → (book : Book) → HoldsOldBook file_names book found
     → ∥ ((file : HoldsFile image) × LeavesUpgraded file_names book told (rows_held file)) ∥₁
 RowsBroughtOver g found told (Refused files) = ⊤
 
@@ -119,7 +119,7 @@ pub record AreUpgraded {D : Type 0} (g : Ghosts D) (found : Image)
   -- Whatever may be found of them next holds the books of the history that they held, in one of the
   -- two forms; and so do their rows, also where no memory was left to see that they are those of
   -- books.
-  pub history : HoldsFirstForm found → FilesBroughtOver g found result ended
+  pub history : HoldsOldForm found → FilesBroughtOver g found result ended
   pub rows : RowsBroughtOver g found result ended
   -- Files that are not opened are left as they were, whatever they hold. Books of this form are
   -- left as they are, whatever is answered, and are told to be of it, or of a newer one.

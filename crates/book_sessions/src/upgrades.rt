@@ -8,23 +8,23 @@ ghost use Rattle.sqlite_wal.specs.Recovery.{Image};
 ghost use Rattle.book_model.specs.Words.{Book};
 ghost use Rattle.book_restarts.specs.FileBooks.{file_names};
 ghost use Rattle.book_sessions.specs.Causes.{HasFaultCause};
-ghost use Rattle.book_sessions.specs.Faults.{first_answer};
-ghost use Rattle.book_sessions.specs.Openings.{IsCarriedBy, IsFirstOpening};
+ghost use Rattle.book_sessions.specs.Faults.{old_answer};
+ghost use Rattle.book_sessions.specs.Openings.{IsCarriedBy, IsOldOpening};
 ghost use Rattle.book_sessions.specs.Sessions.{TriesToMoveLog};
 ghost use Rattle.book_sessions.specs.Stops.{CloseLeaves, CloseLeavesRows, CloseTriesToMoveLog};
 ghost use Rattle.book_sessions.specs.Stops.{StopLeaves};
 ghost use Rattle.book_sessions.specs.Upgrades.{AreUpgraded, HoldsUpgraded, LeavesUpgraded};
 ghost use Rattle.book_sessions.specs.Upgrades.{MayBringOver, RestsBroughtOver, TellsThisForm};
 ghost use Rattle.book_sessions.specs.Upgrades.{upgrade_answer};
-ghost use Rattle.book_trees.specs.FirstForm.{HasFirstTrees};
-ghost use Rattle.table_ledger.specs.FirstForm.{StandsAtFirst};
+ghost use Rattle.book_trees.specs.OldForms.{HasOldTrees};
+ghost use Rattle.table_ledger.specs.OldForms.{StandsAtOld};
 ghost use Rattle.tree_tables.specs.Holds.{has_book};
 ghost use Rattle.tree_tables.specs.States.{Survives, state};
 
 use crate::ended::Ended;
 use crate::faults::{fault_of, refused};
 use book_core::LedgerFault;
-use book_trees::{Closed, FirstFault, add_details, close_books, close_first, commit_form};
+use book_trees::{Closed, OldFault, add_details, close_books, close_old, commit_form};
 use named_books::{RepositoryFault, Upgraded};
 use sqlite_disk::{Disk, Files};
 use sqlite_store::FileStore;
@@ -37,7 +37,7 @@ use tree_tables::THIS_FORM;
 /// Adds the details to books of the first form, and commits them with what their file says of its
 /// form: all of it at once, or nothing.
 fn write_details<S: Alter>(alloc: Global, store: &mut S) -> Result<(), StoreError>
-    requires { IsClean (S.Store.view store.old) → HasFirstTrees (S.Store.view store.old) }
+    requires { IsClean (S.Store.view store.old) → HasOldTrees (S.Store.view store.old) }
     ensures survives { Survives (state S.Store store.old) (state S.Store store.new)
         (MayBringOver file_names (S.Store.view store.old)) }
     ensures done { OnOk result (IsClean (S.Store.view store.new)
@@ -51,8 +51,8 @@ fn write_details<S: Alter>(alloc: Global, store: &mut S) -> Result<(), StoreErro
 /// Brings the books of the first form in a store to this one. The store is given back: whatever a
 /// stop may leave of it holds the same book, in the old form or in the new one.
 fn upgrade_in<S: Alter>(alloc: Global, store: S) -> (Result<(), RepositoryFault>, S)
-    requires { IsClean (S.Store.view store) → HasFirstTrees (S.Store.view store) }
-    ensures left { (book : Book) → StandsAtFirst file_names book (S.Store.view store)
+    requires { IsClean (S.Store.view store) → HasOldTrees (S.Store.view store) }
+    ensures left { (book : Book) → StandsAtOld file_names book (S.Store.view store)
         → StopLeaves (state S.Store result.1) (LeavesUpgraded file_names book result.0) }
     ensures clean { IsClean (S.Store.view result.1) → IsClean (S.Store.view store) }
     ensures refused { IfErr result.0 (λ fault. IsClean (S.Store.view result.1)
@@ -79,10 +79,10 @@ fn upgrade_and_close<D: Disk>(
     alloc: Global,
     store: FileStore<D>,
 ) -> (Result<(), RepositoryFault>, Closed<D>)
-    requires { IsClean (view store) → HasFirstTrees (view store) }
-    ensures left { (book : Book) → StandsAtFirst file_names book (view store)
+    requires { IsClean (view store) → HasOldTrees (view store) }
+    ensures left { (book : Book) → StandsAtOld file_names book (view store)
         → CloseLeaves D.Disk result.1 (HoldsUpgraded file_names book result.0) }
-    ensures rows { (book : Book) → StandsAtFirst file_names book (view store)
+    ensures rows { (book : Book) → StandsAtOld file_names book (view store)
         → CloseLeavesRows D.Disk result.1 (LeavesUpgraded file_names book result.0) }
     ensures moves { CloseTriesToMoveLog result.1 }
     ensures clean { AreClean D.Disk result.1.files.log result.1.files.db → IsClean (view store) }
@@ -93,7 +93,7 @@ fn upgrade_and_close<D: Disk>(
     let (upgraded, store) = upgrade_in(alloc, store);
     match upgraded {
         Ok(()) => (upgraded, close_books(store)),
-        Err(_) => (upgraded, close_first(store)),
+        Err(_) => (upgraded, close_old(store)),
     }
 }
 
@@ -108,13 +108,13 @@ fn told_upgraded(upgraded: Result<(), RepositoryFault>) -> Result<Upgraded, Repo
 }
 
 /// What it means that books of the first form were not opened.
-fn not_upgraded(fault: FirstFault) -> Result<Upgraded, RepositoryFault>
-    ensures { result ≡ first_answer fault }
+fn not_upgraded(fault: OldFault) -> Result<Upgraded, RepositoryFault>
+    ensures { result ≡ old_answer fault }
 {
     match fault {
-        FirstFault::Already => Ok(Upgraded::Already),
-        FirstFault::Pages => Err(RepositoryFault::Ledger(LedgerFault::Store)),
-        FirstFault::Open(fault) => Err(refused(fault)),
+        OldFault::Already => Ok(Upgraded::Already),
+        OldFault::Pages => Err(RepositoryFault::Ledger(LedgerFault::Store)),
+        OldFault::Open(fault) => Err(refused(fault)),
     }
 }
 
@@ -123,10 +123,10 @@ fn not_upgraded(fault: FirstFault) -> Result<Upgraded, RepositoryFault>
 /// the books of the history that they held: those of the old form, or those of the new one.
 pub fn upgrade<D: Disk>(
     alloc: Global,
-    opened: Result<FileStore<D>, (FirstFault, Option<Files<D>>)>,
+    opened: Result<FileStore<D>, (OldFault, Option<Files<D>>)>,
 ) -> (Result<Upgraded, RepositoryFault>, Ended<D>)
-    requires { IfOk opened (λ store. IsClean (view store) → HasFirstTrees (view store)) }
-    ensures upgraded { (found : Image) → IsFirstOpening D.Disk found opened
+    requires { IfOk opened (λ store. IsClean (view store) → HasOldTrees (view store)) }
+    ensures upgraded { (found : Image) → IsOldOpening D.Disk found opened
         → AreUpgraded D.Disk found result.0 result.1 }
     ensures carried { IsCarriedBy D.Disk opened result.1 }
     ensures moves { TriesToMoveLog result.1 }

@@ -152,8 +152,8 @@ details_listed rows books =
     (list_all (may_be_listed (first_schema ++ detail_table ∷ [])) rows) books).0
 
 -- a sound file of the first form does not list books
-pub first_is_not_this : (pages : PageMap) → IsFile page_size first_schema pages
+pub old_is_not_this : (pages : PageMap) → IsFile page_size first_schema pages
     → lists_books (rows_at page_size (in_use page_size pages) Table 1) ≡ true → ⊥
-first_is_not_this pages file books =
+old_is_not_this pages file books =
     let rows = rows_at page_size (in_use page_size pages) Table 1 in
     none_stand rows (rows_stand page_size first_schema pages file) (details_listed rows books)

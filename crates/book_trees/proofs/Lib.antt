@@ -10,7 +10,7 @@ pub mod FormLemmas
 pub mod Refused
 pub mod FileParts
 pub mod ToldLemmas
-pub mod FirstTrees
+pub mod OldTrees
 pub mod BlankFiles
 pub mod Opened
 pub mod Buildable

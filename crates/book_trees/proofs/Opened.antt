@@ -22,10 +22,10 @@ use Rattle.sqlite_trees.specs.declared.store.Shape.TheVariants.{Table}
 use Rattle.sqlite_value.specs.Order.{Row}
 use Rattle.sqlite_wal.specs.State.{State}
 use Rattle.book_trees.proofs.BlankFiles.{blank_unsound}
-use Rattle.book_trees.proofs.FormLemmas.{first_is_not_this}
+use Rattle.book_trees.proofs.FormLemmas.{old_is_not_this}
 use Rattle.book_trees.proofs.ListingLemmas.{books_listed, first_listed}
 use Rattle.book_trees.proofs.Trees.{has_trees}
-use Rattle.book_trees.specs.LedgerFiles.{page_size, HoldsBooks, HoldsFirstBooks, HoldsNothing}
+use Rattle.book_trees.specs.LedgerFiles.{page_size, HoldsBooks, HoldsOldBooks, HoldsNothing}
 use Rattle.book_trees.specs.LedgerFiles.{HoldsTables, trees_held}
 use Rattle.book_trees.specs.Listing.{lists_books, lists_first_books}
 use Rattle.book_trees.specs.Schema.{books_schema, first_schema}
@@ -79,16 +79,16 @@ module _ {D : Type 0} {g : Ghosts D} (old mid : Unopened D g) (rows : List Row)
   unlisted_none unlisted held = true≢false (sym (held_listed held) ∙ unlisted)
 
   -- files that hold books of the first form list those
-  pub held_first_listed : HoldsFirstBooks (image old) → lists_first_books rows ≡ true
-  held_first_listed held =
+  pub held_old_listed : HoldsOldBooks (image old) → lists_first_books rows ≡ true
+  held_old_listed held =
       ap lists_first_books (rows_are
       ∙ ap (λ (p : PageMap). rows_at page_size (in_use page_size p) Table 1)
       (same_pages held.pages held.found)) ∙ first_listed held.pages held.file
 
   -- and no others
-  pub held_first_only : HoldsFirstBooks (image old) → lists_books rows ≡ true → ⊥
-  held_first_only held books =
-      first_is_not_this held.pages held.file (sym (ap lists_books (rows_are
+  pub held_old_only : HoldsOldBooks (image old) → lists_books rows ≡ true → ⊥
+  held_old_only held books =
+      old_is_not_this held.pages held.file (sym (ap lists_books (rows_are
       ∙ ap (λ (p : PageMap). rows_at page_size (in_use page_size p) Table 1)
       (same_pages held.pages held.found))) ∙ books)
 
@@ -107,7 +107,7 @@ module _ {D : Type 0} {g : Ghosts D} (old mid : Unopened D g) (rows : List Row)
 
   -- files that a ledger left and that list books are those of books,
   holds_books : lists_books rows ≡ true → (state_of mid).page_size ≡ page_size
-      → HoldsNothing (image old) ⊎ (HoldsBooks (image old) ⊎ HoldsFirstBooks (image old))
+      → HoldsNothing (image old) ⊎ (HoldsBooks (image old) ⊎ HoldsOldBooks (image old))
       → HoldsBooks (image old)
   holds_books books size (inl (inl blank)) = absurd (never_blank size blank)
   holds_books books size (inl (inr none)) =
@@ -115,7 +115,7 @@ module _ {D : Type 0} {g : Ghosts D} (old mid : Unopened D g) (rows : List Row)
       ∙ ap (λ (p : PageMap). rows_at page_size (in_use page_size p) Table 1)
       (same_pages none.pages none.found) ∙ none.empty.1))
   holds_books books size (inr (inl held)) = held
-  holds_books books size (inr (inr first)) = absurd (held_first_only first books)
+  holds_books books size (inr (inr first)) = absurd (held_old_only first books)
 
   -- which an open may be asked for
   pub held_file : {wanted : List Wanted} → HoldsTables wanted (image old)

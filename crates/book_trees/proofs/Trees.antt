@@ -11,7 +11,7 @@ use Rattle.sqlite_store.specs.declared.store.FileStore.{FileStore}
 use Rattle.sqlite_trees.specs.Objects.{catalog_tree}
 use Rattle.sqlite_trees.specs.declared.store.Shape.TheVariants.{Absent, Index}
 use Rattle.sqlite_value.specs.Keys.{plain}
-use Rattle.book_trees.specs.FirstForm.{HasFirstTrees}
+use Rattle.book_trees.specs.OldForms.{HasOldTrees}
 use Rattle.book_trees.specs.Schema.{books_schema, first_schema}
 use Rattle.tree_tables.specs.Holds.{HasShapes}
 
@@ -65,10 +65,10 @@ first_tree (suc (suc (suc (suc (suc (suc (suc (suc (suc zero))))))))) small = is
 first_tree (suc (suc (suc (suc (suc (suc (suc (suc (suc (suc tree)))))))))) small =
     absurd (omega arith)
 
-pub first_indexes : (tree : ℕ) → tree < length first_schema
+pub old_indexes : (tree : ℕ) → tree < length first_schema
     → shape_at first_schema tree ≡ Index plain
 unfolding first_schema
-first_indexes tree below = (first_tree tree below).wanted
+old_indexes tree below = (first_tree tree below).wanted
 
 -- a store of the schema that was not changed in its transaction has them
 pub has_trees : {D : Type 0} {g : Ghosts D} (store : FileStore D g)
@@ -99,11 +99,11 @@ unfolding all_shapes first_schema
 first_only = refl
 
 -- a store of that schema that was not changed in its transaction shows them
-pub has_first_trees : {D : Type 0} {g : Ghosts D} (store : FileStore D g)
+pub has_old_trees : {D : Type 0} {g : Ghosts D} (store : FileStore D g)
     → schema_of store ≡ first_schema → store.saved ≡ None → IsTrue (view store).is_numbered
-    → IsTrue (view store).is_clean → HasFirstTrees (view store)
+    → IsTrue (view store).is_clean → HasOldTrees (view store)
 unfolding all_trees
-has_first_trees store schema unaltered numbered clean =
+has_old_trees store schema unaltered numbered clean =
     let kept : kept_schema store.saved (schema_of store) ≡ schema_of store =
     ap (λ saved. kept_schema saved (schema_of store)) unaltered in
     let rows : (view store).trees catalog_tree ≡ listed_from 0 (schema_of store) =

@@ -32,8 +32,8 @@ pub record HoldsTables (schema : List Wanted) (image : Image) : Type 0 where
 abbrev pub HoldsBooks : Image → Type 0
 HoldsBooks = HoldsTables books_schema
 
-abbrev pub HoldsFirstBooks : Image → Type 0
-HoldsFirstBooks = HoldsTables first_schema
+abbrev pub HoldsOldBooks : Image → Type 0
+HoldsOldBooks = HoldsTables first_schema
 
 -- the tables that it holds
 abbrev pub trees_held : {schema : List Wanted} {image : Image} → HoldsTables schema image → Trees

@@ -12,4 +12,4 @@ pub mod Refusals
 pub mod Looks
 pub mod Closing
 pub mod Copies
-pub mod FirstForm
+pub mod OldForms

@@ -11,7 +11,7 @@ ghost use Rattle.sqlite_wal.specs.Reads.{AreClean, IsClean as IsCleanFile};
 ghost use Rattle.sqlite_wal.specs.Recovery.{Image};
 ghost use Rattle.book_trees.specs.Closing.{HasSchema, LeavesLog, LeavesRows, MayBeFound};
 ghost use Rattle.book_trees.specs.LedgerFiles.{page_size, shortest_log, HoldsAlone, HoldsBooks};
-ghost use Rattle.book_trees.specs.LedgerFiles.{HoldsFirstBooks, HoldsTables, trees_held};
+ghost use Rattle.book_trees.specs.LedgerFiles.{HoldsOldBooks, HoldsTables, trees_held};
 ghost use Rattle.book_trees.specs.Schema.{books_schema};
 
 use crate::schema::{books_objects, first_objects};
@@ -93,11 +93,11 @@ pub fn close_books<D: Disk>(store: FileStore<D>) -> Closed<D>
 }
 
 /// The same of books of the first form.
-pub fn close_first<D: Disk>(store: FileStore<D>) -> Closed<D>
+pub fn close_old<D: Disk>(store: FileStore<D>) -> Closed<D>
     ensures honest { AreClean D.Disk result.files.log result.files.db
         → IsTrue (state store).is_clean }
     ensures left { IsTrue result.is_kept → (image : Image) → MayBeFound D.Disk result.files image
-        → ∥ ((held : HoldsFirstBooks image) × recovers store (trees_held held)) ∥₁ }
+        → ∥ ((held : HoldsOldBooks image) × recovers store (trees_held held)) ∥₁ }
     ensures rows { LeavesRows D.Disk store result.files }
     ensures log { LeavesLog D.Disk store result.files result.log }
 {

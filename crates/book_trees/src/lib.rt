@@ -6,7 +6,7 @@ mod catalog;
 mod closing;
 mod copying;
 mod faults;
-mod first_form;
+mod old_forms;
 mod forms;
 mod integrity;
 mod ledger_files;
@@ -17,12 +17,12 @@ mod unopened;
 mod unused_logs;
 
 pub use closing::{
-    Closed, LogLeft, checkpoint_log, close_books, close_first, close_unchanged, is_short,
+    Closed, LogLeft, checkpoint_log, close_books, close_old, close_unchanged, is_short,
     keeps_books, needs_no_log,
 };
 pub use copying::{copy_files, copy_to, lock_at};
 pub use faults::OpenFault;
-pub use first_form::{FirstFault, add_details, open_first_at, open_first_files};
+pub use old_forms::{OldFault, add_details, open_old_at, open_old_files};
 pub use forms::commit_form;
 pub use integrity::{LookFault, look_through, look_through_at};
 pub use ledger_files::LeftByLedger;

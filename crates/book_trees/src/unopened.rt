@@ -62,7 +62,7 @@ pub(crate) fn unopened<D: Disk>(
 }
 
 /// The two with the schema of books of the first form.
-pub(crate) fn unopened_first<D: Disk>(
+pub(crate) fn unopened_old<D: Disk>(
     alloc: Global,
     files: Files<D>,
     options: Options,

@@ -18,7 +18,7 @@ use Rattle.sqlite_value.specs.Order.{Row, column}
 use Rattle.sqlite_value.specs.declared.value.Value.{Value}
 use Rattle.sqlite_value.specs.declared.value.Value.TheVariants.{Blob, Int, Null, Real, Text}
 use Rattle.book_trees.proofs.Trees.{first_only}
-use Rattle.book_trees.specs.FirstForm.{HasFirstTrees, ListMore}
+use Rattle.book_trees.specs.OldForms.{HasOldTrees, ListMore}
 use Rattle.book_trees.specs.Schema.{detail_table, first_schema}
 
 -- whether a value is the name of details
@@ -85,7 +85,7 @@ module _ (object : Object) (is : wanted_of object ≡ detail_table) where
   name_is = ap (λ (wanted : Wanted). column wanted.row 1) is
 
   -- so there is room for it
-  pub room_for_details : (view : View) → HasFirstTrees view → IsFreeFor view 10 object
+  pub room_for_details : (view : View) → HasOldTrees view → IsFreeFor view 10 object
   room_for_details view trees = record {
     numbered = trees.numbered;
     low = omega arith;

@@ -8,12 +8,12 @@ ghost use Rattle.sqlite_trees.specs.View.{IsClean};
 ghost use Rattle.sqlite_wal.specs.Files.{image_at};
 ghost use Rattle.sqlite_wal.specs.Reads.{AreClean};
 ghost use Rattle.sqlite_wal.specs.Recovery.{Image};
-ghost use Rattle.book_trees.specs.FirstForm.{first_fault_for, first_opening, AddsDetails};
-ghost use Rattle.book_trees.specs.FirstForm.{HasFirstTrees, HoldsFirstForm, IsOpenFirst};
-ghost use Rattle.book_trees.specs.FirstForm.{IsToldFirst, IsToldThis, IsUnopenedFirst};
+ghost use Rattle.book_trees.specs.OldForms.{old_fault_for, old_opening, AddsDetails};
+ghost use Rattle.book_trees.specs.OldForms.{HasOldTrees, HoldsOldForm, IsOpenOld};
+ghost use Rattle.book_trees.specs.OldForms.{IsToldOld, IsToldThis, IsUnopenedOld};
 ghost use Rattle.book_trees.specs.Forms.{HoldNoNewer};
 ghost use Rattle.tree_rows.specs.Calls.{CommitsNothing, LeavesCommitted};
-ghost use Rattle.book_trees.specs.LedgerFiles.{image_of, page_size, HoldsBooks, HoldsFirstBooks};
+ghost use Rattle.book_trees.specs.LedgerFiles.{image_of, page_size, HoldsBooks, HoldsOldBooks};
 ghost use Rattle.book_trees.specs.LedgerFiles.{trees_held};
 ghost use Rattle.book_trees.specs.Refusals.{AreKept, IsAsFound, IsRefusedWithout, IsToldWithout};
 ghost use Rattle.book_trees.specs.Refusals.{MayLeave};
@@ -24,7 +24,7 @@ use crate::catalog::{lists_books, lists_first_books, unlisted_fault};
 use crate::faults::{OpenFault, fault_at, fault_of};
 use crate::forms::{says_newer, told, told_newer};
 use crate::schema::detail_object;
-use crate::unopened::unopened_first;
+use crate::unopened::unopened_old;
 use sqlite_disk::{Disk, Files, Start};
 use sqlite_pager::Options;
 use sqlite_std_file::{FileFrom, open};
@@ -35,7 +35,7 @@ use std::alloc::Global;
 
 /// Why books of the first form were not opened.
 #[derive(Clone, Copy, Drop)]
-pub enum FirstFault {
+pub enum OldFault {
     /// They are of this form already.
     Already,
     /// They list the tables of the first form, but their pages are not those of such a file, or
@@ -46,41 +46,41 @@ pub enum FirstFault {
 }
 
 /// What an error of the store stands for, while the pages are looked through.
-fn first_fault(error: OpenError) -> FirstFault
-    ensures { result ≡ first_fault_for error }
+fn old_fault(error: OpenError) -> OldFault
+    ensures { result ≡ old_fault_for error }
 {
     match error {
-        OpenError::Refused => FirstFault::Pages,
-        OpenError::OutOfMemory => FirstFault::Open(OpenFault::Memory),
-        OpenError::Io | OpenError::Full => FirstFault::Open(OpenFault::Store),
+        OpenError::Refused => OldFault::Pages,
+        OpenError::OutOfMemory => OldFault::Open(OpenFault::Memory),
+        OpenError::Io | OpenError::Full => OldFault::Open(OpenFault::Store),
     }
 }
 
 /// Opens books of the first form, and looks through all of their pages: only of such a file is it
 /// known that a tree may be added. Whether files that are told to be of a newer form are so, they
 /// have to say.
-fn open_first<D: Disk>(files: Unopened<D>) -> Result<FileStore<D>, (FirstFault, Unopened<D>)>
+fn open_old<D: Disk>(files: Unopened<D>) -> Result<FileStore<D>, (OldFault, Unopened<D>)>
     requires usable { AreUsable files }
     requires schema { wanted_by files ≡ first_schema }
     requires size { (state_of files).page_size ≡ page_size }
-    ensures opened { IfOk result IsOpenFirst }
+    ensures opened { IfOk result IsOpenOld }
     ensures honest { IfOk result (λ store. IsTrue (state store).is_clean
         → IsTrue (state_of files).is_clean) }
     ensures found { IfOk result (λ store. IsTrue (state store).is_clean
-        → (held : HoldsFirstBooks (image files)) → (view store).trees ≡ trees_held held) }
+        → (held : HoldsOldBooks (image files)) → (view store).trees ≡ trees_held held) }
     ensures older { IfOk result (λ store. IsTrue (state store).is_clean
         → ¬ HoldsBooks (image files)) }
     ensures held { IfOk result (λ store. IsTrue (state store).is_clean
-        → ∥ HoldsFirstBooks (image files) ∥₁) }
+        → ∥ HoldsOldBooks (image files) ∥₁) }
     ensures kept { IfOk result (λ store. IsTrue (state store).is_clean → Opens files (state store)) }
     ensures there { IfErr result (λ refusal. IsTrue (state_of refusal.1).is_clean
-        → IsToldWithout (HoldsFirstForm (image files)) (first_opening refusal.0)) }
+        → IsToldWithout (HoldsOldForm (image files)) (old_opening refusal.0)) }
 
     // Books of this form are told to be so, or nothing is told of them.
-    ensures this { IfErr result (λ refusal. refusal.0 ≢ FirstFault.Already
+    ensures this { IfErr result (λ refusal. refusal.0 ≢ OldFault.Already
         → IsTrue (state_of refusal.1).is_clean
-        → IsToldWithout (HoldsBooks (image files)) (first_opening refusal.0)) }
-    ensures listed { IfErr result (λ refusal. refusal.0 ≡ FirstFault.Already
+        → IsToldWithout (HoldsBooks (image files)) (old_opening refusal.0)) }
+    ensures listed { IfErr result (λ refusal. refusal.0 ≡ OldFault.Already
         → IsTrue (state_of refusal.1).is_clean → ListsBooks (image files)) }
     ensures unharmed { IfErr result (λ refusal. IsTrue (state_of refusal.1).is_clean
         → Opens files (state_of refusal.1)) }
@@ -88,128 +88,128 @@ fn open_first<D: Disk>(files: Unopened<D>) -> Result<FileStore<D>, (FirstFault, 
     let mut files = files;
     let listed = match files.read_catalog() {
         Ok(listed) => listed,
-        Err(error) => return Err((FirstFault::Open(fault_of(error)), files)),
+        Err(error) => return Err((OldFault::Open(fault_of(error)), files)),
     };
     if lists_books(listed.as_slice()) {
-        return Err((FirstFault::Already, files));
+        return Err((OldFault::Already, files));
     }
     if !lists_first_books(listed.as_slice()) {
-        return Err((FirstFault::Open(unlisted_fault(listed.as_slice())), files));
+        return Err((OldFault::Open(unlisted_fault(listed.as_slice())), files));
     }
     match files.open_numbered() {
         Ok(store) => Ok(store),
-        Err((error, files)) => Err((first_fault(error), files)),
+        Err((error, files)) => Err((old_fault(error), files)),
     }
 }
 
 /// Opens two files as books of the first form, or gives them back.
-pub fn open_first_files<D: Disk>(
+pub fn open_old_files<D: Disk>(
     alloc: Global,
     files: Files<D>,
     options: Options,
-) -> Result<FileStore<D>, (FirstFault, Files<D>)>
+) -> Result<FileStore<D>, (OldFault, Files<D>)>
     requires log { IsTrue (D.Disk.is_usable files.log) }
     requires db { IsTrue (D.Disk.is_usable files.db) }
-    ensures opened { IfOk result IsOpenFirst }
+    ensures opened { IfOk result IsOpenOld }
     ensures honest { IfOk result (λ store. IsTrue (state store).is_clean
         → AreClean D.Disk files.log files.db) }
     ensures found { IfOk result (λ store. IsTrue (state store).is_clean
-        → (held : HoldsFirstBooks (image_of D.Disk files)) → (view store).trees ≡ trees_held held) }
+        → (held : HoldsOldBooks (image_of D.Disk files)) → (view store).trees ≡ trees_held held) }
     ensures older { IfOk result (λ store. IsTrue (state store).is_clean
         → ¬ HoldsBooks (image_of D.Disk files)) }
     ensures held { IfOk result (λ store. IsTrue (state store).is_clean
-        → ∥ HoldsFirstBooks (image_of D.Disk files) ∥₁) }
+        → ∥ HoldsOldBooks (image_of D.Disk files) ∥₁) }
     ensures form { IfOk result (λ store. IsTrue (state store).is_clean
         → HoldNoNewer first_schema (image_of D.Disk files)) }
 
     // Of files of the first form nothing else is told.
     ensures there { IfErr result (λ refusal. IsRefusedWithout D.Disk
-        (HoldsFirstForm (image_of D.Disk files)) (first_opening refusal.0) refusal.1) }
+        (HoldsOldForm (image_of D.Disk files)) (old_opening refusal.0) refusal.1) }
 
     // So it is with books of this form, but that they are told to be of it, or of a newer one.
     ensures this { IfErr result (λ refusal. (¬ IsToldThis refusal.0)
-        → IsRefusedWithout D.Disk (HoldsBooks (image_of D.Disk files)) (first_opening refusal.0)
+        → IsRefusedWithout D.Disk (HoldsBooks (image_of D.Disk files)) (old_opening refusal.0)
         refusal.1) }
 
     // Files are told to be of this form already only where they list the tables of books.
-    ensures listed { IfErr result (λ refusal. refusal.0 ≡ FirstFault.Already
+    ensures listed { IfErr result (λ refusal. refusal.0 ≡ OldFault.Already
         → AreClean D.Disk refusal.1.log refusal.1.db → ListsBooks (image_of D.Disk files)) }
     ensures unharmed { IfErr result (λ refusal. AreClean D.Disk refusal.1.log refusal.1.db
         → AreKept D.Disk files refusal.1) }
 {
-    let files = match unopened_first(alloc, files, options) {
+    let files = match unopened_old(alloc, files, options) {
         Ok(files) => files,
-        Err(files) => return Err((FirstFault::Open(OpenFault::Memory), files)),
+        Err(files) => return Err((OldFault::Open(OpenFault::Memory), files)),
     };
-    let store = match open_first(files) {
+    let store = match open_old(files) {
         Ok(store) => store,
-        Err((fault, files)) => return Err(told_first(fault, files.close())),
+        Err((fault, files)) => return Err(told_old(fault, files.close())),
     };
     if says_newer(&store) {
-        return Err((FirstFault::Open(OpenFault::NewForm), store.close()));
+        return Err((OldFault::Open(OpenFault::NewForm), store.close()));
     }
     Ok(store)
 }
 
 /// Why files were not opened, as they say themselves.
-fn told_first<D: Disk>(fault: FirstFault, files: Files<D>) -> (FirstFault, Files<D>)
-    ensures told { IsToldFirst fault files result.0 result.1 }
+fn told_old<D: Disk>(fault: OldFault, files: Files<D>) -> (OldFault, Files<D>)
+    ensures told { IsToldOld fault files result.0 result.1 }
     ensures clean { AreClean D.Disk result.1.log result.1.db → AreClean D.Disk files.log files.db }
     ensures crash { (left : Image) → MayLeave D.Disk result.1 left → MayLeave D.Disk files left }
 {
     match fault {
-        FirstFault::Already => told_already(files),
-        FirstFault::Pages => (FirstFault::Pages, files),
-        FirstFault::Open(fault) => {
+        OldFault::Already => told_already(files),
+        OldFault::Pages => (OldFault::Pages, files),
+        OldFault::Open(fault) => {
             let (fault, files) = told(fault, files);
-            (FirstFault::Open(fault), files)
+            (OldFault::Open(fault), files)
         }
     }
 }
 
 /// Whether files that list the tables of this form are of it already, or of a newer one.
-fn told_already<D: Disk>(files: Files<D>) -> (FirstFault, Files<D>)
+fn told_already<D: Disk>(files: Files<D>) -> (OldFault, Files<D>)
     ensures other { IsToldThis result.0 }
     ensures clean { AreClean D.Disk result.1.log result.1.db → AreClean D.Disk files.log files.db }
     ensures crash { (left : Image) → MayLeave D.Disk result.1 left → MayLeave D.Disk files left }
 {
     match told_newer(OpenFault::NotBooks, files) {
-        (OpenFault::NewForm, files) => (FirstFault::Open(OpenFault::NewForm), files),
-        (_, files) => (FirstFault::Already, files),
+        (OpenFault::NewForm, files) => (OldFault::Open(OpenFault::NewForm), files),
+        (_, files) => (OldFault::Already, files),
     }
 }
 
 /// The same for the file at a path, where `S` stands for what the files hold: whatever that is.
-pub fn open_first_at<S: Start>(
+pub fn open_old_at<S: Start>(
     rt: &HostRuntime,
     path: &str,
     seed: u64,
     start: S,
-) -> Result<FileStore<FileFrom<S>>, (FirstFault, Option<Files<FileFrom<S>>>)>
+) -> Result<FileStore<FileFrom<S>>, (OldFault, Option<Files<FileFrom<S>>>)>
     ensures ready { IfOk result IsReady }
     ensures schema { IfOk result (λ store. schema_of store ≡ first_schema) }
-    ensures trees { IfOk result (λ store. IsClean (view store) → HasFirstTrees (view store)) }
+    ensures trees { IfOk result (λ store. IsClean (view store) → HasOldTrees (view store)) }
     ensures size { IfOk result (λ store. IsTrue (state store).is_clean
         → (state store).page_size ≡ page_size) }
     ensures found { IfOk result (λ store. IsTrue (state store).is_clean
-        → (held : HoldsFirstBooks (image_at S.Start)) → (view store).trees ≡ trees_held held) }
+        → (held : HoldsOldBooks (image_at S.Start)) → (view store).trees ≡ trees_held held) }
 
     // Files that are opened hold no books of this form, nor say that they are of a newer one.
     ensures older { IfOk result (λ store. IsTrue (state store).is_clean
         → ¬ HoldsBooks (image_at S.Start)) }
     ensures held { IfOk result (λ store. IsTrue (state store).is_clean
-        → ∥ HoldsFirstBooks (image_at S.Start) ∥₁) }
+        → ∥ HoldsOldBooks (image_at S.Start) ∥₁) }
     ensures form { IfOk result (λ store. IsTrue (state store).is_clean
         → HoldNoNewer first_schema (image_at S.Start)) }
 
     // What a stop leaves of files that were not opened is what they held, or stands for the same.
-    ensures there { IfErr result (λ refusal. MatchOption refusal.1 (IsUnopenedFirst refusal.0)
-        (IsRefusedWithout ⟦<FileFrom<S> as Disk>⟧ (HoldsFirstForm (image_at S.Start))
-        (first_opening refusal.0))) }
+    ensures there { IfErr result (λ refusal. MatchOption refusal.1 (IsUnopenedOld refusal.0)
+        (IsRefusedWithout ⟦<FileFrom<S> as Disk>⟧ (HoldsOldForm (image_at S.Start))
+        (old_opening refusal.0))) }
     ensures this { IfErr result (λ refusal. (¬ IsToldThis refusal.0) → IfSome refusal.1
         (IsRefusedWithout ⟦<FileFrom<S> as Disk>⟧ (HoldsBooks (image_at S.Start))
-        (first_opening refusal.0))) }
-    ensures listed { IfErr result (λ refusal. refusal.0 ≡ FirstFault.Already
+        (old_opening refusal.0))) }
+    ensures listed { IfErr result (λ refusal. refusal.0 ≡ OldFault.Already
         → IfSome refusal.1 (λ files. AreClean ⟦<FileFrom<S> as Disk>⟧ files.log files.db
         → ListsBooks (image_at S.Start))) }
     ensures kept { IfErr result (λ refusal. IfSome refusal.1 (λ files. (left : Image)
@@ -217,9 +217,9 @@ pub fn open_first_at<S: Start>(
 {
     let files = match open(rt, path, start) {
         Ok(files) => files,
-        Err(error) => return Err((FirstFault::Open(fault_at(error)), None)),
+        Err(error) => return Err((OldFault::Open(fault_at(error)), None)),
     };
-    match open_first_files(rt.alloc(), files, Options::new(seed)) {
+    match open_old_files(rt.alloc(), files, Options::new(seed)) {
         Ok(store) => Ok(store),
         Err((fault, files)) => Err((fault, Some(files))),
     }
@@ -230,7 +230,7 @@ const DETAILS: u32 = 10;
 
 /// Books of the first form get a tree for details, which has no row. Nothing is committed.
 pub fn add_details<S: Alter>(store: &mut S) -> Result<(), StoreError>
-    requires { IsClean (S.Store.view store.old) → HasFirstTrees (S.Store.view store.old) }
+    requires { IsClean (S.Store.view store.old) → HasOldTrees (S.Store.view store.old) }
     ensures done { OnOk result (IsClean (S.Store.view store.new)
         → AddsDetails (S.Store.view store.old) (S.Store.view store.new)) }
     ensures kept { OnErr result (LeavesCommitted S.Store store.old store.new) }

@@ -2,17 +2,17 @@ use Rattle.std.proofs.Common.{◌≡◌, true, refl, sym, ap, ◌∙◌, subst}
 use Rattle.sqlite_store.specs.FileStore.{state}
 use Rattle.sqlite_store.specs.Unopened.{state_of, image, HasFileAs, IsFullFile}
 use Rattle.sqlite_trees.proofs.Doubt.{clean_of}
-use Rattle.book_trees.proofs.Opened.{held_first_listed, held_first_only, held_listed, held_ours}
+use Rattle.book_trees.proofs.Opened.{held_old_listed, held_old_only, held_listed, held_ours}
 use Rattle.book_trees.proofs.Opened.{holds_shown, lists_here, opens_twice, shows_held}
 use Rattle.book_trees.proofs.Opened.{unlisted_none}
-use Rattle.book_trees.proofs.Refused.{first_error_told, never_already, unlisted_refused}
-use Rattle.book_trees.proofs.Trees.{has_first_trees}
-use Rattle.book_trees.specs.FirstForm.{first_opening, HoldsFirstForm}
+use Rattle.book_trees.proofs.Refused.{old_error_told, never_already, unlisted_refused}
+use Rattle.book_trees.proofs.Trees.{has_old_trees}
+use Rattle.book_trees.specs.OldForms.{old_opening, HoldsOldForm}
 use Rattle.book_trees.specs.LedgerFiles.{HoldsBooks}
 use Rattle.book_trees.specs.Listing.{lists_books, lists_first_books}
 use Rattle.book_trees.specs.Refusals.{IsToldWithout}
-use Rattle.book_trees.specs.declared.first_form.FirstFault.{FirstFault}
-use Rattle.book_trees.proofs.first_form.open_first.Goals as goal
+use Rattle.book_trees.specs.declared.old_forms.OldFault.{OldFault}
+use Rattle.book_trees.proofs.old_forms.open_old.Goals as goal
 
 -- files of the first form do not list the tables of this one
 pub returns-then-lists_books-clause-there : goal.returns-then-lists_books-clause-there
@@ -20,7 +20,7 @@ returns-then-lists_books-clause-there g c clean first =
     let books : lists_books c.in-Ok.listed.items ≡ true =
     ap lists_books (sym c.as_slice.ensures.value) ∙ sym c.lists_books.ensures
     ∙ c.if-lists_books.true in
-    held_first_only c.args.files c.read_catalog.new.self c.in-Ok.listed.items
+    held_old_only c.args.files c.read_catalog.new.self c.in-Ok.listed.items
     (c.in-Ok.ensures.ok clean) c.requires.size first.held books
 
 -- files that are told to be of this form list the tables of books
@@ -33,7 +33,7 @@ returns-then-lists_books-clause-listed g c is clean =
 
 pub returns-clause-listed : goal.returns-clause-listed
 returns-clause-listed g c is clean =
-    absurd (never_already c.in-Err-open_numbered.error (sym c.first_fault.ensures ∙ is))
+    absurd (never_already c.in-Err-open_numbered.error (sym c.old_fault.ensures ∙ is))
 
 pub returns-then-not-lists_first_books-clause-there :
     goal.returns-then-not-lists_first_books-clause-there
@@ -41,8 +41,8 @@ returns-then-not-lists_first_books-clause-there g c clean =
     let old = c.args.files in
     let mid = c.read_catalog.new.self in
     let rows = c.in-Ok.listed.items in
-    unlisted_refused (HoldsFirstForm (image old)) lists_first_books rows c.as_slice-2.result.now
-    (λ first. held_first_listed old mid rows (c.in-Ok.ensures.ok clean) c.requires.size first.held)
+    unlisted_refused (HoldsOldForm (image old)) lists_first_books rows c.as_slice-2.result.now
+    (λ first. held_old_listed old mid rows (c.in-Ok.ensures.ok clean) c.requires.size first.held)
     c.as_slice-2.ensures.value
     (sym c.lists_first_books.ensures ∙ c.if-not-lists_first_books.true) _ _
     c.unlisted_fault.ensures
@@ -69,7 +69,7 @@ returns-in-Ok-open_numbered-clause-opened g c =
     record {
       ready = opened.ready;
       schema = schema;
-      trees = λ clean. has_first_trees c.in-Ok-open_numbered.store schema opened.ready.unaltered
+      trees = λ clean. has_old_trees c.in-Ok-open_numbered.store schema opened.ready.unaltered
           opened.numbered (clean_of _ clean);
       size = λ clean. (opened.kept clean).size
           ∙ (c.read_catalog.ensures.kept (opened.honest clean)).size ∙ c.requires.size;
@@ -126,10 +126,10 @@ returns-clause-there g c clean =
     let end = c.in-Err-open_numbered.files in
     let size = (c.read_catalog.ensures.kept then).size ∙ c.requires.size in
     let schema = c.read_catalog.ensures.schema ∙ c.requires.schema in
-    subst (λ (fault : FirstFault). IsToldWithout (HoldsFirstForm (image old)) (first_opening fault))
-    (sym c.first_fault.ensures)
-    (first_error_told (state_of mid).faults (state_of end).faults (IsFullFile end)
-    (HasFileAs mid true) (HoldsFirstForm (image old)) (λ first. held_ours old mid
+    subst (λ (fault : OldFault). IsToldWithout (HoldsOldForm (image old)) (old_opening fault))
+    (sym c.old_fault.ensures)
+    (old_error_told (state_of mid).faults (state_of end).faults (IsFullFile end)
+    (HasFileAs mid true) (HoldsOldForm (image old)) (λ first. held_ours old mid
     c.in-Ok.listed.items (c.in-Ok.ensures.ok then) c.requires.size first.held first.numbered size
     schema) c.in-Err-open_numbered.error (c.in-Err-open_numbered.ensures.cause clean))
 
@@ -139,9 +139,9 @@ returns-clause-this g c other clean =
     let old = c.args.files in
     let mid = c.read_catalog.new.self in
     let end = c.in-Err-open_numbered.files in
-    subst (λ (fault : FirstFault). IsToldWithout (HoldsBooks (image old)) (first_opening fault))
-    (sym c.first_fault.ensures)
-    (first_error_told (state_of mid).faults (state_of end).faults (IsFullFile end)
+    subst (λ (fault : OldFault). IsToldWithout (HoldsBooks (image old)) (old_opening fault))
+    (sym c.old_fault.ensures)
+    (old_error_told (state_of mid).faults (state_of end).faults (IsFullFile end)
     (HasFileAs mid true) (HoldsBooks (image old)) (λ held. absurd (unlisted_none old mid
     c.in-Ok.listed.items (c.in-Ok.ensures.ok then) c.requires.size
     (ap lists_books (sym c.as_slice.ensures.value) ∙ sym c.lists_books.ensures

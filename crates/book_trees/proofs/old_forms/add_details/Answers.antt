@@ -1,5 +1,5 @@
-use Rattle.book_trees.proofs.FirstTrees.{room_for_details}
-use Rattle.book_trees.proofs.first_form.add_details.Goals as goal
+use Rattle.book_trees.proofs.OldTrees.{room_for_details}
+use Rattle.book_trees.proofs.old_forms.add_details.Goals as goal
 
 pub create-requires : goal.create-requires
 create-requires g c clean =

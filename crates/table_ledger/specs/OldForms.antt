@@ -16,17 +16,17 @@ abbrev pub uncounted : Tables → Tables
 uncounted tables = record tables { counted = empty }
 
 -- the trees hold the book, which can be read back, without its details
-abbrev pub IsStoredInFirst : Naming → Book → Trees → Type 0
-IsStoredInFirst = IsStoredAs uncounted
+abbrev pub IsStoredInOld : Naming → Book → Trees → Type 0
+IsStoredInOld = IsStoredAs uncounted
 
 -- a store is open between two transactions, and its trees hold the book so
-pub record RestsAtFirst (naming : Naming) (book : Book) (view : View) : Type 0 where
+pub record RestsAtOld (naming : Naming) (book : Book) (view : View) : Type 0 where
   pub rest : IsAtRest view
-  pub kept : IsStoredInFirst naming book view.trees
+  pub kept : IsStoredInOld naming book view.trees
 
 -- the same, where it is honest
-abbrev pub StandsAtFirst : Naming → Book → View → Type 0
-StandsAtFirst naming book view = IsClean view → RestsAtFirst naming book view
+abbrev pub StandsAtOld : Naming → Book → View → Type 0
+StandsAtOld naming book view = IsClean view → RestsAtOld naming book view
 
 -- the open period, by the closes
 abbrev pub open_read : Tables → ℕ

@@ -15,56 +15,56 @@ use Rattle.sqlite_value.specs.Keys.{plain}
 use Rattle.sqlite_wal.specs.Recovery.{Image}
 use Rattle.tree_tables.specs.Forms.{this_form}
 use Rattle.book_trees.specs.Forms.{IsToldOf}
-use Rattle.book_trees.specs.LedgerFiles.{page_size, HoldsFirstBooks}
+use Rattle.book_trees.specs.LedgerFiles.{page_size, HoldsOldBooks}
 use Rattle.book_trees.specs.Refusals.{fault_for, IsUnopened}
 use Rattle.book_trees.specs.Schema.{first_schema}
 use Rattle.book_trees.specs.StoreView.{IsOpenAs}
 use Rattle.book_trees.specs.declared.faults.OpenFault.{OpenFault}
 use Rattle.book_trees.specs.declared.faults.OpenFault.TheVariants.{NewForm, NotBooks}
-use Rattle.book_trees.specs.declared.first_form.FirstFault.{FirstFault}
-use Rattle.book_trees.specs.declared.first_form.FirstFault.TheVariants.{Already, Open, Pages}
+use Rattle.book_trees.specs.declared.old_forms.OldFault.{OldFault}
+use Rattle.book_trees.specs.declared.old_forms.OldFault.TheVariants.{Already, Open, Pages}
 
 -- The files hold books of the first form, and list nothing else, each tree under its number: so a
 -- ledger leaves them. They do not say that they are of a newer form.
-pub record HoldsFirstForm (image : Image) : Type 0 where
-  pub held : HoldsFirstBooks image
+pub record HoldsOldForm (image : Image) : Type 0 where
+  pub held : HoldsOldBooks image
   pub numbered : IsOurs page_size true first_schema held.pages
   pub form : version_in held.pages ≤ this_form
 
 -- the fault that an error of the store stands for, while the pages of files that list books of the
 -- first form are looked through
-abbrev pub first_fault_for : OpenError → FirstFault
-first_fault_for store.Refused = Pages
-first_fault_for store.OutOfMemory = Open (fault_for store.OutOfMemory)
-first_fault_for store.Io = Open (fault_for store.Io)
-first_fault_for store.Full = Open (fault_for store.Full)
+abbrev pub old_fault_for : OpenError → OldFault
+old_fault_for store.Refused = Pages
+old_fault_for store.OutOfMemory = Open (fault_for store.OutOfMemory)
+old_fault_for store.Io = Open (fault_for store.Io)
+old_fault_for store.Full = Open (fault_for store.Full)
 
 -- the fault of an opening that says as much of files: those that are of this form already, and
 -- those whose pages are wrong, hold no books of the first
-abbrev pub first_opening : FirstFault → OpenFault
-first_opening Already = NotBooks
-first_opening Pages = NotBooks
-first_opening (Open fault) = fault
+abbrev pub old_opening : OldFault → OpenFault
+old_opening Already = NotBooks
+old_opening Pages = NotBooks
+old_opening (Open fault) = fault
 
 -- what is told of files that list the tables of this form: they are of it, or of a newer one
-abbrev pub IsToldThis : FirstFault → Type 0
+abbrev pub IsToldThis : OldFault → Type 0
 IsToldThis fault = (fault ≡ Already) ⊎ (fault ≡ Open NewForm)
 
 -- what is told of files that were not opened
-abbrev pub IsToldFirst : {D : Type 0} → FirstFault → Files D → FirstFault → Files D → Type 0
-IsToldFirst Already files told last = IsToldThis told
-IsToldFirst Pages files told last = (told ≡ Pages) × (last ≡ files)
-IsToldFirst (Open fault) files told last =
+abbrev pub IsToldOld : {D : Type 0} → OldFault → Files D → OldFault → Files D → Type 0
+IsToldOld Already files told last = IsToldThis told
+IsToldOld Pages files told last = (told ≡ Pages) × (last ≡ files)
+IsToldOld (Open fault) files told last =
     (other : OpenFault) × (told ≡ Open other) × IsToldOf fault files other last
 
 -- the files at a path were not opened
-abbrev pub IsUnopenedFirst : FirstFault → Type 0
-IsUnopenedFirst Already = ⊥
-IsUnopenedFirst Pages = ⊥
-IsUnopenedFirst (Open fault) = IsUnopened fault
+abbrev pub IsUnopenedOld : OldFault → Type 0
+IsUnopenedOld Already = ⊥
+IsUnopenedOld Pages = ⊥
+IsUnopenedOld (Open fault) = IsUnopened fault
 
 -- A store shows the trees of books of the first form, and may have one more.
-pub record HasFirstTrees (view : View) : Type 0 where
+pub record HasOldTrees (view : View) : Type 0 where
   pub numbered : IsTrue view.is_numbered
   pub listed : view.trees catalog_tree ≡ listed_from 0 first_schema
   pub shapes : (tree : ℕ) → tree < 10 → view.shape tree ≡ Index plain
@@ -72,9 +72,9 @@ pub record HasFirstTrees (view : View) : Type 0 where
   pub settled : view.committed_shape ≡ view.shape
 
 -- A store of books of the first form is open.
-abbrev pub IsOpenFirst : {D : Type 0} {g : Ghosts D} → FileStore D g → Type 0
-IsOpenFirst store =
-    IsOpenAs first_schema (λ view. IsClean view → HasFirstTrees view) store
+abbrev pub IsOpenOld : {D : Type 0} {g : Ghosts D} → FileStore D g → Type 0
+IsOpenOld store =
+    IsOpenAs first_schema (λ view. IsClean view → HasOldTrees view) store
 
 -- the list of the trees is not that of books of the first form
 abbrev pub ListMore : Trees → Type 0

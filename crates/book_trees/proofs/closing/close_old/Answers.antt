@@ -2,7 +2,7 @@ use Rattle.std.proofs.Common.{List, subst}
 use Rattle.sqlite_store.specs.FileStore.{recovers}
 use Rattle.sqlite_store.specs.declared.catalog.Wanted.{Wanted}
 use Rattle.book_trees.specs.LedgerFiles.{HoldsTables, trees_held}
-use Rattle.book_trees.proofs.closing.close_first.Goals as goal
+use Rattle.book_trees.proofs.closing.close_old.Goals as goal
 
 pub returns-clause-left : goal.returns-clause-left
 returns-clause-left g c kept image found =
