@@ -14,10 +14,12 @@ mod ManyLemmas
 mod SumLemmas
 mod ServedWork
 mod OneCall
-mod LastChoice
+mod LastNumbers
 mod TariffTries
 mod CloseTries
 mod ChoiceTries
+mod WithheldReads
+mod WithholdTries
 mod KeptNames
 mod Walks
 mod WalksOf

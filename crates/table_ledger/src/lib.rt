@@ -31,6 +31,8 @@ mod summary;
 mod tariff;
 mod trails;
 mod upgrading;
+mod withheld;
+mod withholding;
 
 pub use ledger::TableLedger;
 pub use upgrading::{fill_details, has_book_row};

@@ -137,19 +137,26 @@ last_stays period last is_due name tables identity =
     (step_leaves period last is_due name tables)
     ∙ sym (last_told tables identity)
 
--- Of names in their order, with one more after them: the last one of an identity is that, if its
--- record has the identity, and otherwise the last one among the others.
-pub last_pushed : (records : RecordTable) (identity : List ℕ) (was : Option (List ℕ))
-    (names : List (List ℕ)) (name : List ℕ)
-    → last_or was (filter (name_has_identity records identity) (names ++ name ∷ []))
-    ≡ cond (name_has_identity records identity name) (Some name)
-    (last_or was (filter (name_has_identity records identity) names))
-last_pushed records identity was names name =
-    let own : List ℕ → Bool = name_has_identity records identity in
-    let before : List (List ℕ) = filter own names in
-    ap (last_or was) (filter-append own names (name ∷ []))
-    ∙ elim (own name) as (λ b. last_or was (before ++ cond b (name ∷ []) [])
-    ≡ cond b (Some name) (last_or was before)) [
-      | true ↦ last_or-behind was before name
+-- and so does whether it is withheld
+pub withheld_stays : (period : ℕ) (last : Option ℤ) (is_due : List ℕ → Bool) (name : List ℕ)
+    (tables : Tables) (identity : List ℕ)
+    → is_withheld_in (charge_due_step period last is_due name tables) identity
+    ≡ is_withheld_in tables identity
+withheld_stays period last is_due name tables identity =
+    withheld_told (charge_due_step period last is_due name tables) identity
+    ∙ ap (λ kept. is_withheld_in (with_lasting tables kept) identity)
+    (step_leaves period last is_due name tables)
+    ∙ sym (withheld_told tables identity)
+
+-- Of some elements with one more after them: the last that passes a test is that one, if it does, and
+-- otherwise the last of the others.
+pub last_pushed : {X : Type 0} (own : X → Bool) (was : Option X) (xs : List X) (x : X)
+    → last_or was (filter own (xs ++ x ∷ [])) ≡ cond (own x) (Some x) (last_or was (filter own xs))
+last_pushed {X} own was xs x =
+    let before : List X = filter own xs in
+    ap (last_or was) (filter-append own xs (x ∷ []))
+    ∙ elim (own x) as (λ b. last_or was (before ++ cond b (x ∷ []) [])
+    ≡ cond b (Some x) (last_or was before)) [
+      | true ↦ last_or-behind was before x
       | false ↦ ap (last_or was) (append-nil before)
     ]

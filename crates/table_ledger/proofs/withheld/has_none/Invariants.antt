@@ -1,0 +1,7 @@
+use Rattle.std.proofs.Common.{not}
+use Rattle.tariff_rules.proofs.SearchLemmas.{AreFailed}
+use Rattle.table_ledger.proofs.withheld.has_none.Given as goal
+
+-- none so far says so
+abbrev pub invariant-loop-choice : goal.invariant-loop-choice
+invariant-loop-choice l = AreFailed (λ choice. not choice.counts) l.choices l.choice-index
