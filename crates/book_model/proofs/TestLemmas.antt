@@ -177,7 +177,7 @@ pub record ReplacePasses (told there late dear : Bool) : Type 0 where
   pub later : late ≡ true
   pub fits : dear ≡ false
 
-replace_tests : (told there late dear : Bool)
+pub replace_tests : (told there late dear : Bool)
     → (if told then Ok Already
     else if not there then Err NoSuchTariff
     else if not late then Err TariffDate
@@ -222,7 +222,7 @@ pub record CreditPasses (given is_open there full : Bool) : Type 0 where
   pub found : there ≡ true
   pub room : full ≡ false
 
-credit_tests : (number_open : ℕ) (given is_open there full : Bool)
+pub credit_tests : (number_open : ℕ) (given is_open there full : Bool)
     → credit_by number_open given is_open there full ≡ Ok Done
     → CreditPasses given is_open there full
 credit_tests number_open true is_open there full is = cc

@@ -20,6 +20,7 @@ mod CloseTries
 mod ChoiceTries
 mod WithheldReads
 mod WithholdTries
+mod CreditTries
 mod KeptNames
 mod Walks
 mod WalksOf

@@ -11,6 +11,7 @@ mod chosen;
 mod close;
 mod commits;
 mod count_test;
+mod credits;
 mod day_write;
 mod days;
 mod detail_prices;
