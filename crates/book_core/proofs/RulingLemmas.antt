@@ -2,20 +2,21 @@
 use Rattle.std.proofs.Common.{◌≡◌, ◌∙◌, ◌-◌, List, [], ◌∷◌, ◌++◌, length, refl, sym, ap, arith}
 use Rattle.std.proofs.Common.{None, slice_get, true, ◌≢◌, ℕ, Bool, false, Option, Some, Ok, Err}
 use Rattle.std.proofs.Common.{Result, if◌then◌else◌, option_map, ◌<◌, slice_index_or, slice_set}
-use Rattle.std.proofs.Common.{take, take_all}
+use Rattle.std.proofs.Common.{take, take_all, filter, ℤ}
 use Rattle.std.proofs.lemmas.List.{get_or_push, length-set, length_push, set-append_left}
 use Rattle.std.proofs.lemmas.List.{take-append-le}
 use Rattle.std.specs.List.{swap_remove}
-use Rattle.book_model.proofs.Std.{last_or, result_ok}
+use Rattle.std.specs.Ordering.{int_eq}
+use Rattle.book_model.proofs.Std.{last_or, option_map_or, result_ok}
 use Rattle.book_model.specs.declared.answer.Ruled.TheVariants.{Done}
 use Rattle.book_model.specs.declared.fault.LedgerFault.TheVariants.{Full}
 use Rattle.book_model.specs.Words.{AcceptedTerms, are_rising, is_later, Terms, Event, RulingGiven}
 use Rattle.book_model.specs.Words.{TariffAccepted, TariffReplaced, RecordChosen, TariffFault}
-use Rattle.book_model.specs.Words.{WorkWithheld}
-use Rattle.book_model.proofs.Lemmas.{later-before, rising-behind}
+use Rattle.book_model.specs.Words.{WorkWithheld, has_begun, is_effective, is_under, latest}
+use Rattle.book_model.proofs.Lemmas.{begun-last, later-before, rising-behind}
 use Rattle.book_model.proofs.ListLemmas.{last_or-is}
 use Rattle.book_core.specs.declared.rulings.Rulings.{Rulings}
-use Rattle.book_core.specs.Words.{ruled_in}
+use Rattle.book_core.specs.Words.{is_last_begun, ruled_in}
 use Rattle.book_model.proofs.TestLemmas.{by_tests}
 
 -- what is found at the end of a list is its last
@@ -43,6 +44,21 @@ pub rising_with : (rulings : Rulings) (accepted : AcceptedTerms)
 rising_with rulings accepted later =
     rising-behind rulings.tariffs.items accepted rulings.rising
     (later-before accepted.terms.effective (ruled_in rulings) later)
+
+-- of tariffs that rise the last that has begun is the one in force
+pub last_is_under : (tariffs : List AcceptedTerms) (terms : Terms) (day : ℤ) → are_rising tariffs ≡ true
+    → is_last_begun tariffs terms day ≡ is_under tariffs terms day
+last_is_under tariffs terms day rising =
+    ap (λ found. option_map_or (is_effective terms.effective) found false)
+    (sym (begun-last tariffs day rising))
+    ∙ by_found (latest (filter (has_begun day) tariffs))
+  where
+    by_found : (found : Option AcceptedTerms)
+        → option_map_or (is_effective terms.effective) found false
+        ≡ option_map_or (λ (own : Terms). int_eq terms.effective own.effective)
+        (option_map (λ (tariff : AcceptedTerms). tariff.terms) found) false
+    by_found None = refl
+    by_found (Some tariff) = refl
 
 -- an answer that is not Done depends on no cost
 pub other_by : (told there later much : Bool) → by_tests told there later false ≢ Ok Done

@@ -3,7 +3,6 @@ use Rattle.std.proofs.Common.{◌≡◌, ◌∙◌, ◌≤◌, ◌+◌, ℕ, Lis
 use Rattle.std.proofs.Common.{map, Ok, Err, Result, get_or, refl, length, subst, if◌then◌else◌}
 use Rattle.std.proofs.Common.{int_lt, nat_lt, All, sum_by, ltb-false, not, None, ℤ, filter, option_map}
 use Rattle.std.specs.Map.{keys_of}
-use Rattle.std.specs.Ordering.{int_eq}
 use Rattle.book_model.proofs.Std.{list_all, list_any, IsStrictlySortedBy, length-map, fold-map}
 use Rattle.book_model.proofs.Std.{map-map, option_map_or}
 use Rattle.book_model.specs.declared.answer.Ruled.{Ruled}
@@ -25,10 +24,10 @@ use Rattle.book_model.proofs.TestLemmas.{tariff_tests}
 use Rattle.plain_ledger.proofs.HeldLemmas.{bytes_of, each_priced, held-alike}
 use Rattle.plain_ledger.proofs.RepricingLemmas.{names_stay, records_stay}
 use Rattle.book_model.proofs.Lemmas.{map-agree, filter_map-map, filter_map-defined, price_in-behind}
-use Rattle.book_model.proofs.Lemmas.{begun-last, later_price, filter_map-alike}
+use Rattle.book_model.proofs.Lemmas.{later_price, filter_map-alike}
 use Rattle.book_model.proofs.ReplacedLemmas.{replaced_price}
 use Rattle.book_model.proofs.PricingLemmas.{priced_day}
-use Rattle.book_core.proofs.RulingLemmas.{done_by}
+use Rattle.book_core.proofs.RulingLemmas.{done_by, last_is_under}
 
 module _ (book : Book) (text : List ℕ) (terms : Terms) where
   -- the answer by the tests, where what is held is too dear, and where it is not
@@ -61,21 +60,6 @@ pub tariff_answer-of : (book : Book) (text : List ℕ) (said : Result Terms Tari
     (terms : Terms) (answer : Result Ruled LedgerFault) → said ≡ Ok terms
     → answer ≡ terms_answer book text terms → tariff_answer book text said ≡ answer
 tariff_answer-of book text said terms answer read is = ap (tariff_answer book text) read ∙ sym is
-
--- of tariffs that rise the last that has begun is the one in force
-last_is_under : (tariffs : List AcceptedTerms) (terms : Terms) (day : ℤ) → are_rising tariffs ≡ true
-    → is_last_begun tariffs terms day ≡ is_under tariffs terms day
-last_is_under tariffs terms day rising =
-    ap (λ found. option_map_or (is_effective terms.effective) found false)
-    (sym (begun-last tariffs day rising))
-    ∙ by_found (latest (filter (has_begun day) tariffs))
-  where
-    by_found : (found : Option AcceptedTerms)
-        → option_map_or (is_effective terms.effective) found false
-        ≡ option_map_or (λ (own : Terms). int_eq terms.effective own.effective)
-        (option_map (λ (tariff : AcceptedTerms). tariff.terms) found) false
-    by_found None = refl
-    by_found (Some tariff) = refl
 
 -- where all is Done but for the room, the tariff to be replaced is there
 pub replaced_there : (rulings : Rulings) (text : List ℕ) (terms : Terms)

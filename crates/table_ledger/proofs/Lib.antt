@@ -16,6 +16,7 @@ mod ServedWork
 mod OneCall
 mod LastNumbers
 mod TariffTries
+mod ReplaceTries
 mod CloseTries
 mod ChoiceTries
 mod WithheldReads

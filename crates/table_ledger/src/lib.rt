@@ -25,6 +25,8 @@ mod load;
 mod many;
 mod other_prices;
 mod periods;
+mod replaced_prices;
+mod replacing;
 mod repricing;
 mod row_sums;
 mod rulings;

@@ -2,7 +2,7 @@
 use Rattle.std.proofs.Common.{◌≡◌, ◌+◌, ℕ, List, [], ◌∷◌, ◌++◌, refl, sym, ap, ◌∙◌, true, false}
 use Rattle.std.proofs.Common.{true≢false, inl, inr, cond, not, ◌||◌, Bool, Option, Some, None, Ok}
 use Rattle.std.proofs.Common.{arith, ℤ, int_lt, if◌then◌else◌, int_cmp, map, filter}
-use Rattle.std.proofs.Common.{filter_map, option_map, sum_by, length, nat_cmp, All}
+use Rattle.std.proofs.Common.{filter_map, option_map, sum_by, length, nat_cmp, All, subst}
 use Rattle.std.proofs.lemmas.Bool.Decides.{Decides-int_eq}
 use Rattle.std.specs.Ordering.{int_eq}
 use Rattle.std.specs.FinMap.{find}
@@ -17,7 +17,7 @@ use Rattle.book_model.specs.Words.{is_dated_after, is_undisputed, give, TariffRe
 use Rattle.book_model.specs.Words.{Naming, name_of, is_effective, replace_answer, Rulings, has_begun}
 use Rattle.book_model.specs.Words.{AcceptedTerms, price_in, with_replaced, identity_by, last_close}
 use Rattle.book_model.specs.Words.{has, IsSound, AreAmong, Priced, is_after, are_rising, latest}
-use Rattle.book_model.specs.Words.{is_under, members, or_new, Replaced, replaced_in}
+use Rattle.book_model.specs.Words.{is_under, members, or_new, Replaced, replaced_in, IsPriced}
 use Rattle.book_model.specs.Rulings.{later_of}
 use Rattle.book_model.proofs.Lemmas.{in_those, steps_stay_sound, first_of, second_of}
 use Rattle.book_model.proofs.MapLemmas.{from_entries-insert}
@@ -26,7 +26,8 @@ use Rattle.book_model.proofs.TestLemmas.{replace_passes}
 use Rattle.table_model.specs.Laws.{ReplaceFollows}
 use Rattle.table_model.specs.BookIn.{replaced_read}
 use Rattle.table_model.specs.Changed.{replaced_at}
-use Rattle.table_model.specs.Readable.{IsReplaced}
+use Rattle.table_model.specs.FromCalls.{ArePriced}
+use Rattle.table_model.specs.Readable.{IsReadable, IsReplaced}
 use Rattle.table_model.specs.Steps.{put_replaced_row}
 use Rattle.table_model.specs.TableChanges.{amount_replaced, replace_each, replace_step}
 use Rattle.table_model.specs.Tables.{ReplacedRow}
@@ -34,7 +35,9 @@ use Rattle.table_model.specs.TablesOf.{replaced_row}
 use Rattle.table_model.specs.Words.{AreFramed, put_tariff_row, set_sums, reprice, under_numbers}
 use Rattle.table_model.specs.Words.{RecordRow, RecordTable, Tables, RecordStatus, tariff_entries}
 use Rattle.table_model.specs.Words.{tables_of, tables_at, status_of, record_entry, row_by}
+use Rattle.table_model.specs.Words.{record_row, row_record}
 use Rattle.table_model.proofs.CostLemmas.{day-price}
+use Rattle.table_model.proofs.LineReading.{held_row}
 use Rattle.table_model.proofs.Restated.{IsStatus, row_for, status_at}
 use Rattle.table_model.proofs.RowsWhere.{AreMembers, all_rows, first_entry, first_held}
 use Rattle.table_model.proofs.RowsWhere.{members_held, others_held}
@@ -196,6 +199,102 @@ replaced_back {book} replaced all =
     ap (filter_map replaced_read) (values-numbers (map replaced_row replaced))
     ∙ all_replaced book replaced all
 
+-- ---- what all records cost then
+
+module _ (naming : Naming) (book : Book) (sound : IsSound naming book)
+    (framed : AreFramed book.held) (text : List ℕ) (terms : Terms) where
+  -- what a record costs by the text
+  abbrev by_text : List ℕ → Option Priced
+  by_text = price_in (with_replaced text terms book.rulings)
+
+  abbrev table : RecordTable
+  table = (tables_of naming book).records
+
+  abbrev row_at : List ℕ → Priced → RecordRow
+  row_at = row_by (identity_by book.rulings) (charged_of book) book.posted
+
+  abbrev entry : List ℕ → Option (List ℕ × RecordRow)
+  entry = record_entry naming book.rulings (charged_of book) book.posted
+
+  -- one record, by its row
+  row_cost : (k : List ℕ) (cost : Priced) → has book.held k ≡ true
+      → price_in book.rulings k ≡ Some cost
+      → (own : Priced) × (by_text k ≡ Some own)
+      × (own.amount ≡ amount_replaced book.rulings.tariffs terms (row_at k cost))
+  row_cost k cost there costs =
+      let day = day-price book.rulings k cost costs in
+      let now = replaced_price book.rulings text terms k in
+      elim (is_under book.rulings.tariffs terms (day_of k))
+      as (λ b. is_under book.rulings.tariffs terms (day_of k) ≡ b
+      → by_text k ≡ (if b then Some (price_by terms k) else price_in book.rulings k)
+      → (own : Priced) × (by_text k ≡ Some own)
+      × (own.amount ≡ amount_replaced book.rulings.tariffs terms (row_at k cost))) [
+        | true ↦ λ under now. (
+          price_by terms k,
+          now,
+          rw (day, under) (ap (λ bytes. (price_by terms bytes).amount) ((framed k there).is)),
+        )
+        | false ↦ λ other now. (cost, now ∙ costs, rw (day, other))
+      ] refl now
+
+  -- the same holds for the records of a list,
+  of_list : (ks : List (List ℕ)) → AreMembers book.held ks
+      → sum_by (λ (e : List ℕ × RecordRow). amount_replaced book.rulings.tariffs terms e.1)
+      (filter_map entry ks)
+      ≡ sum_by (λ (p : Priced). p.amount) (filter_map by_text ks)
+  of_list [] held = refl
+  of_list (k ∷ ks) held =
+      let its : List ℕ × RecordRow → ℕ = λ e. amount_replaced book.rulings.tariffs terms e.1 in
+      let rest = of_list ks (others_held book.held k ks held) in
+      let first = first_entry naming book sound (status_of book) sound.priced k ks held in
+      let own = row_cost k first.0 (first_held book.held k ks held) first.1 in
+      let row : List ℕ × RecordRow = (name_of naming k, row_at k first.0) in
+      let amount = own.2 in
+      let one = sum_by-cons its row (filter_map entry ks) in
+      let other = sum_by-cons (λ (p : Priced). p.amount) own.0 (filter_map by_text ks) in
+      let both : sum_by its (row ∷ filter_map entry ks)
+      ≡ sum_by (λ (p : Priced). p.amount) (own.0 ∷ filter_map by_text ks) = omega arith in
+      ap (sum_by its) first.2 ∙ both
+      ∙ ap (λ price. sum_by (λ (p : Priced). p.amount) (cons_option price (filter_map by_text ks)))
+      (sym own.1)
+
+  -- and for those of the table
+  pub sum_replaced : sum_by (amount_replaced book.rulings.tariffs terms) (fin.values table)
+      ≡ total_of (with_replaced text terms book.rulings) book.held
+  sum_replaced =
+      let all : List (List ℕ) = members book.held in
+      let its : RecordRow → ℕ = amount_replaced book.rulings.tariffs terms in
+      fold-map (λ n (row : RecordRow). n + its row) (λ (e : List ℕ × RecordRow). e.1) 0
+      (entries table)
+      ∙ sym (sum_by-IsPermutation (λ (e : List ℕ × RecordRow). its e.1)
+      (entries table) (filter_map entry all)
+      (all_rows naming book sound (status_of book) sound.priced))
+      ∙ of_list all (members_held book.held)
+
+-- where the rows can cost what the text says, each record can
+pub replaced_priced : (naming : Naming) (book : Book) (text : List ℕ) (terms : Terms)
+    → IsReadable naming book
+    → ((name : List ℕ) (row : RecordRow) → get (tables_of naming book).records name ≡ Some row
+    → is_under book.rulings.tariffs terms row.priced.day ≡ true
+    → IsPriced (price_by terms (row_record row)))
+    → ArePriced (with_replaced text terms book.rulings) book.held
+replaced_priced naming book text terms whole rows bytes priced there price =
+    let tariffs : List AcceptedTerms = book.rulings.tariffs in
+    elim (is_under tariffs terms (day_of bytes))
+    as (λ b. is_under tariffs terms (day_of bytes) ≡ b
+    → price_in (with_replaced text terms book.rulings) bytes
+    ≡ (if b then Some (price_by terms bytes) else price_in book.rulings bytes)
+    → IsPriced priced) [
+      | true ↦ λ under now.
+          let row = held_row naming book whole.sound bytes there in
+          subst IsPriced (same_Some (price_by terms bytes) priced (sym now ∙ price))
+          (subst (λ its. IsPriced (price_by terms its)) (sym (whole.lines.framed bytes there).is)
+          (rows (name_of naming bytes)
+          (record_row book.rulings (charged_of book) book.posted bytes row.0) row.2
+          (ap (is_under tariffs terms) (day-price book.rulings bytes row.0 row.1) ∙ under)))
+      | false ↦ λ other now. whole.priced bytes priced there (sym now ∙ price)
+    ] refl (replaced_price book.rulings text terms bytes)
+
 -- ---- the walk
 
 -- a day that is not before one after the last close is after that close
@@ -301,73 +400,12 @@ module _ (naming : Naming) (book : Book) (sound : IsSound naming book)
   walked = restated_all naming book sound (stand old) (stand new) was becomes settled
       (replace_step (open_number book) tariffs terms) step_is
 
-  -- ---- what all records cost together then
-
-  abbrev table : RecordTable
-  table = (tables_of naming book).records
-
-  abbrev entry : List ℕ → Option (List ℕ × RecordRow)
-  entry = record_entry naming book.rulings charged book.posted
-
-  -- one record, by its row
-  row_cost : (k : List ℕ) (cost : Priced) → has book.held k ≡ true → old k ≡ Some cost
-      → (own : Priced) × (new k ≡ Some own) × (own.amount
-      ≡ amount_replaced tariffs terms (row_by identity charged book.posted k cost))
-  row_cost k cost there costs =
-      let day = day-price book.rulings k cost costs in
-      let now = replaced_price book.rulings text terms k in
-      elim (is_under tariffs terms (day_of k)) as (λ b. is_under tariffs terms (day_of k) ≡ b
-      → new k ≡ (if b then Some (price_by terms k) else old k)
-      → (own : Priced) × (new k ≡ Some own) × (own.amount
-      ≡ amount_replaced tariffs terms (row_by identity charged book.posted k cost))) [
-        | true ↦ λ under now. (
-          price_by terms k,
-          now,
-          rw (day, under) (ap (λ bytes. (price_by terms bytes).amount) ((framed k there).is)),
-        )
-        | false ↦ λ other now. (cost, now ∙ costs, rw (day, other))
-      ] refl now
-
-  -- the same holds for the records of a list,
-  of_list : (ks : List (List ℕ)) → AreMembers book.held ks
-      → sum_by (λ (e : List ℕ × RecordRow). amount_replaced tariffs terms e.1) (filter_map entry ks)
-      ≡ sum_by (λ (p : Priced). p.amount) (filter_map new ks)
-  of_list [] held = refl
-  of_list (k ∷ ks) held =
-      let its : List ℕ × RecordRow → ℕ = λ e. amount_replaced tariffs terms e.1 in
-      let rest = of_list ks (others_held book.held k ks held) in
-      let first = first_entry naming book sound (status_of book) sound.priced k ks held in
-      let own = row_cost k first.0 (first_held book.held k ks held) first.1 in
-      let row : List ℕ × RecordRow = (
-        name_of naming k,
-        row_by identity charged book.posted k first.0,
-      ) in
-      let amount = own.2 in
-      let one = sum_by-cons its row (filter_map entry ks) in
-      let other = sum_by-cons (λ (p : Priced). p.amount) own.0 (filter_map new ks) in
-      let both : sum_by its (row ∷ filter_map entry ks)
-      ≡ sum_by (λ (p : Priced). p.amount) (own.0 ∷ filter_map new ks) = omega arith in
-      ap (sum_by its) first.2 ∙ both
-      ∙ ap (λ price. sum_by (λ (p : Priced). p.amount) (cons_option price (filter_map new ks)))
-      (sym own.1)
-
-  -- and for those of the table
-  sum_replaced : sum_by (amount_replaced tariffs terms) (fin.values table)
-      ≡ total_of ruled book.held
-  sum_replaced =
-      let all : List (List ℕ) = members book.held in
-      fold-map (λ n (row : RecordRow). n + amount_replaced tariffs terms row)
-      (λ (e : List ℕ × RecordRow). e.1) 0 (entries table)
-      ∙ sym (sum_by-IsPermutation (λ (e : List ℕ × RecordRow). amount_replaced tariffs terms e.1)
-      (entries table) (filter_map entry all)
-      (all_rows naming book sound (status_of book) sound.priced))
-      ∙ of_list all (members_held book.held)
-
   -- ---- the tables with the text
 
   replaced-tables : tables_of naming (give (TariffReplaced text terms) book)
       ≡ replaced_at (length book.rulings.replaced + 1) (open_number book) tariffs text terms
-      (sum_by (amount_replaced tariffs terms) (values table)) (tables_of naming book)
+      (sum_by (amount_replaced tariffs terms) (values (tables_of naming book).records))
+      (tables_of naming book)
   replaced-tables =
       let own : AcceptedTerms = record { text = Some text; terms = terms } in
       let day : ℤ = terms.effective in
@@ -406,7 +444,7 @@ module _ (naming : Naming) (book : Book) (sound : IsSound naming book)
       (replace_each period tariffs terms (tables old))) found
       (replace_each period tariffs terms (tables old))))) (sym at)
       ∙ ap (λ total. replaced_at number period tariffs text terms total (tables old))
-      (sym sum_replaced)
+      (sym (sum_replaced naming book sound framed text terms))
 
 -- the law
 pub replace_follows : ReplaceFollows
