@@ -135,7 +135,7 @@ fn put_in_place<S: Store>(
         number: summary.replaced + 1,
         period: summary.rulings.open_number(),
         text,
-        was: &was,
+        was: was.as_str(),
     };
     let sums = Sums {
         held: summary.held as u64,
