@@ -21,7 +21,7 @@ width Days = 8
 width Lines = 3
 width Identities = 2
 width Marks = 3
-width Choices = 3
+width Choices = 4
 width ChoiceNames = 2
 width Details = 12
 

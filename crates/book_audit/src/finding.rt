@@ -94,7 +94,8 @@ impl Tree {
     {
         match self {
             Tree::Tariffs | Tree::Closes | Tree::Identities | Tree::ChoiceNames => 2,
-            Tree::Lines | Tree::Marks | Tree::Choices => 3,
+            Tree::Lines | Tree::Marks => 3,
+            Tree::Choices => 4,
             Tree::Book => 5,
             Tree::Days => 8,
             Tree::Records => 11,
@@ -169,7 +170,8 @@ pub enum Wrong {
     ChoicePeriod,
     /// A choice's record is not held.
     NotHeld,
-    /// A choice's record is alone in its identity, and no rule was adopted since.
+    /// A choice's record is alone in its identity, which was never withheld, and no rule was adopted
+    /// since.
     ChosenAlone,
     /// The choice is not found by the record that it names.
     NoChoiceName,
@@ -189,8 +191,8 @@ pub enum Wrong {
     NoIdentity,
     /// The record is not found by its mark.
     NoMark,
-    /// The record is charged and neither alone in its identity nor chosen last of it, or the other
-    /// way round.
+    /// The record is charged and neither alone in its identity nor named last of it, or its work is
+    /// withheld; or the other way round.
     Charged,
     /// The record is not posted as the last close charged it.
     Posted,
