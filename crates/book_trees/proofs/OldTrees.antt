@@ -180,7 +180,7 @@ module _ (name sql : List ℕ) (object : Object) (is : wanted_of object ≡ tabl
 -- ---- the details
 
 -- the form is told by the shape of the details
-form_is : (view : View) (old : HasOldTrees view) → old.form ≡ form_by (view.shape 10)
+pub form_is : (view : View) (old : HasOldTrees view) → old.form ≡ form_by (view.shape 10)
 form_is view old = by old.form old.shapes old.none
   where
     by : (form : OlderForm) → ((tree : ℕ) → tree < table_count form → view.shape tree ≡ Index plain)

@@ -1,4 +1,4 @@
-use Rattle.std.proofs.Common.{◌∙◌, ap, subst}
+use Rattle.std.proofs.Common.{◌∙◌, ap, subst, sym}
 use Rattle.std.specs.List.{AllZip}
 use Rattle.tree_rows.specs.Runs.{run_of}
 use Rattle.tree_rows.proofs.Runs.{run_whole}
@@ -13,9 +13,9 @@ pub returns-clause-marks : goal.returns-clause-marks
 returns-clause-marks g c =
     let trees = (g.S.Store.view c.args.store.now).trees in
     marks_all c.mark_these.result c.deref.result.now
-    (survives g.S.Store c.list_run-all.ensures.quiet) c.in_ok-list_run-all.ensures.same
+    (survives g.S.Store c.list_run.ensures.quiet) c.in_ok-all.ensures.same
     c.mark_these.ensures.marks (λ clean.
     subst (λ some. AllZip SaysOldChoice some c.deref.result.now)
     (ap (λ part. run_of part (trees 8)) c.new-key.ensures ∙ run_whole (trees 8))
-    (subst (λ all. AllZip SaysOldChoice _ all) c.deref.ensures.value
-    (c.in_ok-list_run-all.ensures.found clean)))
+    (subst (λ all. AllZip SaysOldChoice _ all) (sym c.deref.ensures.value)
+    (c.in_ok-all.ensures.found clean)))
