@@ -1,12 +1,12 @@
 -- What is known of the call that opened the files of a session.
 use Rattle.std.proofs.Common.{◌≡◌, IsTrue, Option, None, Some, Result, Ok, Err, refl, subst, sym}
 use Rattle.std.proofs.Common.{IfErr, IfOk, IfSome, MatchOption}
-use Rattle.book_trees.specs.OldForms.{HoldsOldForm, IsToldThis, IsUnopenedOld, old_opening}
+use Rattle.book_trees.specs.OldForms.{HoldsOldForm, IsToldThis, IsUnopenedOld, OldNoNewer}
+use Rattle.book_trees.specs.OldForms.{old_opening}
 use Rattle.book_trees.specs.Forms.{HoldNoNewer}
-use Rattle.book_trees.specs.LedgerFiles.{AreEmptyTables, HoldsOldBooks, HoldsNothing}
+use Rattle.book_trees.specs.LedgerFiles.{AreEmptyTables, HoldsOldBooks, HoldsNothing, old_trees}
 use Rattle.book_trees.specs.Looks.{IsUnopenedLook, look_opening}
 use Rattle.book_trees.specs.Refusals.{IsAsFound, IsBegun, IsUnopened, MayLeave}
-use Rattle.book_trees.specs.Schema.{first_schema}
 use Rattle.book_trees.specs.StoreView.{ListsBooks}
 use Rattle.book_trees.specs.declared.faults.OpenFault.{OpenFault}
 use Rattle.book_trees.specs.declared.old_forms.OldFault.{OldFault}
@@ -126,15 +126,15 @@ looking_at g stays found (Ok store) ready shows held there lists kept =
 looking_at g stays found (Err refusal) ready shows held there lists kept =
     (there, left_as_found g stays found refusal.1 kept, lists)
 
--- and the opening of books of the first form
+-- and the opening of books of an older form
 pub old_opening_at : {D : Type 0} (g : Ghosts D) → ((file : D) → g.may_leave file (g.seen file))
     → (found : Image) (opened : Result (FileStore D g) (OldFault × Option (Files D)))
     → IfOk opened IsReady
     → IfOk opened (λ store. IsTrue (state store).is_clean → (held : HoldsOldBooks found)
-    → (view store).trees ≡ trees_held held)
+    → (view store).trees ≡ old_trees held)
     → IfOk opened (λ store. IsTrue (state store).is_clean → ¬ HoldsBooks found)
     → IfOk opened (λ store. IsTrue (state store).is_clean → ∥ HoldsOldBooks found ∥₁)
-    → IfOk opened (λ store. IsTrue (state store).is_clean → HoldNoNewer first_schema found)
+    → IfOk opened (λ store. IsTrue (state store).is_clean → OldNoNewer found)
     → IfErr opened (λ refusal. MatchOption refusal.1 (IsUnopenedOld refusal.0)
     (IsRefusedWithout g (HoldsOldForm found) (old_opening refusal.0)))
     → IfErr opened (λ refusal. (¬ IsToldThis refusal.0) → IfSome refusal.1

@@ -8,7 +8,7 @@ use Rattle.book_model.specs.declared.fault.LedgerFault.TheVariants as ledger
 use Rattle.book_trees.specs.OldForms.{HoldsOldForm}
 use Rattle.book_trees.specs.Forms.{HoldNoNewer, HoldsThisForm}
 use Rattle.book_trees.specs.LedgerFiles.{HoldsBooks, HoldsOldBooks, HoldsNothing}
-use Rattle.book_trees.specs.LedgerFiles.{trees_held}
+use Rattle.book_trees.specs.LedgerFiles.{old_trees, trees_held}
 use Rattle.book_trees.specs.Schema.{books_schema}
 use Rattle.table_model.specs.TablesOf.{tables_of}
 use Rattle.tree_tables.specs.Holds.{has_book}
@@ -48,9 +48,9 @@ HaveUsedBook found = HaveBookRow found × (¬ HoldsBook file_names new_book foun
 abbrev pub HaveNoBookRow : Image → Type 0
 HaveNoBookRow found = (held : HoldsBooks found) → has_book (trees_held held) ≡ false
 
--- whatever books of the first form the files hold, the row of the book is not there
+-- whatever books of an older form the files hold, the row of the book is not there
 abbrev pub HaveNoOldRow : Image → Type 0
-HaveNoOldRow found = (held : HoldsOldBooks found) → has_book (trees_held held) ≡ false
+HaveNoOldRow found = (held : HoldsOldBooks found) → has_book (old_trees held) ≡ false
 
 -- no files are in hand: memory ran out, another program has them, or they are out of reach
 abbrev pub IsWithoutFiles : RepositoryFault → Type 0
@@ -115,7 +115,7 @@ module _ {D : Type 0} (g : Ghosts D) (found : Image) (ended : Ended D) where
   WhyNotAudited fault =
       HasNoAnswerFor g (HasFaultCause (¬ HoldsThisForm found) ⊥) (λ other. ⊤) fault ended
 
-  -- why books were not brought to this form: the files hold none of the first form, or not their
+  -- why books were not brought to this form: the files hold none of an older form, or not their
   -- row
   abbrev pub WhyNotUpgraded : RepositoryFault → Type 0
   WhyNotUpgraded fault =

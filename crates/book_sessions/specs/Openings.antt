@@ -7,13 +7,14 @@ use Rattle.sqlite_store.specs.declared.store.FileStore.{FileStore}
 use Rattle.sqlite_trees.specs.View.{IsClean}
 use Rattle.sqlite_wal.specs.Reads.{AreClean}
 use Rattle.sqlite_wal.specs.Recovery.{Image}
-use Rattle.book_trees.specs.OldForms.{HoldsOldForm, IsToldThis, IsUnopenedOld, old_opening}
+use Rattle.book_trees.specs.OldForms.{HoldsOldForm, IsToldThis, IsUnopenedOld, OldNoNewer}
+use Rattle.book_trees.specs.OldForms.{old_opening}
 use Rattle.book_trees.specs.Forms.{HoldNoNewer, HoldsThisForm}
 use Rattle.book_trees.specs.LedgerFiles.{AreEmptyTables, HoldsBooks, HoldsOldBooks, HoldsNothing}
-use Rattle.book_trees.specs.LedgerFiles.{trees_held}
+use Rattle.book_trees.specs.LedgerFiles.{old_trees, trees_held}
 use Rattle.book_trees.specs.Looks.{IsUnopenedLook, look_opening}
 use Rattle.book_trees.specs.Refusals.{IsAsFound, IsBegun, IsRefusedWithout, IsUnopened, MayLeave}
-use Rattle.book_trees.specs.Schema.{books_schema, first_schema}
+use Rattle.book_trees.specs.Schema.{books_schema}
 use Rattle.book_trees.specs.StoreView.{ListsBooks}
 use Rattle.book_sessions.specs.Sessions.{AreHonest, GivesBack, files_in_hand}
 use Rattle.book_sessions.specs.declared.ended.Ended.{Ended}
@@ -96,18 +97,18 @@ IsLooking g found (Err refusal) =
     × (refusal.0 ≡ Pages
     → IfSome refusal.1 (λ files. AreClean g files.log files.db → ListsBooks found))
 
--- A store was opened from files that held this: books of the first form, whose tables it shows.
+-- A store was opened from files that held this: books of an older form, whose tables it shows.
 -- They do not say that they are of a newer form, and there are none of this one.
 pub record IsOldFrom {D : Type 0} {g : Ghosts D} (found : Image) (store : FileStore D g) : Type 0
   where
     pub ready : IsReady store
     pub shows : IsTrue (state store).is_clean → (held : HoldsOldBooks found)
-        → (view store).trees ≡ trees_held held
+        → (view store).trees ≡ old_trees held
     pub older : IsTrue (state store).is_clean → ¬ HoldsBooks found
     pub held : IsTrue (state store).is_clean → ∥ HoldsOldBooks found ∥₁
-    pub form : IsTrue (state store).is_clean → HoldNoNewer first_schema found
+    pub form : IsTrue (state store).is_clean → OldNoNewer found
 
--- Files that held this were opened as books of the first form; or they were not, and are left as
+-- Files that held this were opened as books of an older form; or they were not, and are left as
 -- they were found: they hold none of it where that is told, no books of this form but where these
 -- are told to be of it or of a newer one, and list the tables of this form where they are told to
 -- be of it.

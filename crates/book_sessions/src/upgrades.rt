@@ -1,8 +1,8 @@
-//! Books of the first form are brought to this one.
+//! Books of older forms are brought to this one.
 
 ghost use Rattle.std.specs.Prelude.{◌≡◌, false, IfErr, IfOk, OnOk};
 ghost use Rattle.sqlite_store.specs.FileStore.{view};
-ghost use Rattle.sqlite_trees.specs.View.{IsClean};
+ghost use Rattle.sqlite_trees.specs.View.{IsClean, KeepsSchema};
 ghost use Rattle.sqlite_wal.specs.Reads.{AreClean};
 ghost use Rattle.sqlite_wal.specs.Recovery.{Image};
 ghost use Rattle.book_model.specs.Words.{Book};
@@ -14,17 +14,20 @@ ghost use Rattle.book_sessions.specs.Sessions.{TriesToMoveLog};
 ghost use Rattle.book_sessions.specs.Stops.{CloseLeaves, CloseLeavesRows, CloseTriesToMoveLog};
 ghost use Rattle.book_sessions.specs.Stops.{StopLeaves};
 ghost use Rattle.book_sessions.specs.Upgrades.{AreUpgraded, HoldsUpgraded, LeavesUpgraded};
-ghost use Rattle.book_sessions.specs.Upgrades.{MayBringOver, RestsBroughtOver, TellsThisForm};
-ghost use Rattle.book_sessions.specs.Upgrades.{upgrade_answer};
+ghost use Rattle.book_sessions.specs.Upgrades.{MayBringOver, RestsBroughtOver, StandsAtOld};
+ghost use Rattle.book_sessions.specs.Upgrades.{TellsThisForm, filled, upgrade_answer, written_in};
 ghost use Rattle.book_trees.specs.OldForms.{HasOldTrees};
-ghost use Rattle.table_ledger.specs.OldForms.{StandsAtOld};
 ghost use Rattle.tree_tables.specs.Holds.{has_book};
+ghost use Rattle.tree_rows.specs.Calls.{IsSorted};
 ghost use Rattle.tree_tables.specs.States.{Survives, state};
+ghost use Rattle.tree_tables.specs.Steps.{Does};
 
 use crate::ended::Ended;
 use crate::faults::{fault_of, refused};
 use book_core::LedgerFault;
-use book_trees::{Closed, OldFault, add_details, close_books, close_old, commit_form};
+use book_trees::{
+    Closed, OldFault, OlderForm, add_tables, close_books, close_old, commit_form, old_form,
+};
 use named_books::{RepositoryFault, Upgraded};
 use sqlite_disk::{Disk, Files};
 use sqlite_store::FileStore;
@@ -32,23 +35,42 @@ use sqlite_trees::error::StoreError;
 use sqlite_trees::store::{Alter, Store};
 use std::alloc::Global;
 use table_ledger::{fill_details, has_book_row};
-use tree_tables::THIS_FORM;
+use tree_tables::trees::{CLOSES, DETAILS, LINES, RECORDS};
+use tree_tables::{THIS_FORM, mark_choices};
 
-/// Adds the details to books of the first form, and commits them with what their file says of its
+/// The details of books of the first form are written; the second has them.
+fn fill_form<S: Store>(alloc: Global, store: &mut S, form: OlderForm) -> Result<(), StoreError>
+    requires closes { IsSorted S.Store store.old CLOSES }
+    requires lines { IsSorted S.Store store.old LINES }
+    requires records { IsSorted S.Store store.old RECORDS }
+    requires details { IsSorted S.Store store.old DETAILS }
+    ensures does { Does result (state S.Store store.old) (state S.Store store.new)
+        (λ tables. tables ≡ written_in form tables) (filled form) }
+    ensures schema { KeepsSchema (S.Store.view store.old) (S.Store.view store.new) }
+{
+    match form {
+        OlderForm::First => fill_details(alloc, store),
+        OlderForm::Second => Ok(()),
+    }
+}
+
+/// Adds to books of an older form what they have not, and commits it with what their file says of its
 /// form: all of it at once, or nothing.
-fn write_details<S: Alter>(alloc: Global, store: &mut S) -> Result<(), StoreError>
+fn write_tables<S: Alter>(alloc: Global, store: &mut S) -> Result<(), StoreError>
     requires { IsClean (S.Store.view store.old) → HasOldTrees (S.Store.view store.old) }
     ensures survives { Survives (state S.Store store.old) (state S.Store store.new)
         (MayBringOver file_names (S.Store.view store.old)) }
     ensures done { OnOk result (IsClean (S.Store.view store.new)
         → RestsBroughtOver file_names (S.Store.view store.old) (S.Store.view store.new)) }
 {
-    add_details(store)?;
-    fill_details(alloc, store)?;
+    let form = old_form(store);
+    add_tables(store)?;
+    mark_choices(alloc, store)?;
+    fill_form(alloc, store, form)?;
     commit_form(store)
 }
 
-/// Brings the books of the first form in a store to this one. The store is given back: whatever a
+/// Brings the books of an older form in a store to this one. The store is given back: whatever a
 /// stop may leave of it holds the same book, in the old form or in the new one.
 fn upgrade_in<S: Alter>(alloc: Global, store: S) -> (Result<(), RepositoryFault>, S)
     requires { IsClean (S.Store.view store) → HasOldTrees (S.Store.view store) }
@@ -64,7 +86,7 @@ fn upgrade_in<S: Alter>(alloc: Global, store: S) -> (Result<(), RepositoryFault>
         Err(error) => return (Err(fault_of(error)), store),
     };
     if there {
-        match write_details(alloc, &mut store) {
+        match write_tables(alloc, &mut store) {
             Ok(()) => (Ok(()), store),
             Err(error) => (Err(fault_of(error)), store),
         }
@@ -73,7 +95,7 @@ fn upgrade_in<S: Alter>(alloc: Global, store: S) -> (Result<(), RepositoryFault>
     }
 }
 
-/// Brings the books in a file of the first form to this one, and closes it: whatever may be found
+/// Brings the books in a file of an older form to this one, and closes it: whatever may be found
 /// of it then, and wherever a stop comes within this, holds the same book, in one of the two.
 fn upgrade_and_close<D: Disk>(
     alloc: Global,
@@ -90,10 +112,11 @@ fn upgrade_and_close<D: Disk>(
         AreClean D.Disk result.1.files.log result.1.files.db
         → HasFaultCause (has_book (view store).trees ≡ false) ⊥ fault) }
 {
+    let form = old_form(&store);
     let (upgraded, store) = upgrade_in(alloc, store);
     match upgraded {
         Ok(()) => (upgraded, close_books(store)),
-        Err(_) => (upgraded, close_old(store)),
+        Err(_) => (upgraded, close_old(store, form)),
     }
 }
 
@@ -107,7 +130,7 @@ fn told_upgraded(upgraded: Result<(), RepositoryFault>) -> Result<Upgraded, Repo
     }
 }
 
-/// What it means that books of the first form were not opened.
+/// What it means that books of an older form were not opened.
 fn not_upgraded(fault: OldFault) -> Result<Upgraded, RepositoryFault>
     ensures { result ≡ old_answer fault }
 {
@@ -118,7 +141,7 @@ fn not_upgraded(fault: OldFault) -> Result<Upgraded, RepositoryFault>
     }
 }
 
-/// Brings the books in files of the first form to this one, where they were opened, in one commit, and
+/// Brings the books in files of an older form to this one, where they were opened, in one commit, and
 /// closes them. Whatever may be found of the files next, and wherever a stop comes within this, holds
 /// the books of the history that they held: those of the old form, or those of the new one.
 pub fn upgrade<D: Disk>(

@@ -8,11 +8,13 @@ pub mod Trees
 pub mod ListingLemmas
 pub mod FormLemmas
 pub mod Refused
+pub mod Results
 pub mod FileParts
 pub mod ToldLemmas
 pub mod OldTrees
 pub mod BlankFiles
 pub mod Opened
+pub mod AlikeFiles
 pub mod Buildable
 pub mod EachLeft
 pub mod UnusedLogs

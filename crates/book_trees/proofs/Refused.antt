@@ -7,7 +7,7 @@ use Rattle.sqlite_value.specs.Order.{Row}
 use Rattle.std.specs.List.{list_any}
 use Rattle.std.specs.Prelude.{if◌then◌else◌}
 use Rattle.book_trees.specs.OldForms.{old_fault_for, old_opening}
-use Rattle.book_trees.specs.Listing.{lists, lists_first_books, unlisted_fault}
+use Rattle.book_trees.specs.Listing.{lists, lists_older, unlisted_fault}
 use Rattle.book_trees.specs.Looks.{look_fault_for, look_opening}
 use Rattle.book_trees.specs.Refusals.{fault_for, IsToldWithout}
 use Rattle.book_trees.specs.Schema.{first_table}
@@ -33,7 +33,7 @@ look_error_told old new AtLimit Wanted Held so Io fails = tt
 look_error_told old new AtLimit Wanted Held so Full fails = tt
 look_error_told old new AtLimit Wanted Held so Refused fails = λ held. fails (so held)
 
--- and with those of the first form
+-- and with those of an older form
 pub old_error_told : (old new : ℕ) (AtLimit Wanted Held : Type 0) → (Held → Wanted)
     → (e : OpenError) → FailsToOpen old new AtLimit Wanted e
     → IsToldWithout Held (old_opening (old_fault_for e))
@@ -70,7 +70,7 @@ told_unlisted Held none false false = none
 unlisted_told : (Held : Type 0) → (Held → ⊥) → (rows : List Row)
     → IsToldWithout Held (unlisted_fault rows)
 unlisted_told Held none rows =
-    told_unlisted Held none (lists_first_books rows) (list_any (lists first_table) rows)
+    told_unlisted Held none (lists_older rows) (list_any (lists first_table) rows)
 
 -- what is told of files that would be listed otherwise if they held this
 pub unlisted_refused : (Held : Type 0) (is_listed : List Row → Bool) (rows read : List Row)

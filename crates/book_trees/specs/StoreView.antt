@@ -37,7 +37,7 @@ pub record ListsBooks (image : Image) : Type 0 where
   pub listed : lists_books (rows_at page_size (in_use page_size pages) Table 1) ≡ true
 
 -- If the files list the tables of books, a ledger left them: they hold nothing yet, or books of this
--- form or of the first. Nothing is asked of other files, which are another program's, or damaged.
+-- form or of an older one. Nothing is asked of other files, which are another program's, or damaged.
 pub record AreLeft (image : Image) : Type 0 where
   pub left : ListsBooks image
       → HoldsNothing image ⊎ (HoldsBooks image ⊎ HoldsOldBooks image)

@@ -1,44 +1,44 @@
-//! Books of the first form are opened, to be brought to this one.
+//! Books of older forms are opened, to be brought to this one.
 
 ghost use Rattle.std.specs.Prelude.{◌≡◌, ◌≢◌, IfErr, IfOk, IfSome, IsTrue, MatchOption};
-ghost use Rattle.std.specs.Prelude.{OnErr, OnOk};
+ghost use Rattle.std.specs.Prelude.{OnOk};
 ghost use Rattle.sqlite_store.specs.FileStore.{state, view, schema_of, IsReady};
-ghost use Rattle.sqlite_store.specs.Unopened.{image, state_of, wanted_by, AreUsable, Opens};
+ghost use Rattle.sqlite_store.specs.Unopened.{image, state_of, wanted_by, AreUsable, HasSomeFile};
+ghost use Rattle.sqlite_store.specs.Unopened.{Opens};
 ghost use Rattle.sqlite_trees.specs.View.{IsClean};
 ghost use Rattle.sqlite_wal.specs.Files.{image_at};
 ghost use Rattle.sqlite_wal.specs.Reads.{AreClean};
 ghost use Rattle.sqlite_wal.specs.Recovery.{Image};
-ghost use Rattle.book_trees.specs.OldForms.{old_fault_for, old_opening, AddsDetails};
-ghost use Rattle.book_trees.specs.OldForms.{HasOldTrees, HoldsOldForm, IsOpenOld};
-ghost use Rattle.book_trees.specs.OldForms.{IsToldOld, IsToldThis, IsUnopenedOld};
+ghost use Rattle.book_trees.specs.OldForms.{form_listed, old_fault_for, old_opening};
+ghost use Rattle.book_trees.specs.OldForms.{AreAlike, HasOldTrees, HoldsForm};
+ghost use Rattle.book_trees.specs.OldForms.{HoldsOldForm, HoldsSome, IsOpenOld, IsToldOld};
+ghost use Rattle.book_trees.specs.OldForms.{IsToldThis, IsUnopenedOld, OldNoNewer, ReadsForm};
 ghost use Rattle.book_trees.specs.Forms.{HoldNoNewer};
-ghost use Rattle.tree_rows.specs.Calls.{CommitsNothing, LeavesCommitted};
-ghost use Rattle.book_trees.specs.LedgerFiles.{image_of, page_size, HoldsBooks, HoldsOldBooks};
-ghost use Rattle.book_trees.specs.LedgerFiles.{trees_held};
+ghost use Rattle.book_trees.specs.LedgerFiles.{image_of, old_trees, page_size, HoldsBooks};
+ghost use Rattle.book_trees.specs.LedgerFiles.{trees_held, HoldsOldBooks, HoldsTables};
 ghost use Rattle.book_trees.specs.Refusals.{AreKept, IsAsFound, IsRefusedWithout, IsToldWithout};
 ghost use Rattle.book_trees.specs.Refusals.{MayLeave};
-ghost use Rattle.book_trees.specs.Schema.{first_schema};
-ghost use Rattle.book_trees.specs.StoreView.{ListsBooks};
+ghost use Rattle.book_trees.specs.Schema.{old_schema};
+ghost use Rattle.book_trees.specs.StoreView.{IsOpenAs, ListsBooks};
 
-use crate::catalog::{lists_books, lists_first_books, unlisted_fault};
+use crate::catalog::{lists_books, lists_old_books, unlisted_fault};
 use crate::faults::{OpenFault, fault_at, fault_of};
 use crate::forms::{says_newer, told, told_newer};
-use crate::schema::detail_object;
+use crate::schema::OlderForm;
 use crate::unopened::unopened_old;
 use sqlite_disk::{Disk, Files, Start};
 use sqlite_pager::Options;
 use sqlite_std_file::{FileFrom, open};
 use sqlite_store::{FileStore, OpenError, Unopened};
-use sqlite_trees::error::StoreError;
-use sqlite_trees::store::{Alter, Store};
+use sqlite_value::row::Row;
 use std::alloc::Global;
 
-/// Why books of the first form were not opened.
+/// Why books of an older form were not opened.
 #[derive(Clone, Copy, Drop)]
 pub enum OldFault {
     /// They are of this form already.
     Already,
-    /// They list the tables of the first form, but their pages are not those of such a file, or
+    /// They list the tables of an older form, but their pages are not those of such a file, or
     /// something else is listed too.
     Pages,
     /// They were not opened.
@@ -56,25 +56,88 @@ fn old_fault(error: OpenError) -> OldFault
     }
 }
 
-/// Opens books of the first form, and looks through all of their pages: only of such a file is it
-/// known that a tree may be added. Whether files that are told to be of a newer form are so, they
-/// have to say.
-fn open_old<D: Disk>(files: Unopened<D>) -> Result<FileStore<D>, (OldFault, Unopened<D>)>
+/// The older form that rows list: the second, or else the first, whether or not they list it.
+fn form_listed(rows: &[Row]) -> OlderForm
+    ensures { result ≡ form_listed rows.now }
+{
+    if lists_old_books(rows, OlderForm::Second) {
+        OlderForm::Second
+    } else {
+        OlderForm::First
+    }
+}
+
+/// Reads which older form files list.
+fn read_form<D: Disk>(files: Unopened<D>) -> (Result<OlderForm, OpenFault>, Unopened<D>)
     requires usable { AreUsable files }
-    requires schema { wanted_by files ≡ first_schema }
+    ensures read { IsTrue (state_of result.1).is_clean
+        → IfOk result.0 (ReadsForm files result.1) }
+    ensures usable { OnOk result.0 (AreUsable result.1) }
+    ensures cause { IsTrue (state_of result.1).is_clean
+        → IfErr result.0 (IsToldWithout (HasSomeFile files)) }
+    ensures honest { IsTrue (state_of result.1).is_clean → IsTrue (state_of files).is_clean }
+    ensures kept { IsTrue (state_of result.1).is_clean → Opens files (state_of result.1) }
+{
+    let mut files = files;
+    match files.read_catalog() {
+        Ok(listed) => (Ok(form_listed(listed.as_slice())), files),
+        Err(error) => (Err(fault_of(error)), files),
+    }
+}
+
+/// Which older form two files list. They recover to the same pages then as before.
+fn listed_form<D: Disk>(
+    alloc: Global,
+    files: Files<D>,
+    options: Options,
+) -> (Result<OlderForm, OpenFault>, Files<D>)
+    requires log { IsTrue (D.Disk.is_usable files.log) }
+    requires db { IsTrue (D.Disk.is_usable files.db) }
+    ensures log { OnOk result.0 (IsTrue (D.Disk.is_usable result.1.log)) }
+    ensures db { OnOk result.0 (IsTrue (D.Disk.is_usable result.1.db)) }
+    ensures alike { AreClean D.Disk result.1.log result.1.db
+        → OnOk result.0 (AreAlike (image_of D.Disk files) (image_of D.Disk result.1)) }
+
+    // Files that hold books of an older form list it, and no other.
+    ensures form { AreClean D.Disk result.1.log result.1.db → IfOk result.0 (λ form.
+        (old : HoldsOldBooks (image_of D.Disk files)) → old.form ≡ form) }
+    ensures there { IfErr result.0 (λ fault.
+        IsRefusedWithout D.Disk (HoldsSome (image_of D.Disk files)) fault result.1) }
+    ensures honest { AreClean D.Disk result.1.log result.1.db → AreClean D.Disk files.log files.db }
+    ensures kept { AreClean D.Disk result.1.log result.1.db → AreKept D.Disk files result.1 }
+{
+    let files = match unopened_old(alloc, files, options, OlderForm::Second) {
+        Ok(files) => files,
+        Err(files) => return (Err(OpenFault::Memory), files),
+    };
+    let (form, files) = read_form(files);
+    (form, files.close())
+}
+
+/// Opens books of this older form, and looks through all of their pages: only of such a file is it
+/// known that trees may be added. Whether files that are told to be of a newer form are so, they
+/// have to say.
+fn open_form<D: Disk>(
+    files: Unopened<D>,
+    form: OlderForm,
+) -> Result<FileStore<D>, (OldFault, Unopened<D>)>
+    requires usable { AreUsable files }
+    requires schema { wanted_by files ≡ old_schema form }
     requires size { (state_of files).page_size ≡ page_size }
-    ensures opened { IfOk result IsOpenOld }
+    ensures opened { IfOk result
+        (IsOpenAs (old_schema form) (λ view. IsClean view → HasOldTrees view)) }
     ensures honest { IfOk result (λ store. IsTrue (state store).is_clean
         → IsTrue (state_of files).is_clean) }
     ensures found { IfOk result (λ store. IsTrue (state store).is_clean
-        → (held : HoldsOldBooks (image files)) → (view store).trees ≡ trees_held held) }
+        → (held : HoldsTables (old_schema form) (image files))
+        → (view store).trees ≡ trees_held held) }
     ensures older { IfOk result (λ store. IsTrue (state store).is_clean
         → ¬ HoldsBooks (image files)) }
     ensures held { IfOk result (λ store. IsTrue (state store).is_clean
-        → ∥ HoldsOldBooks (image files) ∥₁) }
+        → ∥ HoldsTables (old_schema form) (image files) ∥₁) }
     ensures kept { IfOk result (λ store. IsTrue (state store).is_clean → Opens files (state store)) }
     ensures there { IfErr result (λ refusal. IsTrue (state_of refusal.1).is_clean
-        → IsToldWithout (HoldsOldForm (image files)) (old_opening refusal.0)) }
+        → IsToldWithout (HoldsForm form (image files)) (old_opening refusal.0)) }
 
     // Books of this form are told to be so, or nothing is told of them.
     ensures this { IfErr result (λ refusal. refusal.0 ≢ OldFault.Already
@@ -84,6 +147,8 @@ fn open_old<D: Disk>(files: Unopened<D>) -> Result<FileStore<D>, (OldFault, Unop
         → IsTrue (state_of refusal.1).is_clean → ListsBooks (image files)) }
     ensures unharmed { IfErr result (λ refusal. IsTrue (state_of refusal.1).is_clean
         → Opens files (state_of refusal.1)) }
+    ensures falls { IfErr result (λ refusal. IsTrue (state_of refusal.1).is_clean
+        → IsTrue (state_of files).is_clean) }
 {
     let mut files = files;
     let listed = match files.read_catalog() {
@@ -93,7 +158,7 @@ fn open_old<D: Disk>(files: Unopened<D>) -> Result<FileStore<D>, (OldFault, Unop
     if lists_books(listed.as_slice()) {
         return Err((OldFault::Already, files));
     }
-    if !lists_first_books(listed.as_slice()) {
+    if !lists_old_books(listed.as_slice(), form) {
         return Err((OldFault::Open(unlisted_fault(listed.as_slice())), files));
     }
     match files.open_numbered() {
@@ -102,7 +167,55 @@ fn open_old<D: Disk>(files: Unopened<D>) -> Result<FileStore<D>, (OldFault, Unop
     }
 }
 
-/// Opens two files as books of the first form, or gives them back.
+/// Opens two files as books of this older form, or gives them back.
+fn open_form_files<D: Disk>(
+    alloc: Global,
+    files: Files<D>,
+    options: Options,
+    form: OlderForm,
+) -> Result<FileStore<D>, (OldFault, Files<D>)>
+    requires log { IsTrue (D.Disk.is_usable files.log) }
+    requires db { IsTrue (D.Disk.is_usable files.db) }
+    ensures opened { IfOk result
+        (IsOpenAs (old_schema form) (λ view. IsClean view → HasOldTrees view)) }
+    ensures honest { IfOk result (λ store. IsTrue (state store).is_clean
+        → AreClean D.Disk files.log files.db) }
+    ensures found { IfOk result (λ store. IsTrue (state store).is_clean
+        → (held : HoldsTables (old_schema form) (image_of D.Disk files))
+        → (view store).trees ≡ trees_held held) }
+    ensures older { IfOk result (λ store. IsTrue (state store).is_clean
+        → ¬ HoldsBooks (image_of D.Disk files)) }
+    ensures held { IfOk result (λ store. IsTrue (state store).is_clean
+        → ∥ HoldsTables (old_schema form) (image_of D.Disk files) ∥₁) }
+    ensures form { IfOk result (λ store. IsTrue (state store).is_clean
+        → HoldNoNewer (old_schema form) (image_of D.Disk files)) }
+    ensures there { IfErr result (λ refusal. IsRefusedWithout D.Disk
+        (HoldsForm form (image_of D.Disk files)) (old_opening refusal.0) refusal.1) }
+    ensures this { IfErr result (λ refusal. (¬ IsToldThis refusal.0)
+        → IsRefusedWithout D.Disk (HoldsBooks (image_of D.Disk files)) (old_opening refusal.0)
+        refusal.1) }
+    ensures listed { IfErr result (λ refusal. refusal.0 ≡ OldFault.Already
+        → AreClean D.Disk refusal.1.log refusal.1.db → ListsBooks (image_of D.Disk files)) }
+    ensures unharmed { IfErr result (λ refusal. AreClean D.Disk refusal.1.log refusal.1.db
+        → AreKept D.Disk files refusal.1) }
+    ensures falls { IfErr result (λ refusal. AreClean D.Disk refusal.1.log refusal.1.db
+        → AreClean D.Disk files.log files.db) }
+{
+    let files = match unopened_old(alloc, files, options, form) {
+        Ok(files) => files,
+        Err(files) => return Err((OldFault::Open(OpenFault::Memory), files)),
+    };
+    let store = match open_form(files, form) {
+        Ok(store) => store,
+        Err((fault, files)) => return Err(told_old(fault, files.close())),
+    };
+    if says_newer(&store) {
+        return Err((OldFault::Open(OpenFault::NewForm), store.close()));
+    }
+    Ok(store)
+}
+
+/// Opens two files as books of an older form, or gives them back.
 pub fn open_old_files<D: Disk>(
     alloc: Global,
     files: Files<D>,
@@ -114,15 +227,15 @@ pub fn open_old_files<D: Disk>(
     ensures honest { IfOk result (λ store. IsTrue (state store).is_clean
         → AreClean D.Disk files.log files.db) }
     ensures found { IfOk result (λ store. IsTrue (state store).is_clean
-        → (held : HoldsOldBooks (image_of D.Disk files)) → (view store).trees ≡ trees_held held) }
+        → (held : HoldsOldBooks (image_of D.Disk files)) → (view store).trees ≡ old_trees held) }
     ensures older { IfOk result (λ store. IsTrue (state store).is_clean
         → ¬ HoldsBooks (image_of D.Disk files)) }
     ensures held { IfOk result (λ store. IsTrue (state store).is_clean
         → ∥ HoldsOldBooks (image_of D.Disk files) ∥₁) }
     ensures form { IfOk result (λ store. IsTrue (state store).is_clean
-        → HoldNoNewer first_schema (image_of D.Disk files)) }
+        → OldNoNewer (image_of D.Disk files)) }
 
-    // Of files of the first form nothing else is told.
+    // Of files of an older form nothing else is told.
     ensures there { IfErr result (λ refusal. IsRefusedWithout D.Disk
         (HoldsOldForm (image_of D.Disk files)) (old_opening refusal.0) refusal.1) }
 
@@ -137,18 +250,11 @@ pub fn open_old_files<D: Disk>(
     ensures unharmed { IfErr result (λ refusal. AreClean D.Disk refusal.1.log refusal.1.db
         → AreKept D.Disk files refusal.1) }
 {
-    let files = match unopened_old(alloc, files, options) {
-        Ok(files) => files,
-        Err(files) => return Err((OldFault::Open(OpenFault::Memory), files)),
-    };
-    let store = match open_old(files) {
-        Ok(store) => store,
-        Err((fault, files)) => return Err(told_old(fault, files.close())),
-    };
-    if says_newer(&store) {
-        return Err((OldFault::Open(OpenFault::NewForm), store.close()));
+    let (form, files) = listed_form(alloc, files, options);
+    match form {
+        Ok(form) => open_form_files(alloc, files, options, form),
+        Err(fault) => Err((OldFault::Open(fault), files)),
     }
-    Ok(store)
 }
 
 /// Why files were not opened, as they say themselves.
@@ -187,12 +293,13 @@ pub fn open_old_at<S: Start>(
     start: S,
 ) -> Result<FileStore<FileFrom<S>>, (OldFault, Option<Files<FileFrom<S>>>)>
     ensures ready { IfOk result IsReady }
-    ensures schema { IfOk result (λ store. schema_of store ≡ first_schema) }
+    ensures schema { IfOk result (λ store.
+        (form : OlderForm) × (schema_of store ≡ old_schema form)) }
     ensures trees { IfOk result (λ store. IsClean (view store) → HasOldTrees (view store)) }
     ensures size { IfOk result (λ store. IsTrue (state store).is_clean
         → (state store).page_size ≡ page_size) }
     ensures found { IfOk result (λ store. IsTrue (state store).is_clean
-        → (held : HoldsOldBooks (image_at S.Start)) → (view store).trees ≡ trees_held held) }
+        → (held : HoldsOldBooks (image_at S.Start)) → (view store).trees ≡ old_trees held) }
 
     // Files that are opened hold no books of this form, nor say that they are of a newer one.
     ensures older { IfOk result (λ store. IsTrue (state store).is_clean
@@ -200,7 +307,7 @@ pub fn open_old_at<S: Start>(
     ensures held { IfOk result (λ store. IsTrue (state store).is_clean
         → ∥ HoldsOldBooks (image_at S.Start) ∥₁) }
     ensures form { IfOk result (λ store. IsTrue (state store).is_clean
-        → HoldNoNewer first_schema (image_at S.Start)) }
+        → OldNoNewer (image_at S.Start)) }
 
     // What a stop leaves of files that were not opened is what they held, or stands for the same.
     ensures there { IfErr result (λ refusal. MatchOption refusal.1 (IsUnopenedOld refusal.0)
@@ -223,18 +330,4 @@ pub fn open_old_at<S: Start>(
         Ok(store) => Ok(store),
         Err((fault, files)) => Err((fault, Some(files))),
     }
-}
-
-/// The number of the tree of details.
-const DETAILS: u32 = 10;
-
-/// Books of the first form get a tree for details, which has no row. Nothing is committed.
-pub fn add_details<S: Alter>(store: &mut S) -> Result<(), StoreError>
-    requires { IsClean (S.Store.view store.old) → HasOldTrees (S.Store.view store.old) }
-    ensures done { OnOk result (IsClean (S.Store.view store.new)
-        → AddsDetails (S.Store.view store.old) (S.Store.view store.new)) }
-    ensures kept { OnErr result (LeavesCommitted S.Store store.old store.new) }
-    ensures quiet { CommitsNothing S.Store store.old store.new }
-{
-    store.create(DETAILS, &detail_object())
 }

@@ -1,32 +1,25 @@
--- Books of the first form: their trees hold all tables of the book but for the details, and so
--- those of a book of which no record is counted. The details are told by the rows and the lines.
+-- Books of older forms: their trees hold all tables of the book, whose choices count and do not say
+-- so. Those of the first form hold no details, and so the tables of a book of which no record is
+-- counted. The details are told by the rows and the lines.
 use Rattle.std.specs.Prelude.{◌≡◌, ◌+◌, ◌++◌, ◌∷◌, [], ℕ, Bool, List, Option, filter, fold, length}
 use Rattle.std.specs.Prelude.{if◌then◌else◌, map}
 use Rattle.sqlite_trees.specs.Tree.{Trees}
-use Rattle.sqlite_trees.specs.View.{View, IsClean}
 use Rattle.book_model.specs.Std.{empty, entries}
 use Rattle.book_model.specs.Words.{Book, Naming, by_bytes, set_of}
-use Rattle.table_model.specs.Words.{charged_before_lines, first_line, count_row, RecordRow, Tables}
-use Rattle.table_ledger.specs.Commits.{IsAtRest}
-use Rattle.table_ledger.specs.Ready.{IsStoredAs}
+use Rattle.table_model.specs.Words.{charged_before_lines, first_line, count_row, IsReadable}
+use Rattle.table_model.specs.Words.{RecordRow, Tables, tables_of}
+use Rattle.tree_tables.specs.OldChoices.{HoldsOld}
 use Rattle.table_ledger.specs.declared.upgrading.Counted.{Counted}
 
 -- the tables, of which none says that a record is counted
 abbrev pub uncounted : Tables → Tables
 uncounted tables = record tables { counted = empty }
 
--- the trees hold the book, which can be read back, without its details
-abbrev pub IsStoredInOld : Naming → Book → Trees → Type 0
-IsStoredInOld = IsStoredAs uncounted
-
--- a store is open between two transactions, and its trees hold the book so
-pub record RestsAtOld (naming : Naming) (book : Book) (view : View) : Type 0 where
-  pub rest : IsAtRest view
-  pub kept : IsStoredInOld naming book view.trees
-
--- the same, where it is honest
-abbrev pub StandsAtOld : Naming → Book → View → Type 0
-StandsAtOld naming book view = IsClean view → RestsAtOld naming book view
+-- the trees hold so much of the book, which can be read back, as older forms do
+pub record IsStoredOld (written : Tables → Tables) (naming : Naming) (book : Book) (trees : Trees)
+    : Type 0 where
+  pub readable : IsReadable naming book
+  pub holds : HoldsOld trees (written (tables_of naming book))
 
 -- the open period, by the closes
 abbrev pub open_read : Tables → ℕ

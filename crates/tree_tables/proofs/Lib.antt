@@ -20,6 +20,7 @@ pub mod ChosenLists
 pub mod LastNumbers
 pub mod CreditRows
 pub mod ReplacedRows
+pub mod OldChoices
 pub mod Records
 pub mod FoundNames
 pub mod RecordLists

@@ -31,7 +31,7 @@ pub struct StoredChoice {
 }
 
 /// Makes the row of a choice.
-fn choice_row(
+pub(crate) fn choice_row(
     row: &mut Row,
     number: u32,
     name: &[u8],

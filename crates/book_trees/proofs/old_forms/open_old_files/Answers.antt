@@ -1,121 +1,143 @@
-use Rattle.std.proofs.Common.{inr, refl, sym, subst}
-use Rattle.sqlite_store.specs.Unopened.{image}
-use Rattle.sqlite_wal.specs.Recovery.{Image}
-use Rattle.book_trees.proofs.FileParts.{end_honest, files_kept, first_image, honest_given}
-use Rattle.book_trees.proofs.FileParts.{kept_still, shows_given, store_honest, store_kept}
-use Rattle.book_trees.proofs.FormNumbers.{newer_refused, none_newer}
+use Rattle.std.proofs.Common.{◌≡◌, subst}
+use Rattle.std.specs.Prelude.{IfErr, IfOk, OnOk}
+use Rattle.std.proofs.Math.Logic.{∥∥₁_map}
+use Rattle.book_trees.proofs.AlikeFiles.{form_on, kept_on, lists_back, none_newer_so, shown_so}
+use Rattle.book_trees.proofs.AlikeFiles.{tables_back, tables_on}
 use Rattle.book_trees.proofs.Refused.{told_so}
-use Rattle.book_trees.proofs.ToldLemmas.{old_still_told, told_already, told_not_this}
-use Rattle.book_trees.specs.OldForms.{old_opening, HoldsOldForm}
+use Rattle.book_trees.proofs.Results.{if_err, if_ok}
 use Rattle.book_trees.specs.LedgerFiles.{image_of, HoldsBooks, HoldsOldBooks}
-use Rattle.book_trees.specs.StoreView.{ListsBooks}
+use Rattle.book_trees.specs.OldForms.{old_opening, AreAlike, HoldsForm, HoldsOldForm, HoldsSome}
+use Rattle.book_trees.specs.Refusals.{IsRefusedWithout}
+use Rattle.book_trees.specs.Schema.{books_schema, old_schema}
 use Rattle.book_trees.proofs.old_forms.open_old_files.Goals as goal
 
-pub returns-clause-honest : goal.returns-clause-honest
-returns-clause-honest g c =
-    honest_given c.in-Ok.files c.in-Ok-open_old.store c.args.files c.in-Ok.ensures.files
-    c.in-Ok-open_old.ensures.honest
+-- the older form that was read is opened,
+pub returns-in-Ok-clause-opened : goal.returns-in-Ok-clause-opened
+returns-in-Ok-clause-opened g c =
+    let files = c.open_form_files in
+    if_ok files.result files.ensures.opened files.ensures.opened
+    (λ store opened same. (c.in-Ok.form, opened))
 
-pub returns-clause-found : goal.returns-clause-found
-returns-clause-found g c =
-    shows_given c.in-Ok.files c.in-Ok-open_old.store c.args.files c.in-Ok.ensures.files
-    c.in-Ok-open_old.ensures.found
+pub returns-in-Ok-clause-honest : goal.returns-in-Ok-clause-honest
+returns-in-Ok-clause-honest g c =
+    let files = c.open_form_files in
+    if_ok files.result files.ensures.honest files.ensures.honest
+    (λ store honest same clean. c.listed_form-form.ensures.honest (honest clean))
 
-pub returns-clause-older : goal.returns-clause-older
-returns-clause-older g c clean held =
-    let given = c.in-Ok.ensures.files in
-    let old = c.in-Ok.files in
-    let first = c.args.files in
-    c.in-Ok-open_old.ensures.older clean
-    (subst HoldsBooks (sym (first_image old old first first given (sym given))) held)
+-- from files that recover to the same pages as the first
+pub returns-in-Ok-clause-found : goal.returns-in-Ok-clause-found
+returns-in-Ok-clause-found g c =
+    let one = image_of g.D.Disk c.args.files in
+    let other = image_of g.D.Disk c.listed_form-form.result.1 in
+    let files = c.open_form_files in
+    if_ok files.result files.ensures.honest files.ensures.found (λ store honest shows clean.
+    shown_so one other
+    (subst (λ form. OnOk form (AreAlike one other)) c.in-Ok.is
+    (c.listed_form-form.ensures.alike (honest clean))) c.in-Ok.form
+    (subst (λ form. IfOk form (λ form. (old : HoldsOldBooks one) → old.form ≡ form)) c.in-Ok.is
+    (c.listed_form-form.ensures.form (honest clean))) store (shows clean))
 
--- what is opened does not say that it is of a newer form
-pub returns-clause-form : goal.returns-clause-form
-returns-clause-form g c =
-    none_newer c.in-Ok.files c.in-Ok-open_old.store c.args.files c.in-Ok.ensures.files
-    c.in-Ok-open_old.ensures.opened.ready c.in-Ok-open_old.ensures.found
-    (c.says_newer.ensures.other c.if-says_newer.false)
+pub returns-in-Ok-clause-older : goal.returns-in-Ok-clause-older
+returns-in-Ok-clause-older g c =
+    let one = image_of g.D.Disk c.args.files in
+    let other = image_of g.D.Disk c.listed_form-form.result.1 in
+    let files = c.open_form_files in
+    if_ok files.result files.ensures.honest files.ensures.older (λ store honest older clean held.
+    older clean (tables_on one other
+    (subst (λ form. OnOk form (AreAlike one other)) c.in-Ok.is
+    (c.listed_form-form.ensures.alike (honest clean))) held))
 
-pub returns-clause-held : goal.returns-clause-held
-returns-clause-held g c clean =
-    let given = c.in-Ok.ensures.files in
-    let old = c.in-Ok.files in
-    subst (λ (i : Image). ∥ HoldsOldBooks i ∥₁)
-    (first_image old old c.args.files c.args.files given (sym given))
-    (c.in-Ok-open_old.ensures.held clean)
+pub returns-in-Ok-clause-held : goal.returns-in-Ok-clause-held
+returns-in-Ok-clause-held g c =
+    let one = image_of g.D.Disk c.args.files in
+    let other = image_of g.D.Disk c.listed_form-form.result.1 in
+    let files = c.open_form_files in
+    if_ok files.result files.ensures.honest files.ensures.held (λ store honest held clean.
+    ∥∥₁_map (held clean) λ there. record {
+      form = c.in-Ok.form;
+      held = tables_back one other
+          (subst (λ form. OnOk form (AreAlike one other)) c.in-Ok.is
+          (c.listed_form-form.ensures.alike (honest clean))) there;
+    })
 
--- files of the first form do not say that they are of a newer one
-pub returns-then-says_newer-clause-there : goal.returns-then-says_newer-clause-there
-returns-then-says_newer-clause-there g c clean first =
-    newer_refused c.in-Ok.files c.in-Ok-open_old.store c.args.files c.close-then-says_newer.result
-    c.in-Ok.ensures.files c.close-then-says_newer.ensures c.in-Ok-open_old.ensures.opened.ready
-    c.in-Ok-open_old.ensures.found (c.says_newer.ensures.newer c.if-says_newer.true) clean
-    first.held first.form
+pub returns-in-Ok-clause-form : goal.returns-in-Ok-clause-form
+returns-in-Ok-clause-form g c =
+    let one = image_of g.D.Disk c.args.files in
+    let other = image_of g.D.Disk c.listed_form-form.result.1 in
+    let files = c.open_form_files in
+    if_ok files.result files.ensures.honest files.ensures.form (λ store honest within clean.
+    none_newer_so one other
+    (subst (λ form. OnOk form (AreAlike one other)) c.in-Ok.is
+    (c.listed_form-form.ensures.alike (honest clean))) c.in-Ok.form
+    (subst (λ form. IfOk form (λ form. (old : HoldsOldBooks one) → old.form ≡ form)) c.in-Ok.is
+    (c.listed_form-form.ensures.form (honest clean))) (within clean))
 
-pub returns-then-says_newer-clause-this : goal.returns-then-says_newer-clause-this
-returns-then-says_newer-clause-this g c other = absurd (other (inr refl))
+-- Files that were not opened are those that were read.
+pub returns-in-Ok-clause-there : goal.returns-in-Ok-clause-there
+returns-in-Ok-clause-there g c =
+    let one = image_of g.D.Disk c.args.files in
+    let other = image_of g.D.Disk c.listed_form-form.result.1 in
+    let files = c.open_form_files in
+    if_err files.result files.ensures.falls files.ensures.there (λ refusal falls told clean.
+    told_so (HoldsForm c.in-Ok.form other) (HoldsOldForm one)
+    (form_on one other
+    (subst (λ form. OnOk form (AreAlike one other)) c.in-Ok.is
+    (c.listed_form-form.ensures.alike (falls clean))) c.in-Ok.form
+    (subst (λ form. IfOk form (λ form. (old : HoldsOldBooks one) → old.form ≡ form)) c.in-Ok.is
+    (c.listed_form-form.ensures.form (falls clean)))) (old_opening refusal.0) (told clean))
 
--- and the others are kept
-pub returns-then-says_newer-clause-unharmed : goal.returns-then-says_newer-clause-unharmed
-returns-then-says_newer-clause-unharmed g c clean =
-    let store = c.in-Ok-open_old.store in
-    store_kept c.in-Ok.files store c.args.files c.close-then-says_newer.result c.in-Ok.ensures.files
-    c.close-then-says_newer.ensures c.in-Ok.ensures.size (c.in-Ok-open_old.ensures.kept
-    (store_honest store c.close-then-says_newer.result c.close-then-says_newer.ensures clean))
+pub returns-in-Ok-clause-this : goal.returns-in-Ok-clause-this
+returns-in-Ok-clause-this g c =
+    let one = image_of g.D.Disk c.args.files in
+    let other = image_of g.D.Disk c.listed_form-form.result.1 in
+    let files = c.open_form_files in
+    if_err files.result files.ensures.falls files.ensures.this (λ refusal falls told apart clean.
+    told_so (HoldsBooks other) (HoldsBooks one)
+    (tables_on one other (subst (λ form. OnOk form (AreAlike one other)) c.in-Ok.is
+    (c.listed_form-form.ensures.alike (falls clean)))) (old_opening refusal.0)
+    (told apart clean))
 
-pub returns-in-Err-open_old-clause-there : goal.returns-in-Err-open_old-clause-there
-returns-in-Err-open_old-clause-there g c clean =
-    let old = c.in-Ok.files in
-    let end = c.in-Err-open_old.files in
-    let given = c.in-Ok.ensures.files in
-    let back = c.close.ensures in
-    let same = first_image old end c.args.files c.close.result given back in
-    old_still_told (HoldsOldForm (image_of g.D.Disk c.args.files)) c.close.result
-    c.told_old.result.1 c.in-Err-open_old.fault c.told_old.result.0
-    c.told_old.ensures.told
-    (told_so (HoldsOldForm (image old)) (HoldsOldForm (image_of g.D.Disk c.args.files))
-    (subst HoldsOldForm (sym same)) (old_opening c.in-Err-open_old.fault)
-    (c.in-Err-open_old.ensures.there
-    (end_honest old end c.args.files c.close.result given back
-    (c.told_old.ensures.clean clean))))
+pub returns-in-Ok-clause-listed : goal.returns-in-Ok-clause-listed
+returns-in-Ok-clause-listed g c =
+    let one = image_of g.D.Disk c.args.files in
+    let other = image_of g.D.Disk c.listed_form-form.result.1 in
+    let files = c.open_form_files in
+    if_err files.result files.ensures.falls files.ensures.listed (λ refusal falls lists is clean.
+    lists_back one other (subst (λ form. OnOk form (AreAlike one other)) c.in-Ok.is
+    (c.listed_form-form.ensures.alike (falls clean))) (lists is clean))
 
-pub returns-in-Err-open_old-clause-this : goal.returns-in-Err-open_old-clause-this
-returns-in-Err-open_old-clause-this g c other clean =
-    let old = c.in-Ok.files in
-    let end = c.in-Err-open_old.files in
-    let given = c.in-Ok.ensures.files in
-    let back = c.close.ensures in
-    let same = first_image old end c.args.files c.close.result given back in
-    told_not_this (HoldsBooks (image_of g.D.Disk c.args.files)) c.close.result
-    c.told_old.result.1 c.in-Err-open_old.fault c.told_old.result.0
-    c.told_old.ensures.told
-    (λ apart. told_so (HoldsBooks (image old)) (HoldsBooks (image_of g.D.Disk c.args.files))
-    (subst HoldsBooks (sym same)) (old_opening c.in-Err-open_old.fault)
-    (c.in-Err-open_old.ensures.this apart
-    (end_honest old end c.args.files c.close.result given back
-    (c.told_old.ensures.clean clean)))) other
+pub returns-in-Ok-clause-unharmed : goal.returns-in-Ok-clause-unharmed
+returns-in-Ok-clause-unharmed g c =
+    let one = image_of g.D.Disk c.args.files in
+    let other = image_of g.D.Disk c.listed_form-form.result.1 in
+    let files = c.open_form_files in
+    if_err files.result files.ensures.falls files.ensures.unharmed (λ refusal falls kept clean.
+    kept_on c.args.files c.listed_form-form.result.1 refusal.1
+    (subst (λ form. OnOk form (AreAlike one other)) c.in-Ok.is
+    (c.listed_form-form.ensures.alike (falls clean)))
+    (c.listed_form-form.ensures.kept (falls clean)) (kept clean))
 
-pub returns-in-Err-open_old-clause-listed : goal.returns-in-Err-open_old-clause-listed
-returns-in-Err-open_old-clause-listed g c is clean =
-    let old = c.in-Ok.files in
-    let end = c.in-Err-open_old.files in
-    let given = c.in-Ok.ensures.files in
-    let back = c.close.ensures in
-    subst ListsBooks (first_image old end c.args.files c.close.result given back)
-    (c.in-Err-open_old.ensures.listed
-    (told_already c.in-Err-open_old.fault c.close.result c.told_old.result.0
-    c.told_old.result.1 c.told_old.ensures.told is)
-    (end_honest old end c.args.files c.close.result given back
-    (c.told_old.ensures.clean clean)))
+-- Or the form was not read.
+pub returns-in-Err-clause-there : goal.returns-in-Err-clause-there
+returns-in-Err-clause-there g c clean =
+    let one = image_of g.D.Disk c.args.files in
+    let last = c.listed_form-form.result.1 in
+    told_so (HoldsSome one) (HoldsOldForm one) (λ old. (old_schema old.form, old.own.held))
+    c.in-Err.fault (subst (λ form. IfErr form (λ fault.
+    IsRefusedWithout g.D.Disk (HoldsSome one) fault last)) c.in-Err.is
+    c.listed_form-form.ensures.there clean)
 
-pub returns-in-Err-open_old-clause-unharmed : goal.returns-in-Err-open_old-clause-unharmed
-returns-in-Err-open_old-clause-unharmed g c clean =
-    let old = c.in-Ok.files in
-    let end = c.in-Err-open_old.files in
-    let given = c.in-Ok.ensures.files in
-    let back = c.close.ensures in
-    kept_still c.args.files c.close.result c.told_old.result.1 c.told_old.ensures.crash
-    (files_kept old end c.args.files c.close.result given back c.in-Ok.ensures.size
-    (c.in-Err-open_old.ensures.unharmed
-    (end_honest old end c.args.files c.close.result given back
-    (c.told_old.ensures.clean clean))))
+pub returns-in-Err-clause-this : goal.returns-in-Err-clause-this
+returns-in-Err-clause-this g c other clean =
+    let one = image_of g.D.Disk c.args.files in
+    let last = c.listed_form-form.result.1 in
+    told_so (HoldsSome one) (HoldsBooks one) (λ held. (books_schema, held))
+    c.in-Err.fault (subst (λ form. IfErr form (λ fault.
+    IsRefusedWithout g.D.Disk (HoldsSome one) fault last)) c.in-Err.is
+    c.listed_form-form.ensures.there clean)
+
+pub returns-in-Err-clause-listed : goal.returns-in-Err-clause-listed
+returns-in-Err-clause-listed g c is = absurd (let other = is in cc)
+
+pub returns-in-Err-clause-unharmed : goal.returns-in-Err-clause-unharmed
+returns-in-Err-clause-unharmed g c = c.listed_form-form.ensures.kept

@@ -7,21 +7,21 @@ use Rattle.book_trees.proofs.Opened.{holds_shown, lists_here, opens_twice, shows
 use Rattle.book_trees.proofs.Opened.{unlisted_none}
 use Rattle.book_trees.proofs.Refused.{old_error_told, never_already, unlisted_refused}
 use Rattle.book_trees.proofs.Trees.{has_old_trees}
-use Rattle.book_trees.specs.OldForms.{old_opening, HoldsOldForm}
+use Rattle.book_trees.specs.OldForms.{old_opening, HoldsForm}
 use Rattle.book_trees.specs.LedgerFiles.{HoldsBooks}
-use Rattle.book_trees.specs.Listing.{lists_books, lists_first_books}
+use Rattle.book_trees.specs.Listing.{lists_books, lists_old_books}
 use Rattle.book_trees.specs.Refusals.{IsToldWithout}
 use Rattle.book_trees.specs.declared.old_forms.OldFault.{OldFault}
-use Rattle.book_trees.proofs.old_forms.open_old.Goals as goal
+use Rattle.book_trees.proofs.old_forms.open_form.Goals as goal
 
--- files of the first form do not list the tables of this one
+-- files of an older form do not list the tables of this one
 pub returns-then-lists_books-clause-there : goal.returns-then-lists_books-clause-there
 returns-then-lists_books-clause-there g c clean first =
     let books : lists_books c.in-Ok.listed.items ≡ true =
     ap lists_books (sym c.as_slice.ensures.value) ∙ sym c.lists_books.ensures
     ∙ c.if-lists_books.true in
     held_old_only c.args.files c.read_catalog.new.self c.in-Ok.listed.items
-    (c.in-Ok.ensures.ok clean) c.requires.size first.held books
+    (c.in-Ok.ensures.ok clean) c.requires.size c.args.form first.held books
 
 -- files that are told to be of this form list the tables of books
 pub returns-then-lists_books-clause-listed : goal.returns-then-lists_books-clause-listed
@@ -35,22 +35,24 @@ pub returns-clause-listed : goal.returns-clause-listed
 returns-clause-listed g c is clean =
     absurd (never_already c.in-Err-open_numbered.error (sym c.old_fault.ensures ∙ is))
 
-pub returns-then-not-lists_first_books-clause-there :
-    goal.returns-then-not-lists_first_books-clause-there
-returns-then-not-lists_first_books-clause-there g c clean =
+pub returns-then-not-lists_old_books-clause-there :
+    goal.returns-then-not-lists_old_books-clause-there
+returns-then-not-lists_old_books-clause-there g c clean =
     let old = c.args.files in
     let mid = c.read_catalog.new.self in
     let rows = c.in-Ok.listed.items in
-    unlisted_refused (HoldsOldForm (image old)) lists_first_books rows c.as_slice-2.result.now
-    (λ first. held_old_listed old mid rows (c.in-Ok.ensures.ok clean) c.requires.size first.held)
+    unlisted_refused (HoldsForm c.args.form (image old)) (lists_old_books c.args.form) rows
+    c.as_slice-2.result.now
+    (λ first. held_old_listed old mid rows (c.in-Ok.ensures.ok clean) c.requires.size c.args.form
+    first.held)
     c.as_slice-2.ensures.value
-    (sym c.lists_first_books.ensures ∙ c.if-not-lists_first_books.true) _ _
+    (sym c.lists_old_books.ensures ∙ c.if-not-lists_old_books.true) _ _
     c.unlisted_fault.ensures
 
--- nor do files of this form list those of the first alone
-pub returns-then-not-lists_first_books-clause-this :
-    goal.returns-then-not-lists_first_books-clause-this
-returns-then-not-lists_first_books-clause-this g c other clean =
+-- nor do files of this form list those of an older one alone
+pub returns-then-not-lists_old_books-clause-this :
+    goal.returns-then-not-lists_old_books-clause-this
+returns-then-not-lists_old_books-clause-this g c other clean =
     let old = c.args.files in
     let mid = c.read_catalog.new.self in
     let rows = c.in-Ok.listed.items in
@@ -69,8 +71,8 @@ returns-in-Ok-open_numbered-clause-opened g c =
     record {
       ready = opened.ready;
       schema = schema;
-      trees = λ clean. has_old_trees c.in-Ok-open_numbered.store schema opened.ready.unaltered
-          opened.numbered (clean_of _ clean);
+      trees = λ clean. has_old_trees c.args.form c.in-Ok-open_numbered.store schema
+          opened.ready.unaltered opened.numbered (clean_of _ clean);
       size = λ clean. (opened.kept clean).size
           ∙ (c.read_catalog.ensures.kept (opened.honest clean)).size ∙ c.requires.size;
     }
@@ -111,6 +113,10 @@ returns-in-Ok-open_numbered-clause-kept g c clean =
     (c.in-Ok.ensures.ok then) c.requires.size (state c.in-Ok-open_numbered.store)
     (c.read_catalog.ensures.kept then) (c.in-Ok-open_numbered.ensures.kept clean)
 
+pub returns-clause-falls : goal.returns-clause-falls
+returns-clause-falls g c clean =
+    c.read_catalog.ensures.honest (c.in-Err-open_numbered.ensures.falls clean)
+
 pub returns-clause-unharmed : goal.returns-clause-unharmed
 returns-clause-unharmed g c clean =
     let then = c.in-Err-open_numbered.ensures.falls clean in
@@ -126,10 +132,11 @@ returns-clause-there g c clean =
     let end = c.in-Err-open_numbered.files in
     let size = (c.read_catalog.ensures.kept then).size ∙ c.requires.size in
     let schema = c.read_catalog.ensures.schema ∙ c.requires.schema in
-    subst (λ (fault : OldFault). IsToldWithout (HoldsOldForm (image old)) (old_opening fault))
+    subst (λ (fault : OldFault).
+    IsToldWithout (HoldsForm c.args.form (image old)) (old_opening fault))
     (sym c.old_fault.ensures)
     (old_error_told (state_of mid).faults (state_of end).faults (IsFullFile end)
-    (HasFileAs mid true) (HoldsOldForm (image old)) (λ first. held_ours old mid
+    (HasFileAs mid true) (HoldsForm c.args.form (image old)) (λ first. held_ours old mid
     c.in-Ok.listed.items (c.in-Ok.ensures.ok then) c.requires.size first.held first.numbered size
     schema) c.in-Err-open_numbered.error (c.in-Err-open_numbered.ensures.cause clean))
 
