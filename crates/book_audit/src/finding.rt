@@ -170,8 +170,8 @@ pub enum Wrong {
     ChoicePeriod,
     /// A choice's record is not held.
     NotHeld,
-    /// A choice's record is alone in its identity, which was never withheld, and no rule was adopted
-    /// since.
+    /// A choice's record is alone in its identity, which was never withheld, and no rule was
+    /// adopted since.
     ChosenAlone,
     /// The choice is not found by the record that it names.
     NoChoiceName,

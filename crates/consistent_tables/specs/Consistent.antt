@@ -53,10 +53,10 @@ abbrev pub is_counted_row : Tables → List ℕ × RecordRow → Bool
 is_counted_row tables entry =
     charged_back tables entry.0 (periods_after tables entry.1) entry.1.charged
 
--- A record's row: its name, its identity and its price are those of its bytes, and the price is what
--- one can be; it is charged if its work is not withheld, and it is alone in its identity or was named
--- last of it; its lines are in turn; and it is posted if it is dated in a closed period and was charged
--- before the open one.
+-- A record's row: its name, its identity and its price are those of its bytes, and the price is
+-- what one can be; it is charged if its work is not withheld, and it is alone in its identity or
+-- was named last of it; its lines are in turn; and it is posted if it is dated in a closed period
+-- and was charged before the open one.
 pub record IsOwnRow (naming : Naming) (tables : Tables) (name : List ℕ) (row : RecordRow) : Type 0
   where
     pub named : name ≡ name_of naming (row_record row)
@@ -101,9 +101,9 @@ pub record IsOwnReplaced (last : ℕ) (replaced : Replaced) : Type 0 where
 abbrev pub counted_entries : Tables → List (List ℕ × RecordRow)
 counted_entries tables = filter (is_counted_row tables) (entries tables.records)
 
--- All of it: tariffs, closes, choices, replaced tariffs and credits are rulings that could be made,
--- each record and each line is right by them, and what is kept beside the records is what follows from
--- these.
+-- All of it: tariffs, closes, choices, replaced tariffs and credits are rulings that could be
+-- made, each record and each line is right by them, and what is kept beside the records is what
+-- follows from these.
 pub record AreConsistent (naming : Naming) (tables : Tables) : Type 0 where
   pub texts : All IsTexted (ruled tables).tariffs
   pub tariffs : tariff_entries (ruled tables).tariffs ≡ entries tables.tariffs

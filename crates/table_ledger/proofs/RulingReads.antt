@@ -1,5 +1,5 @@
--- What stands in the list of rulings, by what is remembered and by the tables of choices, of replaced
--- tariffs and of credits.
+-- What stands in the list of rulings, by what is remembered and by the tables of choices, of
+-- replaced tariffs and of credits.
 use Rattle.std.proofs.Common.{◌≡◌, ◌∙◌, ◌+◌, ◌∷◌, [], ℕ, List, None, Option, Some, ap, arith, length}
 use Rattle.std.proofs.Common.{map, option_map, refl, slice_get, sym, unwrap_or, All, nat_cmp}
 use Rattle.std.proofs.lemmas.Option.{slice_get-map}

@@ -1,4 +1,5 @@
--- Which choice was the last of an identity, as an adoption remembers it, and what it does to a record.
+-- Which choice was the last of an identity, as an adoption remembers it, and what it does to a
+-- record.
 use Rattle.std.specs.Prelude.{◌≡◌, ℕ, ℤ, Bool, false, if◌then◌else◌, List, Option, Some, None}
 use Rattle.std.specs.Prelude.{filter, not}
 use Rattle.std.specs.BTreeMap.{get_by}
@@ -41,7 +42,8 @@ IsLastOf choices records chosen =
     ≡ last_or None (filter (λ (choice : StoredChoice). name_has_identity records identity choice.name)
     choices)
 
--- from all choices it is known of an identity which record was named last, and whether it is withheld
+-- from all choices it is known of an identity which record was named last, and whether it is
+-- withheld
 pub record IsLastIn (chosen : Chosen) (tables : Tables) (identity : List ℕ) : Type 0 where
   pub named : (name : List ℕ) → is_last chosen identity name
       ≡ option_map_or (same_bytes name) (last_named tables identity) false

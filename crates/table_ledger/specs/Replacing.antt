@@ -1,5 +1,5 @@
--- What records cost where a tariff takes the place of the one that begins on its first day, by their
--- rows; and what is known of the tables before it does.
+-- What records cost where a tariff takes the place of the one that begins on its first day, by
+-- their rows; and what is known of the tables before it does.
 use Rattle.std.specs.Prelude.{◌≡◌, ℕ, ℤ, List, Option, Some, None, find, if◌then◌else◌}
 use Rattle.std.specs.Prelude.{option_and_then, true}
 use Rattle.std.specs.FinMap.{get}

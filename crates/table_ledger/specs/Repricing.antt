@@ -24,8 +24,8 @@ CanCost terms row =
     int_lt row.priced.day terms.effective ≡ false
     → IsPriced (price_by terms (record_with row.data_bytes))
 
--- what all records cost together by such amounts, if the books can hold as much; and each of them can
--- cost so
+-- what all records cost together by such amounts, if the books can hold as much; and each of them
+-- can cost so
 pub record CostBy (amount : RecordRow → ℕ) (Can : RecordRow → Type 0) (tables : Tables)
     (found : Option ℕ) : Type 0 where
   pub cost : found ≡ if_room (sum_by amount (values tables.records))

@@ -62,8 +62,8 @@ fn has_most(count: u32) -> bool
     count as usize >= MAX_CREDITS
 }
 
-/// The answer to a credit by the rulings and by how many were given, where it was given and where it
-/// was not.
+/// The answer to a credit by the rulings and by how many were given, where it was given and where
+/// it was not.
 fn answer_to(
     rulings: &Rulings,
     count: u32,

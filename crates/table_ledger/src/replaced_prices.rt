@@ -1,5 +1,5 @@
-//! Records whose day has a tariff that another text takes the place of, and their new prices: one at
-//! a time, in walks over all records by name.
+//! Records whose day has a tariff that another text takes the place of, and their new prices: one
+//! at a time, in walks over all records by name.
 
 ghost use Rattle.std.specs.Prelude.{◌≡◌, ◌≤◌, IfOk, IfSome, find, option_copied, reverse, true};
 ghost use Rattle.book_model.specs.Rulings as ruling;
@@ -20,7 +20,10 @@ use tariff_rules::{Priced, Tariff, price};
 use tree_tables::{MOST_STEPS, StoredRecord, TreeTables, usage_bytes};
 
 /// The last of the tariffs that has begun on the day of a record.
-fn last_begun<'a>(tariffs: &'a [AcceptedTariff], stored: &StoredRecord) -> Option<&'a AcceptedTariff>
+fn last_begun<'a>(
+    tariffs: &'a [AcceptedTariff],
+    stored: &StoredRecord,
+) -> Option<&'a AcceptedTariff>
     ensures { option_copied result
         ≡ find (has_begun stored.now.priced.day) (reverse tariffs.now) }
 {

@@ -61,7 +61,11 @@ pub(crate) fn tariff_of(alloc: Global, text: &str) -> Result<Tariff, LedgerFault
 }
 
 /// Takes the memory that one more tariff needs: room for it, and its text.
-pub(crate) fn take_memory(rulings: &mut Rulings, alloc: Global, text: &str) -> Result<String, StoreError>
+pub(crate) fn take_memory(
+    rulings: &mut Rulings,
+    alloc: Global,
+    text: &str,
+) -> Result<String, StoreError>
     ensures same { ruled_in rulings.new ≡ ruled_in rulings.old }
     ensures room { OnOk result (HasTariffRoom rulings.new) }
     ensures own { IfOk result (λ own. string_bytes own ≡ text.now) }

@@ -76,8 +76,8 @@ fn withheld_answer(withheld: bool, made: u32) -> Result<Ruled, LedgerFault>
     Ok(Ruled::Done)
 }
 
-/// Answers the choice of none of the work of a record, by the name of that, and keeps it if the work
-/// is not withheld now.
+/// Answers the choice of none of the work of a record, by the name of that, and keeps it if the
+/// work is not withheld now.
 pub(crate) fn try_withhold<S: Store>(
     tables: &mut TreeTables<S>,
     alloc: Global,

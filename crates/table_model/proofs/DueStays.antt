@@ -148,8 +148,8 @@ withheld_stays period last is_due name tables identity =
     (step_leaves period last is_due name tables)
     ∙ sym (withheld_told tables identity)
 
--- Of some elements with one more after them: the last that passes a test is that one, if it does, and
--- otherwise the last of the others.
+-- Of some elements with one more after them: the last that passes a test is that one, if it does,
+-- and otherwise the last of the others.
 pub last_pushed : {X : Type 0} (own : X → Bool) (was : Option X) (xs : List X) (x : X)
     → last_or was (filter own (xs ++ x ∷ [])) ≡ cond (own x) (Some x) (last_or was (filter own xs))
 last_pushed {X} own was xs x =

@@ -52,9 +52,11 @@ returns-in_err-commit_written g c = record {
       λ naming.
       let day = dated c.tariff.view_is c.tariff.invariant in
       let same = c.in_ok-own.ensures.same in
-      let again = c.tariffs-tariffs.ensures ∙ ap (λ (rulings : Rulings). rulings.tariffs) same ∙ sym c.tariffs.ensures in
+      let again = c.tariffs-tariffs.ensures
+      ∙ ap (λ (rulings : Rulings). rulings.tariffs) same ∙ sym c.tariffs.ensures in
       let begun = ap (text_begun c.args.tariff.effective)
-      (sym (c.tariffs-2.ensures ∙ ap (λ (rulings : Rulings). rulings.tariffs) same ∙ sym c.tariffs.ensures))
+      (sym (c.tariffs-2.ensures ∙ ap (λ (rulings : Rulings). rulings.tariffs) same
+      ∙ sym c.tariffs.ensures))
       ∙ c.in_ok-was.ensures ∙ ap Some (sym c.as_str.ensures.value) in
       uncommitted g.S.Store _ _ c.from_residual-in_err-commit_written.ensures.0
       (stage_steps _ (saw_found (rw c.in-Some.is at c.in_ok-amount.ensures.looks))
@@ -75,9 +77,11 @@ returns g c = record {
       let terms = c.args.tariff in
       let day = dated c.tariff.view_is c.tariff.invariant in
       let same = c.in_ok-own.ensures.same in
-      let again = c.tariffs-tariffs.ensures ∙ ap (λ (rulings : Rulings). rulings.tariffs) same ∙ sym c.tariffs.ensures in
+      let again = c.tariffs-tariffs.ensures
+      ∙ ap (λ (rulings : Rulings). rulings.tariffs) same ∙ sym c.tariffs.ensures in
       let begun = ap (text_begun c.args.tariff.effective)
-      (sym (c.tariffs-2.ensures ∙ ap (λ (rulings : Rulings). rulings.tariffs) same ∙ sym c.tariffs.ensures))
+      (sym (c.tariffs-2.ensures ∙ ap (λ (rulings : Rulings). rulings.tariffs) same
+      ∙ sym c.tariffs.ensures))
       ∙ c.in_ok-was.ensures ∙ ap Some (sym c.as_str.ensures.value) in
       committed g.S.Store
       (stage_steps _ (saw_found (rw c.in-Some.is at c.in_ok-amount.ensures.looks))
