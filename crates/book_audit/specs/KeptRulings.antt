@@ -1,5 +1,6 @@
 -- The credits, and the tariffs that were replaced, one after the other.
 use Rattle.std.specs.Prelude.{◌≡◌, ◌+◌, ◌<◌, ◌≤◌, ℕ, List, length, map}
+use Rattle.sqlite_trees.specs.Tree.{Trees}
 use Rattle.sqlite_value.specs.Order.{Row}
 use Rattle.book_model.specs.Std.{AllByRecursion}
 use Rattle.book_model.specs.Words.{Credit, Replaced, most_credits, most_replaced}
@@ -43,3 +44,8 @@ pub record AreReplaced (last : ℕ) (rows : List Row) : Type 0 where
   pub are : rows ≡ replaced_rows replaced
   pub own : AllByRecursion (IsOwnReplaced last) replaced
   pub few : length replaced ≤ most_replaced
+
+-- both trees are those of such rulings
+pub record AreKept (last : ℕ) (trees : Trees) : Type 0 where
+  pub replaced : AreReplaced last (trees 12)
+  pub credits : AreCredits last (trees 11)
