@@ -102,11 +102,15 @@ all_put P new (row ∷ rows) one all =
 same : (n : ℕ) → (n == n) ≡ true
 same n = grind (arith, nat_tests)
 
-low : (tree : ℕ) → tree < tree_count → (tree == catalog_tree) ≡ false
-low tree small = grind (arith, nat_tests, small)
-
 apart : (tree other : ℕ) → tree ≢ other → (tree == other) ≡ false
 apart tree other differs = grind (arith, nat_tests, differs)
+
+low : (tree : ℕ) → tree < tree_count → (tree == catalog_tree) ≡ false
+low tree small = apart tree catalog_tree (λ is. absurd (omega (arith, small, is)))
+
+differs_from : (tree other : ℕ) → (tree == other) ≡ false → tree ≢ other
+differs_from tree other not_so is =
+    true≢false (sym (ap (λ (n : ℕ). n == other) is ∙ same other) ∙ not_so)
 
 -- ---- an object of a table
 
@@ -229,10 +233,11 @@ details_made object is before now creates old first =
             subst (λ (tree : ℕ). now.shape tree ≡ Index plain) (sym ten)
             (shape_own (codes "detail") detail_text object is 10 before now creates)
         | inr other ↦
-            let differs : tree ≢ 10 = grind (arith, nat_tests, other) in
-            shape_other (codes "detail") detail_text object is 10 before now creates tree differs
+            let below : tree < 10 = grind (arith, nat_tests) in
+            shape_other (codes "detail") detail_text object is 10 before now creates tree
+            (differs_from tree 10 other)
             ∙ old.shapes tree (subst (λ (form : OlderForm). tree < table_count form) (sym form)
-            (grind (arith, nat_tests, small, other)))
+            below)
       ];
       absent = λ tree past small.
           shape_other (codes "detail") detail_text object is 10 before now creates tree
@@ -351,9 +356,9 @@ module _ (name sql : List ℕ) (object : Object) (is : wanted_of object ≡ tabl
             subst (λ (tree : ℕ). new.shape tree ≡ Index plain) (sym own)
             (shape_own name sql object is count old new creates)
         | inr other ↦
-            let differs : tree ≢ count = grind (arith, nat_tests, other) in
-            shape_other name sql object is count old new creates tree differs
-            ∙ grown.shapes tree (omega (arith, within, differs))
+            let below : tree < count = grind (arith, nat_tests) in
+            shape_other name sql object is count old new creates tree
+            (differs_from tree count other) ∙ grown.shapes tree below
       ];
       absent = λ tree past low.
           shape_other name sql object is count old new creates tree
@@ -374,11 +379,10 @@ module _ (name sql : List ℕ) (object : Object) (is : wanted_of object ≡ tabl
             subst (λ (tree : ℕ). new.trees tree ≡ []) (sym own)
             (rows_own name sql object is count old new creates small)
         | inr other ↦
-            let differs : tree ≢ count = grind (arith, nat_tests, other) in
-            let before : tree < count = omega (arith, within, differs) in
+            let below : tree < count = grind (arith, nat_tests) in
             rows_other name sql object is count old new creates tree
-            (omega (arith, before, small)) differs
-            ∙ grown.empty tree past before
+            (omega (arith, below, small)) (differs_from tree count other)
+            ∙ grown.empty tree past below
       ];
       committed = ap (λ (v : View). v.committed) creates.is ∙ grown.committed;
       is_open = ap (λ (v : View). v.is_open) creates.is ∙ grown.is_open;
