@@ -243,8 +243,8 @@ details_made object is before now creates old first =
           shape_other (codes "detail") detail_text object is 10 before now creates tree
           (λ is. absurd (omega (arith, past, is)))
           ∙ old.none tree (let few = few_tables old.form in omega (arith, few, past)) small;
-      plain = reals_other (codes "detail") detail_text object is 10 before now creates 8
-          (λ is. absurd (cc)) ∙ old.plain;
+      no_floats = reals_other (codes "detail") detail_text object is 10 before now creates 8
+          (λ is. absurd (cc)) ∙ old.no_floats;
       credit_free = λ within. still_free (codes "detail") detail_text object is 10 before now creates
           (codes "credit") (other_name (codes "credit") refl (Text (codes "detail")) refl)
           (credit_free before old);
@@ -276,7 +276,7 @@ details_there view old second =
           (subst (λ (form : OlderForm). tree < table_count form) (sym form) small);
       absent = λ tree past small.
           old.none tree (let few = few_tables old.form in omega (arith, few, past)) small;
-      plain = old.plain;
+      no_floats = old.no_floats;
       credit_free = λ within. credit_free view old;
       replaced_free = λ within. replaced_free view old;
       trees = λ tree small. refl;
@@ -300,7 +300,7 @@ may_list_choices object is form before view grown = record {
   present = λ absent. absurd (let there = shape_is (codes "choice") choice_text object is in cc);
   thawed = ap is_frozen (shape_is (codes "choice") choice_text object is);
   typed = λ c differs. absurd (differs (ap (λ (n : ℕ). bit_at n c)
-      (grown.plain ∙ sym (reals_is (codes "choice") choice_text object is))));
+      (grown.no_floats ∙ sym (reals_is (codes "choice") choice_text object is))));
 }
 
 -- and all is as it was
@@ -326,7 +326,7 @@ choices_listed object is old new lists form before grown =
       shapes = λ tree small. ap (λ (s : ℕ → Shape). s tree) shape ∙ grown.shapes tree small;
       absent = λ tree past small.
           ap (λ (s : ℕ → Shape). s tree) shape ∙ grown.absent tree past small;
-      plain = ap (λ (v : View). v.reals 8) lists.is
+      no_floats = ap (λ (v : View). v.reals 8) lists.is
           ∙ reals_is (codes "choice") choice_text object is;
       credit_free = λ within. free (codes "credit")
           (other_name (codes "credit") refl (Text (codes "choice")) refl) (grown.credit_free within);
@@ -364,8 +364,8 @@ module _ (name sql : List ℕ) (object : Object) (is : wanted_of object ≡ tabl
           shape_other name sql object is count old new creates tree
           (λ is. absurd (omega (arith, past, is)))
           ∙ grown.absent tree (omega (arith, past)) low;
-      plain = reals_other name sql object is count old new creates 8
-          (λ is. absurd (omega (arith, few, is))) ∙ grown.plain;
+      no_floats = reals_other name sql object is count old new creates 8
+          (λ is. absurd (omega (arith, few, is))) ∙ grown.no_floats;
       credit_free = credit;
       replaced_free = replaced;
       trees = λ tree within.
