@@ -1,4 +1,4 @@
--- The lemmas: the trees of books; the list that a sound file has, and that of the first form; what is
+-- The lemmas: the trees of books; the list that a sound file has, and those of older forms; what is
 -- told of refused files; what the state of a store says of its files; what refused files say; files
 -- that hold no database yet; files that a ledger left, and what an open shows of them; that books
 -- can be made; what a store over books leaves; logs of which recovery takes nothing; files that were

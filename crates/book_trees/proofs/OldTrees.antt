@@ -102,11 +102,15 @@ all_put P new (row ∷ rows) one all =
 same : (n : ℕ) → (n == n) ≡ true
 same n = grind (arith, nat_tests)
 
-low : (tree : ℕ) → tree < tree_count → (tree == catalog_tree) ≡ false
-low tree small = grind (arith, nat_tests, small)
-
 apart : (tree other : ℕ) → tree ≢ other → (tree == other) ≡ false
 apart tree other differs = grind (arith, nat_tests, differs)
+
+low : (tree : ℕ) → tree < tree_count → (tree == catalog_tree) ≡ false
+low tree small = apart tree catalog_tree (λ is. absurd (omega (arith, small, is)))
+
+differs_from : (tree other : ℕ) → (tree == other) ≡ false → tree ≢ other
+differs_from tree other not_so is =
+    true≢false (sym (ap (λ (n : ℕ). n == other) is ∙ same other) ∙ not_so)
 
 -- ---- an object of a table
 
@@ -229,17 +233,18 @@ details_made object is before now creates old first =
             subst (λ (tree : ℕ). now.shape tree ≡ Index plain) (sym ten)
             (shape_own (codes "detail") detail_text object is 10 before now creates)
         | inr other ↦
-            let differs : tree ≢ 10 = grind (arith, nat_tests, other) in
-            shape_other (codes "detail") detail_text object is 10 before now creates tree differs
+            let below : tree < 10 = grind (arith, nat_tests) in
+            shape_other (codes "detail") detail_text object is 10 before now creates tree
+            (differs_from tree 10 other)
             ∙ old.shapes tree (subst (λ (form : OlderForm). tree < table_count form) (sym form)
-            (grind (arith, nat_tests, small, other)))
+            below)
       ];
       absent = λ tree past small.
           shape_other (codes "detail") detail_text object is 10 before now creates tree
           (λ is. absurd (omega (arith, past, is)))
           ∙ old.none tree (let few = few_tables old.form in omega (arith, few, past)) small;
-      plain = reals_other (codes "detail") detail_text object is 10 before now creates 8
-          (λ is. absurd (cc)) ∙ old.plain;
+      no_floats = reals_other (codes "detail") detail_text object is 10 before now creates 8
+          (λ is. absurd (cc)) ∙ old.no_floats;
       credit_free = λ within. still_free (codes "detail") detail_text object is 10 before now creates
           (codes "credit") (other_name (codes "credit") refl (Text (codes "detail")) refl)
           (credit_free before old);
@@ -271,7 +276,7 @@ details_there view old second =
           (subst (λ (form : OlderForm). tree < table_count form) (sym form) small);
       absent = λ tree past small.
           old.none tree (let few = few_tables old.form in omega (arith, few, past)) small;
-      plain = old.plain;
+      no_floats = old.no_floats;
       credit_free = λ within. credit_free view old;
       replaced_free = λ within. replaced_free view old;
       trees = λ tree small. refl;
@@ -295,7 +300,7 @@ may_list_choices object is form before view grown = record {
   present = λ absent. absurd (let there = shape_is (codes "choice") choice_text object is in cc);
   thawed = ap is_frozen (shape_is (codes "choice") choice_text object is);
   typed = λ c differs. absurd (differs (ap (λ (n : ℕ). bit_at n c)
-      (grown.plain ∙ sym (reals_is (codes "choice") choice_text object is))));
+      (grown.no_floats ∙ sym (reals_is (codes "choice") choice_text object is))));
 }
 
 -- and all is as it was
@@ -321,7 +326,7 @@ choices_listed object is old new lists form before grown =
       shapes = λ tree small. ap (λ (s : ℕ → Shape). s tree) shape ∙ grown.shapes tree small;
       absent = λ tree past small.
           ap (λ (s : ℕ → Shape). s tree) shape ∙ grown.absent tree past small;
-      plain = ap (λ (v : View). v.reals 8) lists.is
+      no_floats = ap (λ (v : View). v.reals 8) lists.is
           ∙ reals_is (codes "choice") choice_text object is;
       credit_free = λ within. free (codes "credit")
           (other_name (codes "credit") refl (Text (codes "choice")) refl) (grown.credit_free within);
@@ -351,16 +356,16 @@ module _ (name sql : List ℕ) (object : Object) (is : wanted_of object ≡ tabl
             subst (λ (tree : ℕ). new.shape tree ≡ Index plain) (sym own)
             (shape_own name sql object is count old new creates)
         | inr other ↦
-            let differs : tree ≢ count = grind (arith, nat_tests, other) in
-            shape_other name sql object is count old new creates tree differs
-            ∙ grown.shapes tree (omega (arith, within, differs))
+            let below : tree < count = grind (arith, nat_tests) in
+            shape_other name sql object is count old new creates tree
+            (differs_from tree count other) ∙ grown.shapes tree below
       ];
       absent = λ tree past low.
           shape_other name sql object is count old new creates tree
           (λ is. absurd (omega (arith, past, is)))
           ∙ grown.absent tree (omega (arith, past)) low;
-      plain = reals_other name sql object is count old new creates 8
-          (λ is. absurd (omega (arith, few, is))) ∙ grown.plain;
+      no_floats = reals_other name sql object is count old new creates 8
+          (λ is. absurd (omega (arith, few, is))) ∙ grown.no_floats;
       credit_free = credit;
       replaced_free = replaced;
       trees = λ tree within.
@@ -374,11 +379,10 @@ module _ (name sql : List ℕ) (object : Object) (is : wanted_of object ≡ tabl
             subst (λ (tree : ℕ). new.trees tree ≡ []) (sym own)
             (rows_own name sql object is count old new creates small)
         | inr other ↦
-            let differs : tree ≢ count = grind (arith, nat_tests, other) in
-            let before : tree < count = omega (arith, within, differs) in
+            let below : tree < count = grind (arith, nat_tests) in
             rows_other name sql object is count old new creates tree
-            (omega (arith, before, small)) differs
-            ∙ grown.empty tree past before
+            (omega (arith, below, small)) (differs_from tree count other)
+            ∙ grown.empty tree past below
       ];
       committed = ap (λ (v : View). v.committed) creates.is ∙ grown.committed;
       is_open = ap (λ (v : View). v.is_open) creates.is ∙ grown.is_open;

@@ -199,6 +199,6 @@ has_old_trees form store schema unaltered numbered clean =
       listed = rows ∙ ap (listed_from 0) schema;
       shapes = λ tree small. ap (λ s. all_shapes s tree) schema ∙ (old_tree form tree small).shape;
       none = λ tree past small. ap (λ s. all_shapes s tree) schema ∙ old_only form tree past small;
-      plain = ap (λ s. all_reals s 8) schema ∙ old_plain form;
+      no_floats = ap (λ s. all_reals s 8) schema ∙ old_plain form;
       settled = ap all_shapes kept;
     }

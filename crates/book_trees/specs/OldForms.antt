@@ -112,7 +112,7 @@ pub record HasOldTrees (view : View) : Type 0 where
   pub listed : view.trees catalog_tree ≡ listed_from 0 (old_schema form)
   pub shapes : (tree : ℕ) → tree < table_count form → view.shape tree ≡ Index plain
   pub none : (tree : ℕ) → table_count form ≤ tree → tree < tree_count → view.shape tree ≡ Absent
-  pub plain : view.reals 8 ≡ 0
+  pub no_floats : view.reals 8 ≡ 0
   pub settled : view.committed_shape ≡ view.shape
 
 -- A store of books of an older form is open.
@@ -141,7 +141,7 @@ pub record HasGrown (count : ℕ) (form : OlderForm) (before now : View) : Type 
   pub numbered : IsTrue now.is_numbered
   pub shapes : (tree : ℕ) → tree < count → now.shape tree ≡ Index plain
   pub absent : (tree : ℕ) → count ≤ tree → tree < tree_count → now.shape tree ≡ Absent
-  pub plain : now.reals 8 ≡ 0
+  pub no_floats : now.reals 8 ≡ 0
   pub credit_free : count ≤ 11 → IsFree (codes "credit") now
   pub replaced_free : count ≤ 12 → IsFree (codes "replaced") now
   pub trees : (tree : ℕ) → tree < table_count form → now.trees tree ≡ before.trees tree
