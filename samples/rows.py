@@ -147,7 +147,7 @@ class Tables:
 
     def audit(self):
         yield "SOUND"
-        yield "FORM 2"
+        yield "FORM 3"
         for word, rows in (("RECORDS", self.marks()), ("TARIFFS", self.books.tariffs), ("CLOSES", self.closed()),
                            ("CHOICES", self.choices()), ("ROWS", self.rows()), ("LINES", self.lines())):
             yield "%s %d" % (word, len(list(rows)))
