@@ -8,7 +8,8 @@ use Rattle.streams.specs.InputOutput.{ReaderSeen, Input}
 use Rattle.book_model.specs.declared.answer.Ruled as ruled
 use Rattle.book_model.specs.declared.fault.LedgerFault.{LedgerFault}
 use Rattle.book_model.specs.Words.{AdoptionAsked, Book, ChoiceAsked, CloseAsked, MayBeAsked, Naming}
-use Rattle.book_model.specs.Words.{Outcome, RulingAsked, TariffAsked, rule_outcome}
+use Rattle.book_model.specs.Words.{Outcome, RulingAsked, TariffAsked, rule_outcome, CreditAsked}
+use Rattle.book_model.specs.Words.{ReplacementAsked, WithholdingAsked}
 use Rattle.book_core.specs.Calls.{Calls}
 use Rattle.book_core.specs.Transition.{Transition, IsTransition}
 use Rattle.book_core.specs.Ledgers.{Books}
@@ -65,8 +66,13 @@ ruling_of (owned.Tariff text) = TariffAsked (string_bytes text)
 ruling_of (owned.Close period through) = CloseAsked period through
 ruling_of (owned.Choose name) = ChoiceAsked name
 ruling_of (owned.Adopt rule) = AdoptionAsked rule
+ruling_of (owned.Replace text) = ReplacementAsked (string_bytes text)
+ruling_of (owned.Withhold name) = WithholdingAsked name
+ruling_of (owned.Credit period centre amount reason) =
+    CreditAsked period centre amount (string_bytes reason)
 
--- What may be asked with a reader that has not been asked yet: a close is through a day.
+-- What may be asked with a reader that has not been asked yet: a close is through a day, and a credit
+-- is within the limits.
 abbrev pub IsAskableUnread : Asked → Type 0
 IsAskableUnread (Rule ruling) = MayBeAsked (ruling_of ruling)
 IsAskableUnread asked = Unit {0}
