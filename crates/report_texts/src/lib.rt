@@ -39,8 +39,8 @@ pub use charges::{
     CentreCharges, Charges, OfficeCharges, bill_charges, office_charges, push_owed,
 };
 pub use columns::{
-    push_amount, push_blanks, push_count, push_left, push_number, push_right_aligned, push_seconds,
-    seconds_text,
+    push_amount, push_blanks, push_count, push_credit_amount, push_left, push_number,
+    push_right_aligned, push_seconds, seconds_text,
 };
 pub use detail_lists::{detail_head, detail_total, push_detail_line};
 pub use detail_tables::{detail_row, detail_table_head};
