@@ -17,6 +17,7 @@ pub mod BillLineLemmas
 pub mod ShiftLemmas
 pub mod KeptTariffLemmas
 pub mod KnownCentreLemmas
+pub mod BillCreditLemmas
 pub mod BillLemmas
 pub mod FocusLemmas
 pub mod SystemLemmas

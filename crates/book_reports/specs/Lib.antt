@@ -13,6 +13,7 @@ pub mod BillLines
 pub mod PeriodDays
 pub mod HeldBack
 pub mod BillTariffs
+pub mod BillCredits
 pub mod KnownCentres
 pub mod Bills
 pub mod BillPages

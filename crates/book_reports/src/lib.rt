@@ -2,6 +2,7 @@
 //! what a writer gains from them.
 #![tactic(auto)]
 
+mod bill_credits;
 mod bill_lines;
 mod bill_page_reports;
 mod bill_shifts;
