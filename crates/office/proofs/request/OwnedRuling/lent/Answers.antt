@@ -1,4 +1,5 @@
-use Rattle.std.proofs.Common.{ap}
+use Rattle.std.proofs.Common.{FitsSigned, ap, rules, w64}
+use Rattle.book_model.proofs.Std.{to_z-of_z}
 use Rattle.book_model.specs.Words.{CreditAsked, ReplacementAsked, TariffAsked}
 use Rattle.office.proofs.request.OwnedRuling.lent.Goals as goal
 
@@ -11,4 +12,8 @@ returns-in-Replace c =
 
 pub returns-in-Credit : goal.returns-in-Credit
 returns-in-Credit c =
-    rw c.in-Credit.is (ap (CreditAsked _ _ _) c.as_str-in-Credit.ensures.value)
+    let amount = c.in-Credit.amount in
+    let fits : FitsSigned w64 amount = search rules in
+    rw c.in-Credit.is
+    (λ i. CreditAsked c.in-Credit.period c.in-Credit.centre (to_z-of_z w64 amount fits i)
+    (c.as_str-in-Credit.ensures.value i))
