@@ -9,6 +9,7 @@ pub mod DetailLemmas
 pub mod DetailLengths
 pub mod TariffLemmas
 pub mod WhatIfLemmas
+pub mod NextTariffLemmas
 pub mod FigureLemmas
 pub mod RecordNameLemmas
 pub mod DetailSums

@@ -25,6 +25,7 @@ pub mod Coverage
 pub mod Pages
 pub mod BookTexts
 pub mod WhatIfTexts
+pub mod NextTariffs
 pub mod Figures
 pub mod Reports
 pub mod StreamedRulings

@@ -19,6 +19,7 @@ mod focus_days;
 mod focus_reports;
 mod held_back;
 mod known_centres;
+mod next_tariffs;
 mod pages;
 mod period_days;
 mod receipt_lines;
