@@ -144,13 +144,20 @@ pub record AsksReport (name : Text) (rows : List Row) (asked : ReportAsked) : Ty
 abbrev pub IsRuling : Text → List Row → Ruling → Type 0
 IsRuling name rows (ruling.Tariff file) =
     (name ≡ codes "tariff") × IsText rows (codes "file") file
+    × IsFlag rows (codes "replace") false
 IsRuling name rows (ruling.Close period date) =
     (name ≡ codes "close") × IsPeriod rows period
     × IsText rows (codes "date") date
 IsRuling name rows (ruling.Choose digest) =
     (name ≡ codes "choose") × IsText rows (codes "sha256") digest
-    × IsLeftOut rows (codes "from")
+    × IsLeftOut rows (codes "from") × IsFlag rows (codes "none") false
 IsRuling name rows ruling.Adopt = name ≡ codes "adopt"
+IsRuling name rows (ruling.Replace file) =
+    (name ≡ codes "tariff") × IsText rows (codes "file") file
+    × IsFlag rows (codes "replace") true
+IsRuling name rows (ruling.Withhold digest) =
+    (name ≡ codes "choose") × IsText rows (codes "sha256") digest
+    × IsLeftOut rows (codes "from") × IsFlag rows (codes "none") true
 
 -- whether only what would change is asked for
 abbrev pub IsDryRun : List Row → Bool → Type 0
@@ -160,6 +167,7 @@ IsDryRun rows value = IsFlag rows (codes "dry-run") value
 abbrev pub IsNear : List Row → Ruling → Bool → Type 0
 IsNear rows (ruling.Tariff file) value = IsFlag rows (codes "near") value
 IsNear rows (ruling.Close period date) value = IsFlag rows (codes "near") value
+IsNear rows (ruling.Replace file) value = IsFlag rows (codes "near") value
 IsNear rows other value = value ≡ false
 
 -- what is asked of books
@@ -172,10 +180,10 @@ IsOfBooks name rows (book.RuleNear ruled) =
 IsOfBooks name rows (book.Import dump) = (name ≡ codes "import") × IsDump rows dump
 IsOfBooks name rows (book.ChooseListed file) =
     (name ≡ codes "choose") × IsLeftOut rows (codes "sha256")
-    × IsText rows (codes "from") file × IsDryRun rows false
+    × IsText rows (codes "from") file × IsFlag rows (codes "none") false × IsDryRun rows false
 IsOfBooks name rows (book.TryListed file) =
     (name ≡ codes "choose") × IsLeftOut rows (codes "sha256")
-    × IsText rows (codes "from") file × IsDryRun rows true
+    × IsText rows (codes "from") file × IsFlag rows (codes "none") false × IsDryRun rows true
 IsOfBooks name rows (book.DryRun ruled) = IsRuling name rows ruled × IsDryRun rows true
 IsOfBooks name rows (book.Report asked) =
     AsksReport name rows asked × ((reports.row_of asked.name).streamed ≡ false)
@@ -234,7 +242,8 @@ abbrev pub IsUnclear : Text → List Row → Unclear → Type 0
 IsUnclear name rows unclear.Choice =
     (name ≡ codes "choose")
     × ((IsGiven rows (codes "sha256") × IsGiven rows (codes "from"))
-    ⊎ (IsLeftOut rows (codes "sha256") × IsLeftOut rows (codes "from")))
+    ⊎ ((IsLeftOut rows (codes "sha256") × IsLeftOut rows (codes "from"))
+    ⊎ (IsGiven rows (codes "from") × IsFlag rows (codes "none") true)))
 IsUnclear name rows unclear.Prices =
     (name ≡ codes "trial") × IsGiven rows (codes "tariff") × NamesRate rows
 IsUnclear name rows unclear.Period = has_plain_period rows ≡ false

@@ -50,7 +50,8 @@ pub struct DumpFile<'a> {
 /// Words that do not say what is asked, alone or together.
 #[derive(Clone, Copy)]
 pub enum Unclear {
-    /// Which records are chosen: a name and a list of names are given, or neither.
+    /// Which records are chosen: a name and a list of names are given, or neither, or none of the
+    /// work of each of a list.
     Choice,
     /// What a trial prices by: a tariff and a rate are given.
     Prices,
@@ -80,6 +81,16 @@ pub enum Ruling<'a> {
     },
     /// Identity rule 2 adopted for good.
     Adopt,
+    /// A tariff file submitted in the place of the tariff that begins on its first day.
+    Replace {
+        /// The path of the tariff.
+        file: &'a str,
+    },
+    /// None chosen of the work of a record.
+    Withhold {
+        /// Its name, as 64 hexadecimal digits.
+        name: &'a str,
+    },
 }
 
 /// The words that name a period, of the whole office or of one centre.
