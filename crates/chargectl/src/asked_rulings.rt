@@ -64,8 +64,8 @@ fn asked_replacement<S: Repository, F: Inputs>(
         ((S.shelf repository.now).refuses book.now) result }
 {
     repository.expect(book)?;
-    let text = tariff_text(alloc, inputs, file)?;
-    Ok(Asked::Rule(OwnedRuling::Replace(text)))
+    let replacement = tariff_text(alloc, inputs, file)?;
+    Ok(Asked::Rule(OwnedRuling::Replace(replacement)))
 }
 
 /// What is asked for a close.

@@ -4,9 +4,9 @@ use Rattle.command_line.specs.declared.request.Ruling.TheVariants as ruling
 use Rattle.chargectl.proofs.DryRunLemmas.{none_asked}
 use Rattle.chargectl.proofs.asked_rulings.asked_replacement.Goals as goal
 
-pub returns-in_err-text : goal.returns-in_err-text
-returns-in_err-text g c =
+pub returns-in_err-replacement : goal.returns-in_err-replacement
+returns-in_err-replacement g c =
     none_asked (g.F.Inputs.held c.args.inputs.now) (book.Rule (ruling.Replace c.args.file))
     ((g.S.Repository.shelf c.args.repository.now).refuses c.args.book.now)
-    c.from_residual-in_err-text.result c.in_err-text.field-0.0 c.from_residual-in_err-text.ensures.0
-    c.from_residual-in_err-text.ensures.1 (inr c.in_err-text.ensures)
+    c.from_residual-in_err-replacement.result c.in_err-replacement.field-0.0 c.from_residual-in_err-replacement.ensures.0
+    c.from_residual-in_err-replacement.ensures.1 (inr c.in_err-replacement.ensures)
