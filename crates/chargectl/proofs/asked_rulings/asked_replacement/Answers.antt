@@ -6,7 +6,8 @@ use Rattle.chargectl.proofs.asked_rulings.asked_replacement.Goals as goal
 
 pub returns-in_err-replacement : goal.returns-in_err-replacement
 returns-in_err-replacement g c =
+    let exit = c.from_residual-in_err-replacement in
     none_asked (g.F.Inputs.held c.args.inputs.now) (book.Rule (ruling.Replace c.args.file))
     ((g.S.Repository.shelf c.args.repository.now).refuses c.args.book.now)
-    c.from_residual-in_err-replacement.result c.in_err-replacement.field-0.0 c.from_residual-in_err-replacement.ensures.0
-    c.from_residual-in_err-replacement.ensures.1 (inr c.in_err-replacement.ensures)
+    exit.result c.in_err-replacement.field-0.0 exit.ensures.0 exit.ensures.1
+    (inr c.in_err-replacement.ensures)
