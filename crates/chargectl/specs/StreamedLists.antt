@@ -8,6 +8,7 @@ use Rattle.book_model.specs.Words.{AreMadeOf, Book, Naming}
 use Rattle.book_core.specs.Words.{MakesAnswered}
 use Rattle.book_lists.specs.declared.fault.ReportFault.{ReportFault}
 use Rattle.book_lists.specs.declared.fault.ReportFault.TheVariants.{Write}
+use Rattle.book_lists.specs.Streamed.{WritesAnswerUntil}
 use Rattle.book_lists.specs.Writing.{is_write_fault}
 use Rattle.book_reports.specs.declared.what_if.StatementForm.{StatementForm}
 use Rattle.book_reports.specs.BookTexts.{ruling_text}

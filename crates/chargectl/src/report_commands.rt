@@ -40,8 +40,10 @@ pub(crate) fn report<S: Repository>(
 fn report_of(asked: ReportAsked<'_>) -> Option<Report>
     ensures { result ≡ spec.report_of asked.entry }
 {
-    let about = about_of(asked.words)?;
-    report_about(asked.name, asked.form, about)
+    match about_of(asked.words) {
+        Some(about) => report_about(asked.name, asked.form, about),
+        None => None,
+    }
 }
 
 /// What the words say that a report is about. `None`: one of them is not what it has to be.

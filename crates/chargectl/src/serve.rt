@@ -127,8 +127,9 @@ fn serve_here<S: Repository, O: Writer + Drop>(
 
 /// Answers the connections that are left, one after the other, and writes a line for each: at once, or
 /// once the books are closed from which others were answered too. A line that can't be written is
-/// lost, and so are those after it; the connections are answered all the same. An error means that a connection did not come; what was asked of the books till then is
-/// done. Whether a log is left beside them is handed on.
+/// lost, and so are those after it; the connections are answered all the same. An error means that a
+/// connection did not come; what was asked of the books till then is done. Whether a log is left
+/// beside them is handed on.
 pub fn serve_each<C: Connections, S: Repository, O: Writer + Drop>(
     connections: &mut C,
     repository: &mut S,

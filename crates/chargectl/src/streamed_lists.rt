@@ -57,8 +57,10 @@ fn list_about(name: ReportName, form: StatementForm, about: About) -> Option<Str
 fn list_of(asked: ReportAsked<'_>) -> Option<StreamedList>
     ensures { result ≡ spec.list_of asked.entry }
 {
-    let about = about_of(asked.words)?;
-    list_about(asked.name, asked.form, about)
+    match about_of(asked.words) {
+        Some(about) => list_about(asked.name, asked.form, about),
+        None => None,
+    }
 }
 
 /// The list on its way to the output.

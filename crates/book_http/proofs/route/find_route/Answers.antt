@@ -13,7 +13,7 @@ returns-in-Some-clause-finds c asked it =
     let value : c.route_at.result ≡ spec.route (spec.path_of c.args.target.now) = search rules in
     value ∙ path_found (spec.path_of c.args.target.now) asked it
 
-pub returns-clause-finds : goal.returns-clause-finds
-returns-clause-finds c asked it =
+pub returns-in-None-clause-finds : goal.returns-in-None-clause-finds
+returns-in-None-clause-finds c asked it =
     let value : None ≡ spec.route (spec.path_of c.args.target.now) = search rules in
     value ∙ path_found (spec.path_of c.args.target.now) asked it

@@ -29,8 +29,8 @@ returns-in-Ok g c =
     c.into_inner.ensures.holds c.has_failed.ensures c.into_inner.ensures.cause
     (rw c.told_end-came.ensures at c.ended.ensures) each.ensures.log
 
-pub returns-in-Err : goal.returns-in-Err
-returns-in-Err g c =
+pub returns : goal.returns
+returns g c =
     let contents = g.O.Write.contents in
     let seen = seen_of contents in
     let each = c.serve_each-answered in
