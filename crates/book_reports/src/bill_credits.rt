@@ -88,13 +88,11 @@ fn push_found(credits: &mut Vec<Credit>, found: Option<Credit>) -> Result<(), Al
     ensures { OnOk result (map credit_shown credits.new.items
         ≡ map credit_shown credits.old.items ++ cons_option (option_map credit_shown found) []) }
 {
-    match found {
-        None => Ok(()),
-        Some(credit) => {
-            credits.push(credit)?;
-            Ok(())
-        }
-    }
+    let Some(credit) = found else {
+        return Ok(());
+    };
+    credits.push(credit)?;
+    Ok(())
 }
 
 impl Step<ListedRuling> for CreditStep {

@@ -16,13 +16,13 @@ struct NextStep {
 }
 
 /// The first day that was found, with one more tariff.
-fn next_with(found: Option<i32>, day: i32, first: i32) -> Option<i32>
-    ensures { result ≡ spec.next_with found day first }
+fn next_with(found: Option<i32>, step: &NextStep, first: i32) -> Option<i32>
+    ensures { result ≡ spec.next_with found step.now.day first }
 {
     match found {
         Some(found) => Some(found),
         None => {
-            if day < first {
+            if step.day < first {
                 Some(first)
             } else {
                 None
@@ -53,7 +53,7 @@ impl Step<ListedTariff> for NextStep {
         found: &mut Option<i32>,
         tariff: &ListedTariff,
     ) -> Result<(), LedgerFault> {
-        *found = next_with(*found, self.day, tariff.day);
+        *found = next_with(*found, self, tariff.day);
         Ok(())
     }
 }

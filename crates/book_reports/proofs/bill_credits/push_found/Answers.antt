@@ -5,15 +5,15 @@ use Rattle.book_model.specs.declared.bill.Credit.{Credit}
 use Rattle.book_reports.proofs.Words.{map_push}
 use Rattle.book_reports.proofs.bill_credits.push_found.Goals as goal
 
-pub returns-in-None : goal.returns-in-None
-returns-in-None c =
+pub returns-in_default : goal.returns-in_default
+returns-in_default c =
     let old = map credit_shown c.args.credits.now.items in
     sym (append-nil old)
     ∙ ap (λ (found : Option Credit). old ++ cons_option (option_map credit_shown found) [])
-    (sym c.in-None.is)
+    (sym c.in_default.is)
 
-pub returns-in-Some : goal.returns-in-Some
-returns-in-Some c =
+pub returns : goal.returns
+returns c =
     let old = map credit_shown c.args.credits.now.items in
     ap (map credit_shown) c.in_ok-push.ensures.items
     ∙ sym (map_push credit_shown c.args.credits.now.items c.in-Some.credit)

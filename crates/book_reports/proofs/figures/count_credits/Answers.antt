@@ -19,5 +19,5 @@ returns g c =
     (λ book said.
     let are = sym (credits_listed naming c.args.period None book.rulings) ∙ same_value said in
     ap (λ (all : List Credit). Ok (length all)) are
-    ∙ ap Ok (length-map credit_shown credits ∙ sym c.len.ensures))
+    ∙ ap Ok (length-map credits credit_shown ∙ sym c.len.ensures))
     c.in_ok-credits.ensures

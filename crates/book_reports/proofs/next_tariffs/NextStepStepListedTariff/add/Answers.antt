@@ -1,6 +1,5 @@
-use Rattle.std.proofs.Common.{◌∙◌, FitsSigned, Option, ℤ, ap, map, rules, sym, w32}
+use Rattle.std.proofs.Common.{◌∙◌, Option, ℤ, ap, map, sym}
 use Rattle.book_model.proofs.Lemmas.{day_kept}
-use Rattle.book_model.proofs.Std.{to_z-of_z}
 use Rattle.report_texts.specs.Figures.{next_begin}
 use Rattle.book_reports.specs.NextTariffs.{next_with}
 use Rattle.book_reports.proofs.NextTariffLemmas.{next_more}
@@ -12,9 +11,8 @@ pub returns-clause-added : goal.returns-clause-added
 returns-clause-added c tariffs is =
     let day = c.args.self.now.day in
     let tariff = c.args.tariff.now in
-    let fits : FitsSigned w32 day = search rules in
     let read = map tariff_shown tariffs in
-    (rw (day_kept tariff.day c.requires, to_z-of_z w32 day fits) at c.next_with.ensures)
+    (rw (day_kept tariff.day c.requires) at c.next_with.ensures)
     ∙ ap (λ (found : Option ℤ). next_with found day tariff.day) is
     ∙ sym (next_more day read tariff.day _)
     ∙ ap (next_begin day) (map_push tariff_shown tariffs tariff)
