@@ -178,12 +178,12 @@ IsOfBooks name rows (book.Rule ruled) =
 IsOfBooks name rows (book.RuleNear ruled) =
     IsRuling name rows ruled × IsDryRun rows false × IsNear rows ruled true
 IsOfBooks name rows (book.Import dump) = (name ≡ codes "import") × IsDump rows dump
-IsOfBooks name rows (book.ChooseListed file) =
+IsOfBooks name rows (book.ChooseListed none file) =
     (name ≡ codes "choose") × IsLeftOut rows (codes "sha256")
-    × IsText rows (codes "from") file × IsFlag rows (codes "none") false × IsDryRun rows false
-IsOfBooks name rows (book.TryListed file) =
+    × IsText rows (codes "from") file × IsFlag rows (codes "none") none × IsDryRun rows false
+IsOfBooks name rows (book.TryListed none file) =
     (name ≡ codes "choose") × IsLeftOut rows (codes "sha256")
-    × IsText rows (codes "from") file × IsFlag rows (codes "none") false × IsDryRun rows true
+    × IsText rows (codes "from") file × IsFlag rows (codes "none") none × IsDryRun rows true
 IsOfBooks name rows (book.DryRun ruled) = IsRuling name rows ruled × IsDryRun rows true
 IsOfBooks name rows (book.Report asked) =
     AsksReport name rows asked × ((reports.row_of asked.name).streamed ≡ false)
@@ -242,8 +242,7 @@ abbrev pub IsUnclear : Text → List Row → Unclear → Type 0
 IsUnclear name rows unclear.Choice =
     (name ≡ codes "choose")
     × ((IsGiven rows (codes "sha256") × IsGiven rows (codes "from"))
-    ⊎ ((IsLeftOut rows (codes "sha256") × IsLeftOut rows (codes "from"))
-    ⊎ (IsGiven rows (codes "from") × IsFlag rows (codes "none") true)))
+    ⊎ (IsLeftOut rows (codes "sha256") × IsLeftOut rows (codes "from")))
 IsUnclear name rows unclear.Prices =
     (name ≡ codes "trial") × IsGiven rows (codes "tariff") × NamesRate rows
 IsUnclear name rows unclear.Period = has_plain_period rows ≡ false

@@ -301,18 +301,18 @@ fn named_choice<'a>(none: bool, name: &'a str) -> Ruling<'a>
 }
 
 /// The choices of a list, or a dry run of them.
-fn listed<'a>(tried: bool, file: &'a str) -> BookRequest<'a>
+fn listed<'a>(tried: bool, none: bool, file: &'a str) -> BookRequest<'a>
     ensures { (rows : _) → IsLeftOut rows (codes "sha256") → IsText rows (codes "from") file.entry
-        → IsFlag rows (codes "none") false → IsDryRun rows tried
+        → IsFlag rows (codes "none") none → IsDryRun rows tried
         → IsOfBooks (codes "choose") rows result }
 {
     if tried {
-        return BookRequest::TryListed { file };
+        return BookRequest::TryListed { none, file };
     }
-    BookRequest::ChooseListed { file }
+    BookRequest::ChooseListed { none, file }
 }
 
-/// What is asked by a list. None of the work of each of its records is not.
+/// What is asked by a list.
 fn listed_in<'a>(
     found: &ArgMatches<'a>,
     none: bool,
@@ -327,10 +327,7 @@ fn listed_in<'a>(
         → IsSome result }
 {
     let tried = flag_in(found, "dry-run")?;
-    if none {
-        return Some(Request::Unclear(Unclear::Choice));
-    }
-    of_books_in(found, Some(listed(tried, file)))
+    of_books_in(found, Some(listed(tried, none, file)))
 }
 
 fn audit_in<'a>(found: &ArgMatches<'_>) -> Option<BookRequest<'a>>

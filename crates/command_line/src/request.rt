@@ -50,8 +50,7 @@ pub struct DumpFile<'a> {
 /// Words that do not say what is asked, alone or together.
 #[derive(Clone, Copy)]
 pub enum Unclear {
-    /// Which records are chosen: a name and a list of names are given, or neither, or none of the
-    /// work of each of a list.
+    /// Which records are chosen: a name and a list of names are given, or neither.
     Choice,
     /// What a trial prices by: a tariff and a rate are given.
     Prices,
@@ -137,13 +136,17 @@ pub enum BookRequest<'a> {
     RuleNear(Ruling<'a>),
     /// A dump read into the books.
     Import(DumpFile<'a>),
-    /// The records of a list chosen, one after the other.
+    /// The records of a list chosen, or their works withheld, one after the other.
     ChooseListed {
+        /// Their works are withheld.
+        none: bool,
         /// The path of the list, which has a name a line.
         file: &'a str,
     },
     /// What the choices of a list would be answered printed, and nothing changed.
     TryListed {
+        /// Their works are withheld.
+        none: bool,
         /// The path of the list.
         file: &'a str,
     },
