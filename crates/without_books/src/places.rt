@@ -259,8 +259,8 @@ fn read_by<'a>(asked: BookRequest<'a>) -> Option<&'a str> {
         | BookRequest::Rule(Ruling::Replace { file })
         | BookRequest::RuleNear(Ruling::Replace { file })
         | BookRequest::DryRun(Ruling::Replace { file })
-        | BookRequest::ChooseListed { file }
-        | BookRequest::TryListed { file }
+        | BookRequest::ChooseListed { file, .. }
+        | BookRequest::TryListed { file, .. }
         | BookRequest::WhatIf { file, .. } => Some(file),
         BookRequest::Import(dump) => Some(dump.file),
         _ => None,
