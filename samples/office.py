@@ -572,12 +572,12 @@ class Books:
         self.nones.add(len(self.choices))
         return ["DONE"]
 
-    def choose_each(self, names):
+    def choose_each(self, names, is_none=False):
         """One choice after the other, up to the first refusal: the answers to those before it, and the refusal with the
         number of its line."""
         answers = []
         for number, name in enumerate(names, 1):
-            [answer] = self.choose(name)
+            [answer] = self.withhold(name) if is_none else self.choose(name)
             if answer.startswith("chargectl"):
                 return answers + ["%s line %d" % (answer, number)]
             answers.append(answer)

@@ -659,7 +659,7 @@ class Rows:
                 if not DIGITS.fullmatch(name):
                     return ["chargectl: word line %d" % number]
             tried = copy.deepcopy(books) if is_tried else books
-            return tried.choose_each(name.lower() for name in names)
+            return tried.choose_each((name.lower() for name in names), "--none" in given)
 
         return {"init": lambda: [],
                 "tariff": lambda file, *_: self.ruled(
