@@ -18,7 +18,7 @@ use Rattle.book_model.specs.Words.{Naming, chosen_answer, close_answer, has_text
 use Rattle.book_model.specs.Words.{is_early, is_effective, is_later, is_too_dear, terms_answer}
 use Rattle.book_model.specs.Words.{price_in, with_tariff, has, is_withheld, was_withheld, is_after}
 use Rattle.book_model.specs.Words.{last_close, most_replaced, replace_answer, with_replaced}
-use Rattle.book_model.specs.Words.{credit_answer, is_centre, is_credit, most_credits}
+use Rattle.book_model.specs.Words.{credit_answer, is_known_centre, is_credit, most_credits}
 use Rattle.book_model.specs.Words.{withheld_answer}
 
 -- a record that is kept: it is new, no other has its name, and there is room for its price
@@ -235,12 +235,12 @@ credit_tests number_open false true true false is =
 pub credit_passes : (book : Book) (number : ℕ) (centre : List ℕ) (amount : ℤ) (reason : List ℕ)
     → credit_answer book.rulings number centre amount reason ≡ Ok Done
     → CreditPasses (list_any (is_credit number centre amount reason) book.rulings.credits)
-    (number == open_number book) (is_centre book.rulings centre)
+    (number == open_number book) (is_known_centre book.rulings centre)
     (nat_le most_credits (length book.rulings.credits))
 credit_passes book number centre amount reason is =
     credit_tests (open_number book)
     (list_any (is_credit number centre amount reason) book.rulings.credits)
-    (number == open_number book) (is_centre book.rulings centre)
+    (number == open_number book) (is_known_centre book.rulings centre)
     (nat_le most_credits (length book.rulings.credits)) is
 
 -- so its number is that of the open period
