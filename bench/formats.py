@@ -550,7 +550,7 @@ OF_COMMANDS |= {
     "audit": form(SOUND + "|" + UNSOUND), "import": form(RECEIPT),
     "ruling": form("DONE\n|ALREADY\n"), "dry-run": form(DRY_RUN), "listed": form("(?:(?:DONE|ALREADY)\n)*"),
     "tariff-text": form(r"(?s:.*)\[rates\](?s:.*)"), "check": form(CHECKED), "init": form(""),
-    "explain": form(r"[ -~]+\n[ -~]+\n"), "upgrade": form("UPGRADED 2\n|ALREADY\n"),
+    "explain": form(r"[ -~]+\n[ -~]+\n"), "upgrade": form("UPGRADED 3\n|ALREADY\n"),
     "version": form(r"chargectl [0-9.]+\n"),
     "help": form(r"[ -~\n]*Usage: chargectl[ -~\n]*"),
     "trial": form(RECEIPT + "STATEMENT PERIOD 1 OPEN\n" + TEXTS["statement"] % NAME + DISPUTES)}

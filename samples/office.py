@@ -386,6 +386,20 @@ def ruling_of_choice(name):
     return Ruling("CHOOSE " + name, None, lambda books: books.choose(name))
 
 
+def ruling_of_none(name):
+    return Ruling("CHOOSE NONE " + name, None, lambda books: books.withhold(name))
+
+
+def ruling_of_replacement(file):
+    """A tariff in the place of another has the day of that one."""
+    day = None if fault_of(file) else Tariff(file).effective
+    return Ruling("TARIFF %s REPLACE" % day, None, lambda books: books.replace(file))
+
+
+def ruling_of_credit(period, centre, amount, reason):
+    return Ruling("CREDIT %d %s" % (period, centre), None, lambda books: books.credit(period, centre, amount, reason))
+
+
 def ruling_of_adoption():
     return Ruling("ADOPT", None, lambda books: books.adopt(2))
 
@@ -417,8 +431,11 @@ def member_line(one):
 class Books:
     def __init__(self):
         self.tariffs, self.held, self.data, self.charged_at, self.closes = [], {}, {}, [], []
-        # The names of the records that were chosen, each with the period that was open then.
-        self.choices = []
+        # The names of the records that were chosen, each with the period that was open then; and the numbers of those choices,
+        # from 1, that chose none of the record's work.
+        self.choices, self.nones = [], set()
+        # The tariffs that another took the place of, and the credits: the period that was open then, and what it was.
+        self.replaced, self.credits = [], []
         # The period that was open when the second rule of identity was adopted.
         self.adopted = None
 
@@ -451,6 +468,37 @@ class Books:
         for name, record in self.held.items():
             if new.effective <= record.day:
                 self.held[name] = new.record(self.data[name])
+        return ["DONE"]
+
+    def replace(self, file):
+        """A tariff in the place of the one that begins on its first day."""
+        fault = fault_of(file)
+        if fault:
+            return ["chargectl: tariff " + fault]
+        new = Tariff(file)
+        if any(old.file == file for old in self.tariffs):
+            return ["ALREADY"]
+        place = next((place for place, old in enumerate(self.tariffs) if old.effective == new.effective), None)
+        if place is None:
+            return refused(NO_SUCH_TARIFF)
+        if any(new.effective <= day for day in self.closes):
+            return refused(TARIFF_DATE)
+        self.replaced.append((self.open, self.tariffs[place]))
+        self.tariffs[place] = new
+        for name, data in self.data.items():
+            if self.in_force(data) is new:
+                self.held[name] = new.record(data)
+        return ["DONE"]
+
+    def credit(self, period, centre, amount, reason):
+        """A credit, in ten-thousandths of the money unit. It charges no record and changes no price."""
+        if (period, centre, amount, reason) in self.credits:
+            return ["ALREADY"]
+        if period != self.open:
+            return refused(WRONG_PERIOD, self.open)
+        if not self.has_centre(period, centre):
+            return refused(NO_SUCH_CENTRE)
+        self.credits.append((period, centre, amount, reason))
         return ["DONE"]
 
     def in_force(self, data):
@@ -487,27 +535,49 @@ class Books:
         """The name that was chosen last of each identity of which some was."""
         return {self.identity(self.held[name]): name for name, _ in self.choices}
 
+    def withheld(self):
+        """The identities of which none was chosen last."""
+        last = {self.identity(self.held[name]): number for number, (name, _) in enumerate(self.choices, 1)}
+        return {identity for identity, number in last.items() if number in self.nones}
+
+    def was_withheld(self, identity):
+        """None of its records was chosen at some time."""
+        return any(number in self.nones and self.identity(self.held[name]) == identity
+                   for number, (name, _) in enumerate(self.choices, 1))
+
     def undisputed(self):
         count, chosen = collections.Counter(self.identity(record) for record in self.held.values()), self.chosen()
-        return {name for name, record in self.held.items()
-                if count[self.identity(record)] == 1 or chosen.get(self.identity(record)) == name}
+        withheld = self.withheld()
+        return {name for name, record in self.held.items() if self.identity(record) not in withheld
+                and (count[self.identity(record)] == 1 or chosen.get(self.identity(record)) == name)}
 
     def choose(self, name):
         if name not in self.held:
             return refused(NO_SUCH_RECORD)
-        if not self.rivals(name):
+        identity = self.identity(self.held[name])
+        if not self.rivals(name) and not self.was_withheld(identity):
             return refused(NOT_DISPUTED)
-        if self.chosen().get(self.identity(self.held[name])) == name:
+        if self.chosen().get(identity) == name and identity not in self.withheld():
             return ["ALREADY"]
         self.choices.append((name, self.open))
         return ["DONE"]
 
-    def choose_each(self, names):
+    def withhold(self, name):
+        """No record of its work counts from now on, until one of them is chosen."""
+        if name not in self.held:
+            return refused(NO_SUCH_RECORD)
+        if self.identity(self.held[name]) in self.withheld():
+            return ["ALREADY"]
+        self.choices.append((name, self.open))
+        self.nones.add(len(self.choices))
+        return ["DONE"]
+
+    def choose_each(self, names, is_none=False):
         """One choice after the other, up to the first refusal: the answers to those before it, and the refusal with the
         number of its line."""
         answers = []
         for number, name in enumerate(names, 1):
-            [answer] = self.choose(name)
+            [answer] = self.withhold(name) if is_none else self.choose(name)
             if answer.startswith("chargectl"):
                 return answers + ["%s line %d" % (answer, number)]
             answers.append(answer)
@@ -635,8 +705,8 @@ class Books:
 
     def dry_run(self, ruling):
         """What a ruling would answer, and what it would change of the period that is open. The last line is of a tariff how
-        many records of that period it prices anew, of a close how many records the next period counts, and of others how
-        many disputes there are. Nothing is kept of it."""
+        many records of that period it prices anew, of a close how many records the next period counts, of a credit how many
+        the period has, and of others how many disputes there are. Nothing is kept of it."""
         after, period = copy.deepcopy(self), self.open
         [answer] = ruling.rule(after)
         if answer.startswith("chargectl: "):
@@ -644,11 +714,15 @@ class Books:
         names = ["%s %d" % (word, period) for word in ("STATEMENT", "ADJUSTMENTS", "RECORDS")]
         lines = list(map(figure, names, self.figures(period), after.figures(period)))
         if ruling.words.startswith("TARIFF "):
-            priced = [name for name in after.counted(period) if after.held[name].day >= ruling.day]
+            first = datetime.date.fromisoformat(ruling.words.split()[1])
+            priced = [name for name in after.counted(period) if after.in_force(after.data[name]).effective == first]
             lines.append(figure("PRICED", 0, len(priced) if answer == "DONE" else 0))
         elif ruling.words.startswith("CLOSE "):
             lines.append(figure("RECORDS %d" % (period + 1), 0,
                                 len(after.counted(period + 1)) if after.open > period else 0))
+        elif ruling.words.startswith("CREDIT "):
+            lines.append(figure("CREDITS %d" % period, *(sum(credit[0] == period for credit in books.credits)
+                                                         for books in (self, after))))
         else:
             lines.append(figure("DISPUTES", len(self.disputed()), len(after.disputed())))
         return ["DRY RUN %s %s" % (ruling.words, answer), figure("", "BEFORE", "AFTER")] + lines
@@ -950,9 +1024,13 @@ class Books:
         for number, through in enumerate(self.closes, 1):
             yield "CLOSE %d %s" % (number, through)
         for number, (name, period) in enumerate(self.choices, 1):
-            yield "CHOICE %d PERIOD %d %s" % (number, period, name)
+            yield "%s %d PERIOD %d %s" % ("NONE" if number in self.nones else "CHOICE", number, period, name)
         if self.adopted is not None:
             yield "ADOPTED PERIOD %d" % self.adopted
+        for period, old in self.replaced:
+            yield "REPLACED %s PERIOD %d %s %d" % (old.effective, period, hashlib.sha256(old.file).hexdigest(), len(old.file))
+        for number, (period, centre, amount, reason) in enumerate(self.credits, 1):
+            yield "CREDIT %d PERIOD %d %s %s %s" % (number, period, centre, decimals(amount, 4), reason)
 
     def tariff_text(self, day):
         """The file of the tariff that begins on a day, if one does."""
@@ -1003,7 +1081,8 @@ class Books:
             return refused(NO_SUCH_RECORD)
         one, data, rivals, life = self.held[name], self.data[name], self.rivals(name), list(self.life(name))
         fields = list(fields_of(framed(data)))
-        choices = [choice for choice in self.choices if choice[0] in rivals | {name}]
+        choices = [(chosen, period, " NONE" * (number in self.nones))
+                   for number, (chosen, period) in enumerate(self.choices, 1) if chosen in rivals | {name}]
         return ["RECORD " + name,
                 "DATED %s IN PERIOD %d" % (clock(data[2:10]), self.period_of(one.day)),
                 identity_line(one.identity, "-"),
@@ -1013,7 +1092,8 @@ class Books:
                 "CPU %s BLOCKS %d" % (decimals(one.cpu, 2), one.blocks),
                 *self.in_force(data).reckoning(data),
                 "RIVALS %d" % len(rivals), *(member_line(self.held[other]) for other in sorted(rivals)),
-                "CHOICES %d" % len(choices), *("  PERIOD %d %s" % (period, chosen) for chosen, period in choices),
+                "CHOICES %d" % len(choices),
+                *("  PERIOD %d %s%s" % (period, chosen, none) for chosen, period, none in choices),
                 "LIFE %d" % len(life), *("  PERIOD %d %s" % turn for turn in life),
                 "NET %d" % sum(-1 if deed == "REVERSED" else 1 for _, deed in life)]
 

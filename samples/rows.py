@@ -147,7 +147,7 @@ class Tables:
 
     def audit(self):
         yield "SOUND"
-        yield "FORM 2"
+        yield "FORM 3"
         for word, rows in (("RECORDS", self.marks()), ("TARIFFS", self.books.tariffs), ("CLOSES", self.closed()),
                            ("CHOICES", self.choices()), ("ROWS", self.rows()), ("LINES", self.lines())):
             yield "%s %d" % (word, len(list(rows)))
@@ -393,14 +393,18 @@ class Rows:
         books = self.books
         if verb == "import":
             return self.take(dump_of(self.dumps, words))
-        if verb in ("tariff", "close", "choose", "adopt") and self.is_refused():
+        if verb in ("tariff", "replace", "close", "choose", "withhold", "adopt") and self.is_refused():
             return office.refused(office.MEMORY)
         if verb == "tariff":
             return books.tariff(self.text(words, body).encode())
+        if verb == "replace":
+            return books.replace(self.text(words, body).encode())
         if verb == "close":
             return books.close(int(words[0]), datetime.date.fromisoformat(words[1]))
         if verb == "choose":
             return books.choose(self.name_of(words[0]))
+        if verb == "withhold":
+            return books.withhold(self.name_of(words[0]))
         if verb == "adopt":
             return books.adopt(int(words[0]))
         raise NotKnown
@@ -646,7 +650,8 @@ class Rows:
         def choose(name=None, *_):
             """One choice, or those of a file. What is no name in the file is a wrong word, before the first of them."""
             if "--from" not in given:
-                return self.ruled(office.ruling_of_choice(self.name_of(name)), is_tried)
+                ruling_of = office.ruling_of_none if "--none" in given else office.ruling_of_choice
+                return self.ruled(ruling_of(self.name_of(name)), is_tried)
             # A carriage return is a part of a line's end, and ends no line alone.
             *names, last = self.files[given["--from"]].decode("latin-1").split("\n")
             names = [name.removesuffix("\r") for name in names] + [last] * (last != "")
@@ -654,10 +659,11 @@ class Rows:
                 if not DIGITS.fullmatch(name):
                     return ["chargectl: word line %d" % number]
             tried = copy.deepcopy(books) if is_tried else books
-            return tried.choose_each(name.lower() for name in names)
+            return tried.choose_each((name.lower() for name in names), "--none" in given)
 
         return {"init": lambda: [],
-                "tariff": lambda file: self.ruled(office.ruling_of_tariff(self.file(file)), is_tried),
+                "tariff": lambda file, *_: self.ruled(
+                    (office.ruling_of_replacement if "--replace" in given else office.ruling_of_tariff)(self.file(file)), is_tried),
                 "close": close,
                 "tariff-text": tariff_text,
                 "record": record,

@@ -57,8 +57,8 @@ class Books(Session):
 
     def words_for(self, names, verb, words, body):
         """The words of the command that a line is for short."""
-        if verb == "tariff":
-            return ["tariff", "@books", self.text_file(names, words, body)]
+        if verb in ("tariff", "replace"):
+            return ["tariff", "@books", self.text_file(names, words, body), *["--replace"] * (verb == "replace")]
         if verb == "import":
             return ["import", "@books", self.dump_file(names, words), *self.layout]
         if verb == "check":
@@ -67,6 +67,8 @@ class Books(Session):
             return ["trial", "--cpu", words[0], "--excp", words[1], "--record", words[2], *self.layout]
         if verb in ("choose", "record") and len(words) == 1:
             return [verb, "@books", names.record(words[0])]
+        if verb == "withhold" and len(words) == 1:
+            return ["choose", "@books", names.record(words[0]), "--none"]
         if verb == "close" and len(words) == 2:
             return ["close", "@books", *words]
         if verb == "adopt" and words == ["2"] or verb in ("disputes", "periods") and not words:

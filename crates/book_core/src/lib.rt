@@ -15,8 +15,8 @@ mod pricing;
 mod rulings;
 
 pub use book_model::{
-    Accepted, ChargeRow, Deed, Detail, Dispute, LedgerFault, Line, ListedRuling, NamedChoice,
-    Naming, RowKey, Ruled, Ruling, ShaNames, Trail, Turn, Variant,
+    Accepted, ChargeRow, Credit, Deed, Detail, Dispute, LedgerFault, Line, ListedRuling,
+    NamedChoice, Naming, RowKey, Ruled, Ruling, ShaNames, Trail, Turn, Variant,
 };
 // What a ledger of another crate needs to keep the same books.
 pub use acceptance::{is_full, name_of};
@@ -26,12 +26,13 @@ pub use close_days::{is_after, is_through};
 pub use details::{comes_after, copied, detail_with, is_asked, sort_details};
 pub use effects::{
     ChoiceEffects, DayChange, Effects, LineChange, Member, View, plan, plan_charge, plan_choice,
+    plan_withheld,
 };
 pub use ledger::Ledger;
-pub use limits::{LAST_PERIOD, MAX_CHOICES, MAX_COST, MAX_HELD};
+pub use limits::{LAST_PERIOD, MAX_CHOICES, MAX_COST, MAX_CREDITS, MAX_HELD, MAX_REPLACED};
 pub use lines::{line_with, sort_lines};
-pub use listed_rulings::ListedAt;
-pub use pricing::{price_in, reckon_in};
+pub use listed_rulings::{ListedAt, RulingCounts};
+pub use pricing::{is_last_begun, price_in, reckon_in};
 pub use rulings::{Rulings, is_done};
 pub use smf_text::Name;
 pub use streams::{Sink, Source};

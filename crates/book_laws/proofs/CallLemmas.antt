@@ -72,8 +72,8 @@ takes_answered naming records (Err fault) = record_answered naming (first_of rec
 call_answered : (naming : Naming) (call : Call) → MakesAnswered naming (work_of naming call)
 call_answered naming (Request asked dump told) = asks_answered naming asked dump told
 call_answered naming (RunRequests requests answers) = runs_answered naming requests answers
-call_answered naming (ChooseEach names answers refusal) =
-    choices_answered naming names answers refusal
+call_answered naming (ChooseEach withheld names answers refusal) =
+    choices_answered withheld naming names answers refusal
 call_answered naming (HttpRequest bytes reply) = request_answered naming bytes reply
 call_answered naming (HttpDetails bytes held holds served) = λ book was events is made.
     request_answered naming bytes made.reply book was events was made.answer.0

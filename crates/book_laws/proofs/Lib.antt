@@ -47,6 +47,9 @@ pub mod CheckLemmas
 pub mod PercentLemmas
 pub mod BillChecks
 pub mod TariffTexts
+pub mod CreditSums
+pub mod RulingLemmas
+pub mod ReplacedStays
 pub mod PageLemmas
 pub mod OtherPriceLemmas
 pub mod OtherWorkLemmas

@@ -13,6 +13,7 @@ pub mod BillLines
 pub mod PeriodDays
 pub mod HeldBack
 pub mod BillTariffs
+pub mod BillCredits
 pub mod KnownCentres
 pub mod Bills
 pub mod BillPages
@@ -24,6 +25,7 @@ pub mod Coverage
 pub mod Pages
 pub mod BookTexts
 pub mod WhatIfTexts
+pub mod NextTariffs
 pub mod Figures
 pub mod Reports
 pub mod StreamedRulings

@@ -2,6 +2,7 @@
 //! what a writer gains from them.
 #![tactic(auto)]
 
+mod bill_credits;
 mod bill_lines;
 mod bill_page_reports;
 mod bill_shifts;
@@ -18,6 +19,7 @@ mod focus_days;
 mod focus_reports;
 mod held_back;
 mod known_centres;
+mod next_tariffs;
 mod pages;
 mod period_days;
 mod receipt_lines;

@@ -69,6 +69,10 @@ module _ (One Other : RepositoryFault → Type 0)
       it
   nothing_as files (to_books.Rule (ruling.Choose name)) why it =
       word_as (name_in name.now) (IsShelfFault One) (IsShelfFault Other) why (shelf_as why) it
+  nothing_as files (to_books.Rule (ruling.Replace file)) why it =
+      either_as (IsTextFault (files.holds file.now) why) why it
+  nothing_as files (to_books.Rule (ruling.Withhold name)) why it =
+      word_as (name_in name.now) (IsShelfFault One) (IsShelfFault Other) why (shelf_as why) it
   nothing_as files (to_books.Report said) why it =
       word_as (report_of said) (IsShelfFault One) (IsShelfFault Other) why (shelf_as why) it
   nothing_as files (to_books.WhatIf form period file) why it =

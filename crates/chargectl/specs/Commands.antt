@@ -84,6 +84,10 @@ IsAskedBy files (book.Rule (ruling.Close period date)) (asks.Rule (owned.Close n
 IsAskedBy files (book.Rule (ruling.Choose name)) (asks.Rule (owned.Choose chosen)) =
     name_in name.now ≡ Some chosen
 IsAskedBy files (book.Rule ruling.Adopt) (asks.Rule (owned.Adopt rule)) = rule ≡ 2
+IsAskedBy files (book.Rule (ruling.Replace file)) (asks.Rule (owned.Replace text)) =
+    IfSome (files.holds file.now) (λ held. string_bytes text ≡ held)
+IsAskedBy files (book.Rule (ruling.Withhold name)) (asks.Rule (owned.Withhold named)) =
+    name_in name.now ≡ Some named
 IsAskedBy files (book.Report said) (asks.Report printed) = report_of said ≡ Some printed
 IsAskedBy files (book.WhatIf form period file) (asks.WhatIf report text) =
     (what_if_of form period ≡ Some report)
@@ -193,6 +197,10 @@ AsksNothing files (book.Rule (ruling.Close period date)) Refuses why =
     IsWordFault (day_of_text_of date.now) (IsShelfFault Refuses) why
 AsksNothing files (book.Rule (ruling.Choose name)) Refuses why =
     IsWordFault (name_in name.now) (IsShelfFault Refuses) why
+AsksNothing files (book.Rule (ruling.Replace file)) Refuses why =
+    IsTariffFault (files.holds file.now) Refuses why
+AsksNothing files (book.Rule (ruling.Withhold name)) Refuses why =
+    IsWordFault (name_in name.now) (IsShelfFault Refuses) why
 AsksNothing files (book.Report said) Refuses why =
     IsWordFault (report_of said) (IsShelfFault Refuses) why
 AsksNothing files (book.WhatIf form period file) Refuses why =
@@ -231,12 +239,15 @@ abbrev pub HasDump : Files → BookRequest → Option (List ℕ) → Type 0
 HasDump files (book.Import dump) had = Keeps (files.holds dump.file.now) had
 HasDump files request had = ⊤
 
--- a ruling has a day, which may be far from the records
+-- a ruling has a day, which may be far from the records; a tariff in the place of another has the day of
+-- that one
 abbrev pub is_dated : Ruling → Bool
 is_dated (ruling.Tariff file) = true
 is_dated (ruling.Close period date) = true
 is_dated (ruling.Choose digest) = false
 is_dated ruling.Adopt = false
+is_dated (ruling.Replace file) = false
+is_dated (ruling.Withhold digest) = false
 
 -- A command asked what its words ask.
 pub record Asking (files : Files) (request : BookRequest) (book : List ℕ) (old new : Shelf)

@@ -31,6 +31,8 @@ pub(crate) fn asked_ruling<S: Repository, F: Inputs>(
         Ruling::Close { period, date } => asked_close(repository, book, period, date),
         Ruling::Choose { name } => asked_choice(repository, book, name),
         Ruling::Adopt => asked_adoption(repository, book),
+        Ruling::Replace { file } => asked_replacement(alloc, repository, inputs, book, file),
+        Ruling::Withhold { name } => asked_withholding(repository, book, name),
     }
 }
 
@@ -48,6 +50,22 @@ fn asked_tariff<S: Repository, F: Inputs>(
     repository.expect(book)?;
     let text = tariff_text(alloc, inputs, file)?;
     Ok(Asked::Rule(OwnedRuling::Tariff(text)))
+}
+
+/// What is asked for a tariff in the place of another, by its file.
+fn asked_replacement<S: Repository, F: Inputs>(
+    alloc: Global,
+    repository: &S,
+    inputs: &F,
+    book: &str,
+    file: &str,
+) -> Result<Asked, CommandFault>
+    ensures { IsAskedFor (F.held inputs.now) (BookRequest.Rule (Ruling.Replace file.entry))
+        ((S.shelf repository.now).refuses book.now) result }
+{
+    repository.expect(book)?;
+    let replacement = tariff_text(alloc, inputs, file)?;
+    Ok(Asked::Rule(OwnedRuling::Replace(replacement)))
 }
 
 /// What is asked for a close.
@@ -83,6 +101,23 @@ fn asked_choice<S: Repository>(
     };
     repository.expect(book)?;
     Ok(Asked::Rule(OwnedRuling::Choose(chosen)))
+}
+
+/// What is asked for a choice of none.
+fn asked_withholding<S: Repository>(
+    repository: &S,
+    book: &str,
+    name: &str,
+) -> Result<Asked, CommandFault>
+    ensures { (files : Files) → IsAskedFor files (BookRequest.Rule (Ruling.Withhold name.entry))
+        ((S.shelf repository.now).refuses book.now) result }
+{
+    let named = match name_of_text(name) {
+        Some(named) => named,
+        None => return Err(CommandFault::Argument),
+    };
+    repository.expect(book)?;
+    Ok(Asked::Rule(OwnedRuling::Withhold(named)))
 }
 
 /// What is asked for the adoption of the later rule of identity.

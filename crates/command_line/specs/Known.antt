@@ -134,6 +134,12 @@ dry_run = flag (codes "dry-run")
 abbrev pub near : WordSeen
 near = flag (codes "near")
 
+abbrev pub replace : WordSeen
+replace = flag (codes "replace")
+
+abbrev pub none : WordSeen
+none = flag (codes "none")
+
 abbrev pub csv : WordSeen
 csv = flag (codes "csv")
 
@@ -189,10 +195,10 @@ commands_above = (
 ) ∷
     (codes "check", layouts ∷ quiet ∷ whole ∷ with_names ∷ file ∷ explain ∷ []) ∷
     (codes "init", book ∷ explain ∷ []) ∷
-    (codes "tariff", book ∷ file ∷ dry_run ∷ near ∷ wait ∷ explain ∷ []) ∷
+    (codes "tariff", book ∷ file ∷ dry_run ∷ near ∷ replace ∷ wait ∷ explain ∷ []) ∷
     (codes "import", book ∷ file ∷ layouts ∷ quiet ∷ whole ∷ wait ∷ explain ∷ []) ∷
     (codes "close", book ∷ period ∷ date ∷ dry_run ∷ near ∷ wait ∷ explain ∷ []) ∷
-    (codes "choose", book ∷ digest ∷ names ∷ dry_run ∷ wait ∷ explain ∷ []) ∷
+    (codes "choose", book ∷ digest ∷ names ∷ dry_run ∷ none ∷ wait ∷ explain ∷ []) ∷
     (codes "adopt", book ∷ dry_run ∷ wait ∷ explain ∷ []) ∷
     []
 

@@ -22,6 +22,8 @@ pub(crate) enum Help {
     Explain,
     DryRun,
     Near,
+    Replace,
+    NoneOf,
     Csv,
     DisputeCsv,
     Wait,
@@ -65,6 +67,8 @@ impl Help {
             }
             Help::DryRun => "Prints what would change, and changes nothing",
             Help::Near => "Refuses a day that is far after the newest record, or after today",
+            Help::Replace => "Puts it in the place of the tariff that begins on its first day",
+            Help::NoneOf => "Charges no record of that work, until one of them is chosen",
             Help::Csv => "As comma-separated values, without the total",
             Help::DisputeCsv => "As comma-separated values, a line for each record",
             Help::Wait => {
@@ -102,6 +106,7 @@ impl Help {
             Help::NumberKind => "KIND",
             Help::Quiet | Help::Whole | Help::WithNames => "",
             Help::Explain | Help::DryRun | Help::Near => "",
+            Help::Replace | Help::NoneOf => "",
             Help::Csv | Help::DisputeCsv => "",
         }
     }

@@ -91,6 +91,10 @@ const DRY_RUN: Argument = Argument::Flag("dry-run", Help::DryRun);
 
 const NEAR: Argument = Argument::Flag("near", Help::Near);
 
+const REPLACE: Argument = Argument::Flag("replace", Help::Replace);
+
+const NONE: Argument = Argument::Flag("none", Help::NoneOf);
+
 const CSV: Argument = Argument::Flag("csv", Help::Csv);
 
 const DISPUTE_CSV: Argument = Argument::Flag("csv", Help::DisputeCsv);
@@ -154,7 +158,7 @@ pub(crate) static KNOWN_COMMANDS: [KnownCommand; 26] = [
     KnownCommand {
         name: "tariff",
         about: "Puts a tariff in force from its first day on",
-        words: &[BOOK, TARIFF, DRY_RUN, NEAR, WAIT, EXPLAIN],
+        words: &[BOOK, TARIFF, DRY_RUN, NEAR, REPLACE, WAIT, EXPLAIN],
     },
     KnownCommand {
         name: "import",
@@ -169,7 +173,7 @@ pub(crate) static KNOWN_COMMANDS: [KnownCommand; 26] = [
     KnownCommand {
         name: "choose",
         about: "Charges one of several records in dispute with each other, and none of the others",
-        words: &[BOOK, SHA256, NAMES, DRY_RUN, WAIT, EXPLAIN],
+        words: &[BOOK, SHA256, NAMES, DRY_RUN, NONE, WAIT, EXPLAIN],
     },
     KnownCommand {
         name: "adopt",
@@ -233,7 +237,7 @@ pub(crate) static KNOWN_COMMANDS: [KnownCommand; 26] = [
     },
     KnownCommand {
         name: "rulings",
-        about: "Prints the tariffs, the closes, the choices and the adoption",
+        about: "Prints all rulings: the tariffs, the closes, the choices and the others",
         words: &[BOOK, WAIT, EXPLAIN],
     },
     KnownCommand {

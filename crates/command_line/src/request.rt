@@ -80,6 +80,16 @@ pub enum Ruling<'a> {
     },
     /// Identity rule 2 adopted for good.
     Adopt,
+    /// A tariff file submitted in the place of the tariff that begins on its first day.
+    Replace {
+        /// The path of the tariff.
+        file: &'a str,
+    },
+    /// None chosen of the work of a record.
+    Withhold {
+        /// Its name, as 64 hexadecimal digits.
+        name: &'a str,
+    },
 }
 
 /// The words that name a period, of the whole office or of one centre.
@@ -126,13 +136,17 @@ pub enum BookRequest<'a> {
     RuleNear(Ruling<'a>),
     /// A dump read into the books.
     Import(DumpFile<'a>),
-    /// The records of a list chosen, one after the other.
+    /// The records of a list chosen, or their works withheld, one after the other.
     ChooseListed {
+        /// Their works are withheld.
+        none: bool,
         /// The path of the list, which has a name a line.
         file: &'a str,
     },
     /// What the choices of a list would be answered printed, and nothing changed.
     TryListed {
+        /// Their works are withheld.
+        none: bool,
         /// The path of the list.
         file: &'a str,
     },

@@ -37,8 +37,8 @@ pub use centres::{
 };
 pub use charges::{CentreCharges, Charges, OfficeCharges, bill_charges, office_charges, push_owed};
 pub use columns::{
-    push_amount, push_blanks, push_count, push_left, push_number, push_right_aligned, push_seconds,
-    seconds_text,
+    push_amount, push_blanks, push_count, push_credit_amount, push_left, push_number,
+    push_right_aligned, push_seconds, seconds_text,
 };
 pub use detail_lists::{detail_head, detail_total, push_detail_line};
 pub use detail_tables::{detail_row, detail_table_head};
@@ -52,7 +52,9 @@ pub use fields::{
     add_amount, add_day, add_key, add_name, add_number, add_number_or_dash, add_row, add_seconds,
     add_shown, add_signed,
 };
-pub use figures::{Figures, figures_of, record_count, record_count_from};
+pub use figures::{
+    Figures, figures_of, record_count, record_count_from, record_count_under,
+};
 pub use focus_tables::{FocusHead, focus_table};
 pub use life_lines::is_charge;
 pub use moments::push_time;

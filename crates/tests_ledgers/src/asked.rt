@@ -57,6 +57,7 @@ fn asked_by_word(named: &Named, ask: Ask<'_>) -> LineResult<Asked>
     };
     match ask.verb {
         "choose" => Ok(Asked::Rule(OwnedRuling::Choose(name_in(named, word)?))),
+        "withhold" => Ok(Asked::Rule(OwnedRuling::Withhold(name_in(named, word)?))),
         "adopt" => Ok(Asked::Rule(OwnedRuling::Adopt(word.parse::<u8>()?))),
         "what-if" | "what-if-table" => {
             let report = what_if_of(ask.verb, word)?;
@@ -76,6 +77,10 @@ pub(crate) fn asked_by(named: &Named, layout: Layout, ask: Ask<'_>) -> LineResul
         ("tariff", names) => {
             let text = named.read_texts(names, ask.body)?;
             Ok(Asked::Rule(OwnedRuling::Tariff(text)))
+        }
+        ("replace", names) => {
+            let text = named.read_texts(names, ask.body)?;
+            Ok(Asked::Rule(OwnedRuling::Replace(text)))
         }
         ("import", parts) => {
             let bytes = named.read_dump(parts)?;

@@ -5,12 +5,12 @@ use Rattle.chargectl.proofs.choices.answer_names.Goals as goal
 pub returns-then-tried : goal.returns-then-tried
 returns-then-tried g c =
     let shelf = g.S.Repository.shelf in
-    subst (λ tried. IsListBy tried c.args.names.items c.args.book.now (shelf c.args.repository.now)
+    subst (λ tried. IsListBy tried c.args.withheld c.args.names.items c.args.book.now (shelf c.args.repository.now)
     (shelf c.try_names.new.repository) c.try_names.result) (sym c.if-tried.true) c.try_names.ensures
 
 pub returns : goal.returns
 returns g c =
     let shelf = g.S.Repository.shelf in
-    subst (λ tried. IsListBy tried c.args.names.items c.args.book.now (shelf c.args.repository.now)
+    subst (λ tried. IsListBy tried c.args.withheld c.args.names.items c.args.book.now (shelf c.args.repository.now)
     (shelf c.choose_names.new.repository) c.choose_names.result) (sym c.if-tried.false)
     c.choose_names.ensures

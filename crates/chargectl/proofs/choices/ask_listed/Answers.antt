@@ -4,7 +4,7 @@ use Rattle.chargectl.proofs.choices.ask_listed.Goals as goal
 
 pub returns-in_err-names : goal.returns-in_err-names
 returns-in_err-names g c =
-    not_listed c.args.tried ((g.F.Inputs.held c.args.inputs.now).holds c.args.file.now) c.args.book.now
+    not_listed c.args.tried c.args.withheld ((g.F.Inputs.held c.args.inputs.now).holds c.args.file.now) c.args.book.now
     (g.S.Repository.shelf c.args.repository.now)
     c.from_residual-in_err-names.result c.in_err-names.field-0.0 c.from_residual-in_err-names.ensures.0
     c.from_residual-in_err-names.ensures.1 (inr c.in_err-names.ensures.refused)

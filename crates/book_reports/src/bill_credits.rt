@@ -1,0 +1,141 @@
+//! The credits of a bill: those of its period, as the list of rulings has them. Rulings are read one
+//! at a time.
+
+ghost use Rattle.std.specs.Prelude.{◌≡◌, ◌++◌, [], IfOk, OnOk, map, option_map};
+ghost use Rattle.std.specs.List.{cons_option};
+ghost use Rattle.book_model.specs.Words.{credit_shown, ruling_shown};
+ghost use Rattle.book_core.specs.Calls.{IsCall};
+ghost use Rattle.book_reports.specs.BillCredits as spec;
+
+use book_core::{Ledger, LedgerFault, ListedRuling};
+use book_lists::{RulingCursor, Step, fold};
+use book_model::Credit;
+use smf_text::Name;
+use std::alloc::{AllocError, Global};
+
+/// Keeps the credits of a period, for the centre that is named or for the whole office.
+#[derive(Drop)]
+struct CreditStep {
+    period: u16,
+    centre: Option<Name>,
+}
+
+/// The centre is the one that is named, or none is.
+fn is_asked_of(named: &Option<Name>, centre: Name) -> bool
+    ensures { result ≡ spec.is_asked_of named.now centre }
+{
+    match *named {
+        Some(named) => centre == named,
+        None => true,
+    }
+}
+
+/// A credit of that period to that centre is kept.
+fn is_billed(step: &CreditStep, period: u16, centre: Name) -> bool
+    ensures { result ≡ spec.is_billed step.now.period step.now.centre period centre }
+{
+    period == step.period && is_asked_of(&step.centre, centre)
+}
+
+/// A credit, if it is kept.
+fn credit_if(
+    alloc: Global,
+    step: &CreditStep,
+    period: u16,
+    centre: Name,
+    amount: i64,
+    reason: &str,
+) -> Result<Option<Credit>, AllocError>
+    ensures { IfOk result (λ found. option_map credit_shown found
+        ≡ spec.credit_if (spec.is_billed step.now.period step.now.centre period centre)
+        (spec.credit_with period centre amount reason.now)) }
+{
+    if !is_billed(step, period, centre) {
+        return Ok(None);
+    }
+    let reason = String::from_str(alloc, reason)?;
+    Ok(Some(Credit {
+        period,
+        centre,
+        amount,
+        reason,
+    }))
+}
+
+/// A ruling, if it is a credit that is kept.
+fn credit_of(
+    alloc: Global,
+    step: &CreditStep,
+    ruling: &ListedRuling,
+) -> Result<Option<Credit>, AllocError>
+    ensures { IfOk result (λ found. option_map credit_shown found
+        ≡ spec.credit_of step.now.period step.now.centre (ruling_shown ruling.now)) }
+{
+    match ruling {
+        ListedRuling::Credit {
+            period,
+            centre,
+            amount,
+            reason,
+            ..
+        } => credit_if(alloc, step, *period, *centre, *amount, reason.as_str()),
+        _ => Ok(None),
+    }
+}
+
+/// One more joins the others, if there is one.
+fn push_found(credits: &mut Vec<Credit>, found: Option<Credit>) -> Result<(), AllocError>
+    ensures { OnOk result (map credit_shown credits.new.items
+        ≡ map credit_shown credits.old.items ++ cons_option (option_map credit_shown found) []) }
+{
+    let Some(credit) = found else {
+        return Ok(());
+    };
+    credits.push(credit)?;
+    Ok(())
+}
+
+impl Step<ListedRuling> for CreditStep {
+    ghost use Rattle.std.specs.Prelude.{◌≡◌, map};
+    ghost use Rattle.book_model.specs.Words.{ruling_shown};
+    ghost use Rattle.book_reports.specs.BillCredits.{credits_of, credits_shown};
+
+    type State = Vec<Credit>;
+
+    ghost Takes = { λ step ruling. Unit {0} };
+
+    ghost Has = { λ step credits rulings.
+        credits_shown credits ≡ credits_of step.period step.centre (map ruling_shown rulings) };
+
+    fn begin(&self, alloc: Global) -> Result<Vec<Credit>, AllocError> {
+        Ok(Vec::new(alloc))
+    }
+
+    fn add(
+        &self,
+        alloc: Global,
+        credits: &mut Vec<Credit>,
+        ruling: &ListedRuling,
+    ) -> Result<(), LedgerFault> {
+        let found = credit_of(alloc, self, ruling)?;
+        push_found(credits, found)?;
+        Ok(())
+    }
+}
+
+/// The credits of a period, in the order in which they were given.
+pub(crate) fn billed_credits<L: Ledger>(
+    alloc: Global,
+    ledger: &mut L,
+    period: u16,
+    centre: &Option<Name>,
+) -> Result<Vec<Credit>, LedgerFault>
+    ensures { IsCall spec.credits_shown (L.seen ledger.old) (L.seen ledger.new) result
+        (spec.credits_outcome (L.seen ledger.old).naming period centre.now) }
+{
+    let step = CreditStep {
+        period,
+        centre: *centre,
+    };
+    fold(alloc, ledger, &RulingCursor, &step)
+}
