@@ -102,12 +102,7 @@ fn listed_from_adoption(period: u16, replaced: u32, credits: u32, number: u64) -
 }
 
 /// The same behind the choices: the adoption comes first, if there was one.
-fn listed_behind_choices(
-    adopted: Option<u16>,
-    replaced: u32,
-    credits: u32,
-    number: u64,
-) -> ListedAt
+fn listed_behind_choices(adopted: Option<u16>, replaced: u32, credits: u32, number: u64) -> ListedAt
     ensures stands { (choices : ℕ) → StandsIn (adoption_part adopted)
         (record { choices = choices; replaced = replaced; credits = credits }) number result }
     ensures days { IsShownAt result }

@@ -134,11 +134,7 @@ fn count_priced<L: Ledger>(
 }
 
 /// How many credits a period has.
-fn count_credits<L: Ledger>(
-    alloc: Global,
-    ledger: &mut L,
-    period: u16,
-) -> Result<u64, LedgerFault>
+fn count_credits<L: Ledger>(alloc: Global, ledger: &mut L, period: u16) -> Result<u64, LedgerFault>
     ensures { IsCall (λ count. count) (L.seen ledger.old) (L.seen ledger.new) result
         (spec.credit_count_outcome period) }
 {

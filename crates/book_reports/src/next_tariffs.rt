@@ -21,13 +21,7 @@ fn next_with(found: Option<i32>, step: &NextStep, first: i32) -> Option<i32>
 {
     match found {
         Some(found) => Some(found),
-        None => {
-            if step.day < first {
-                Some(first)
-            } else {
-                None
-            }
-        }
+        None => { if step.day < first { Some(first) } else { None } }
     }
 }
 

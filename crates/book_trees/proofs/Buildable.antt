@@ -44,23 +44,22 @@ can_build : CanBuild books_schema
 unfolding books_schema
 can_build = record {
   distinct = listable;
-  shaped = All-from_recursion (λ wanted. is_plain wanted.shape ≡ true) books_schema
+  shaped = All-from_recursion (λ wanted. is_plain wanted.shape ≡ true) books_schema (
+    refl,
+    (
+      refl,
       (
         refl,
         (
           refl,
           (
             refl,
-            (
-              refl,
-              (
-                refl,
-                (refl, (refl, (refl, (refl, (refl, (refl, (refl, (refl, tt)))))))),
-              ),
-            ),
+            (refl, (refl, (refl, (refl, (refl, (refl, (refl, (refl, tt)))))))),
           ),
         ),
-      );
+      ),
+    ),
+  );
   short = All-from_recursion (λ wanted. (root : ℕ) → IsStorable 0 (listing wanted root))
       books_schema (
         λ root. storable _ _ _ _ root (lit< tt),

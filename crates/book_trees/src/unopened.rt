@@ -73,5 +73,10 @@ pub(crate) fn unopened_old<D: Disk>(
     ensures schema { IfOk result (λ it. wanted_by it ≡ old_schema form) }
     ensures back { IfErr result (λ back. back ≡ files) }
 {
-    unopened_as(alloc, files, options, old_objects(&with_old_choices(), form))
+    unopened_as(
+        alloc,
+        files,
+        options,
+        old_objects(&with_old_choices(), form),
+    )
 }

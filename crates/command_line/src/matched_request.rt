@@ -309,11 +309,7 @@ fn listed<'a>(tried: bool, none: bool, file: &'a str) -> BookRequest<'a>
 }
 
 /// What is asked by a list.
-fn listed_in<'a>(
-    found: &ArgMatches<'a>,
-    none: bool,
-    file: &'a str,
-) -> Option<Request<'a>>
+fn listed_in<'a>(found: &ArgMatches<'a>, none: bool, file: &'a str) -> Option<Request<'a>>
     ensures request { IsLeftOut (rows_in found.now) (codes "sha256")
         → IsText (rows_in found.now) (codes "from") file.entry
         → IsFlag (rows_in found.now) (codes "none") none

@@ -44,11 +44,7 @@ pub(crate) fn is_chosen(choices: &[ChosenRecord], adopted: Option<u16>, held: &H
 }
 
 /// Of the choices of a record's identity the last one says that none of its work counts.
-pub(crate) fn is_withheld(
-    choices: &[ChosenRecord],
-    adopted: Option<u16>,
-    held: &HeldRecord,
-) -> bool
+pub(crate) fn is_withheld(choices: &[ChosenRecord], adopted: Option<u16>, held: &HeldRecord) -> bool
     ensures { result ≡ spec.is_withheld (rulings_of choices.now adopted) (record_of held.now) }
 {
     match last_of(choices, adopted, &held.identity_by(adopted)) {
@@ -75,11 +71,7 @@ pub(crate) fn was_withheld(
 }
 
 /// Of the choices of a record's identity the last one is the record's own, and it counts.
-pub(crate) fn is_current(
-    choices: &[ChosenRecord],
-    adopted: Option<u16>,
-    held: &HeldRecord,
-) -> bool
+pub(crate) fn is_current(choices: &[ChosenRecord], adopted: Option<u16>, held: &HeldRecord) -> bool
     ensures { result ≡ (spec.is_chosen (rulings_of choices.now adopted) (record_of held.now)
         && not (spec.is_withheld (rulings_of choices.now adopted) (record_of held.now))) }
 {

@@ -52,9 +52,7 @@ pub use fields::{
     add_amount, add_day, add_key, add_name, add_number, add_number_or_dash, add_row, add_seconds,
     add_shown, add_signed,
 };
-pub use figures::{
-    Figures, figures_of, record_count, record_count_from, record_count_under,
-};
+pub use figures::{Figures, figures_of, record_count, record_count_from, record_count_under};
 pub use focus_tables::{FocusHead, focus_table};
 pub use life_lines::is_charge;
 pub use moments::push_time;

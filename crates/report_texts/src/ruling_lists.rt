@@ -113,14 +113,7 @@ fn push_replaced(out: &mut Draft, day: i32, period: u16, text: &str)
 
 /// Appends the line of a credit.
 #[tactic(auto, unfolding(crate::specs::RulingLists::ruling_line))]
-fn push_credit(
-    out: &mut Draft,
-    number: u32,
-    period: u16,
-    centre: Name,
-    amount: i64,
-    reason: &str,
-)
+fn push_credit(out: &mut Draft, number: u32, period: u16, centre: Name, amount: i64, reason: &str)
     ensures { out.new
         ≡ out.old ++ spec.ruling_line (CreditSeen number period centre amount reason.now) }
 {

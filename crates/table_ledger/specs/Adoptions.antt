@@ -32,7 +32,7 @@ JoinsLast choice records old new =
     (identity : List ℕ)
     → last_chosen new identity
     ≡ (if name_has_identity records identity choice.name then Some choice
-      else last_chosen old identity)
+    else last_chosen old identity)
 
 -- from some choices, the last of each identity is remembered
 abbrev pub IsLastOf : List StoredChoice → RecordTable → Chosen → Type 0

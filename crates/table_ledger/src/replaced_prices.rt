@@ -27,10 +27,7 @@ fn last_begun<'a>(
     ensures { option_copied result
         ≡ find (has_begun stored.now.priced.day) (reverse tariffs.now) }
 {
-    tariffs
-        .iter()
-        .rev()
-        .find(|accepted| !(stored.priced.day < accepted.tariff.effective()))
+    tariffs.iter().rev().find(|accepted| !(stored.priced.day < accepted.tariff.effective()))
 }
 
 /// Of the tariffs the one that begins on the first day of another is in force on the day of a

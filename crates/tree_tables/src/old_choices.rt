@@ -69,11 +69,7 @@ fn mark_one<S: Store>(
 }
 
 /// Choices get it, one after the other.
-fn mark_these<S: Store>(
-    store: &mut S,
-    alloc: Global,
-    all: &[OldChoice],
-) -> Result<(), StoreError>
+fn mark_these<S: Store>(store: &mut S, alloc: Global, all: &[OldChoice]) -> Result<(), StoreError>
     requires { IsSorted S.Store store.old CHOICES }
     ensures marks { Marks result (state S.Store store.old) (state S.Store store.new)
         (mark_each all.now) }

@@ -82,11 +82,7 @@ impl<S: Store> TreeTables<S> {
     ghost use Rattle.tree_tables.specs.Stored.{replaced_given};
 
     /// A tariff that is replaced is kept under its number.
-    pub fn put_replaced(
-        &mut self,
-        number: u32,
-        tariff: &ReplacedText<'_>,
-    ) -> Result<(), StoreError>
+    pub fn put_replaced(&mut self, number: u32, tariff: &ReplacedText<'_>) -> Result<(), StoreError>
         ensures does { Does result (state_of self.old) (state_of self.new) Always
             (step.put_replaced_row number (replaced_given tariff.now)) }
     {

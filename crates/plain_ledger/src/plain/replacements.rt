@@ -57,12 +57,7 @@ impl<N: Naming + Drop> PlainLedger<N> {
 
     /// Keeps a tariff in the place of another, and that one beside it, and prices the records anew.
     /// Lack of memory leaves the books as they were.
-    fn keep_replacement(
-        &mut self,
-        text: &str,
-        tariff: Tariff,
-        total: u64,
-    ) -> Result<(), AllocError>
+    fn keep_replacement(&mut self, text: &str, tariff: Tariff, total: u64) -> Result<(), AllocError>
         requires done { spec.replace_answer (book_in self.old) text.now tariff ≡ Ok Ruled.Done }
         requires total { total ≡ cost_replaced (ruled_in self.old.rulings).tariffs tariff
             (values self.old.held) }

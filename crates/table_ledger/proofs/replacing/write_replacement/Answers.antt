@@ -22,8 +22,7 @@ returns g c =
     c.in_ok-put_tariff.ensures.does (λ tables always. (always, tt)))
     c.set_sums.ensures.does (λ tables always. (always, tt)))
     (λ tables known.
-    let made : Tables = replace_each given.period c.args.tariffs.now terms tables in
-    (
+    let made : Tables = replace_each given.period c.args.tariffs.now terms tables in (
       tt,
       λ i. set_sums (sym known.counted i) c.args.sums.now.amount
           (put_tariff_row (day i) (Some given.text.now)
