@@ -28,14 +28,17 @@ mod statements;
 mod usage_lines;
 mod what_ifs;
 
-pub use adjustment_lists::{adjustment_list_text, word_of};
+pub use adjustment_lists::{adjustment_list_text, push_difference, word_of};
 pub use adjustment_tables::adjustment_table;
 pub use centre_amounts::cost_among;
 pub use centres::{
     centre_adjustment_table, centre_adjustments_text, centre_statement_table,
     centre_statement_text, keep_lines, push_centre_title,
 };
-pub use charges::{CentreCharges, Charges, OfficeCharges, bill_charges, office_charges, push_owed};
+pub use charges::{
+    CentreCharges, Charges, CreditAmount, OfficeCharges, bill_charges, charged_in, office_charges,
+    plain_credit, push_credits, push_owed, taken_in,
+};
 pub use columns::{
     push_amount, push_blanks, push_count, push_credit_amount, push_left, push_number,
     push_right_aligned, push_seconds, seconds_text,
