@@ -2,16 +2,19 @@
 -- the whole office.
 use Rattle.std.proofs.Common.{◌≡◌, ◌∙◌, ℕ, suc, ℤ, List, [], ◌∷◌, ◌++◌, refl, ap, cond, filter}
 use Rattle.std.proofs.Common.{◌==◌, ◌&&◌, Bool, true, false, if◌then◌else◌, Option, Some, None}
-use Rattle.std.proofs.Common.{filter_map, option_map}
+use Rattle.std.proofs.Common.{◌+◌, filter_map, map, option_map, sum_by}
 use Rattle.std.specs.List.{cons_option}
 use Rattle.book_model.proofs.ListedLemmas.{in_turn}
-use Rattle.book_model.proofs.Std.{filter_map-append}
+use Rattle.book_model.proofs.Std.{filter_map-append, fold-map, map-map}
+use Rattle.book_model.specs.declared.bill.Credit as billed
 use Rattle.book_model.specs.Words.{AcceptedTerms, Choice, ChoiceSeen, Credit, Naming, Replaced}
 use Rattle.book_model.specs.Words.{ReplacedSeen, Rulings, RulingSeen, TariffSeen, WithheldSeen}
 use Rattle.book_model.specs.Words.{adoption_seen, all_replaced_seen, choices_seen, closes_seen}
-use Rattle.book_model.specs.Words.{credits_asked, credits_in, credits_seen, name_of, rulings_listed}
-use Rattle.book_model.specs.Words.{same_bytes, tariffs_seen}
-use Rattle.book_reports.specs.BillCredits.{credit_if, credit_of, credits_of}
+use Rattle.book_model.specs.Words.{credit_shown, credits_asked, credits_in, credits_seen, name_of}
+use Rattle.book_model.specs.Words.{rulings_listed, same_bytes, tariffs_seen}
+use Rattle.report_texts.specs.Charges.{plain_credit, plain_credits}
+use Rattle.report_texts.specs.declared.charges.CreditAmount.{CreditAmount}
+use Rattle.book_reports.specs.BillCredits.{credit_if, credit_of, credits_of, size_of}
 
 module _ (number : ℕ) (named : Option (List ℕ)) where
   -- where some rulings are no credits of the bill, those after them are as all are
@@ -132,3 +135,13 @@ credits_listed naming number named rulings =
     ∙ passed number named adoption (replaced ++ credits) (no_adoption number named rulings.adopted)
     ∙ passed number named replaced credits (no_replaced number named rulings.replaced)
     ∙ own number 1 named rulings.credits
+
+-- what the credits of a bill come to, whatever their signs, one after another
+pub sizes_made : (credits : List billed.Credit)
+    → sum_by (λ credit. credit.credited + credit.debited) (plain_credits (map credit_shown credits))
+    ≡ sum_by (λ credit. size_of (credit_shown credit)) credits
+sizes_made credits =
+    let size : CreditAmount → ℕ = λ credit. credit.credited + credit.debited in
+    let plain : billed.Credit → CreditAmount = λ credit. plain_credit (credit_shown credit) in
+    ap (sum_by size) (map-map plain_credit credit_shown credits)
+    ∙ fold-map (λ n one. n + size one) plain 0 credits

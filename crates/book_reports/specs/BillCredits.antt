@@ -1,11 +1,12 @@
 -- The credits of a bill: those of its period, for the centre that is named or for the whole office, as
 -- the list of rulings has them.
-use Rattle.std.specs.Prelude.{ℕ, ◌==◌, ◌&&◌, ℤ, Bool, true, if◌then◌else◌, List, map, filter_map}
+use Rattle.std.specs.Prelude.{ℕ, ◌+◌, ◌==◌, ◌&&◌, ℤ, Bool, true, if◌then◌else◌, List, map, filter_map}
 use Rattle.std.specs.Prelude.{Option, Some, None, Ok, Vec}
 use Rattle.std.specs.Global.{Global}
 use Rattle.book_model.specs.declared.bill.Credit as billed
 use Rattle.book_model.specs.Words.{Book, Credit, CreditSeen, Naming, Outcome, RulingSeen, credit_shown}
 use Rattle.book_model.specs.Words.{no_event, rulings_listed, same_bytes}
+use Rattle.report_texts.specs.Charges.{plain_credit}
 
 -- a centre is the one that is named, or none is
 abbrev pub is_asked_of : Option (List ℕ) → List ℕ → Bool
@@ -40,3 +41,7 @@ credits_shown credits = map credit_shown credits.items
 abbrev pub credits_outcome : Naming → ℕ → Option (List ℕ) → Book → Outcome (List Credit)
 credits_outcome naming number named book =
     no_event (Ok (credits_of number named (rulings_listed naming book.rulings)))
+
+-- what a credit comes to, whatever its sign
+abbrev pub size_of : Credit → ℕ
+size_of credit = (plain_credit credit).credited + (plain_credit credit).debited

@@ -1,17 +1,22 @@
 //! The credits of a bill: those of its period, as the list of rulings has them. Rulings are read one
 //! at a time.
 
-ghost use Rattle.std.specs.Prelude.{◌≡◌, ◌++◌, [], IfOk, OnOk, map, option_map};
+ghost use Rattle.std.specs.Prelude.{◌≡◌, ◌+◌, ◌++◌, [], IfOk, IfSome, OnOk, map, option_map};
 ghost use Rattle.std.specs.List.{cons_option};
 ghost use Rattle.book_model.specs.Words.{credit_shown, ruling_shown};
 ghost use Rattle.book_core.specs.Calls.{IsCall};
+ghost use Rattle.report_texts.specs.Charges.{FitCredits, plain_credits};
 ghost use Rattle.book_reports.specs.BillCredits as spec;
 
 use book_core::{Ledger, LedgerFault, ListedRuling};
 use book_lists::{RulingCursor, Step, fold};
 use book_model::Credit;
+use report_texts::plain_credit;
 use smf_text::Name;
 use std::alloc::{AllocError, Global};
+
+/// The first number that 62 bits do not hold. No credits of sound books come to so much.
+const CREDITS_END: u64 = 1 << 62;
 
 /// Keeps the credits of a period, for the centre that is named or for the whole office.
 #[derive(Drop)]
@@ -138,4 +143,46 @@ pub(crate) fn billed_credits<L: Ledger>(
         centre: *centre,
     };
     fold(alloc, ledger, &RulingCursor, &step)
+}
+
+/// A sum with what a credit comes to, whatever its sign, if 64 bits hold it.
+fn with_size(sum: u64, credit: &Credit) -> Option<u64>
+    ensures { IfSome result (λ more. more ≡ sum + spec.size_of (credit_shown credit.now)) }
+{
+    let plain = plain_credit(credit);
+    let more = sum.checked_add(plain.credited)?;
+    more.checked_add(plain.debited)
+}
+
+/// Credits come to so little that a bill can show them, or there is no room for it.
+fn fit_credits(credits: &[Credit]) -> Result<(), AllocError>
+    ensures { OnOk result (FitCredits (plain_credits (map credit_shown credits.now))) }
+{
+    let mut sum: u64 = 0;
+    for credit in credits {
+        let Some(more) = with_size(sum, credit) else {
+            return Err(AllocError);
+        };
+        sum = more;
+    }
+    if sum >= CREDITS_END {
+        return Err(AllocError);
+    }
+    Ok(())
+}
+
+/// The credits of a period, which a bill can show.
+pub(crate) fn shown_credits<L: Ledger>(
+    alloc: Global,
+    ledger: &mut L,
+    period: u16,
+    centre: &Option<Name>,
+) -> Result<Vec<Credit>, LedgerFault>
+    ensures credits { IsCall spec.credits_shown (L.seen ledger.old) (L.seen ledger.new) result
+        (spec.credits_outcome (L.seen ledger.old).naming period centre.now) }
+    ensures fit { IfOk result (λ credits. FitCredits (plain_credits (spec.credits_shown credits))) }
+{
+    let credits = billed_credits(alloc, ledger, period, centre)?;
+    fit_credits(&credits)?;
+    Ok(credits)
 }
