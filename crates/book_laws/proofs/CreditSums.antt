@@ -1,10 +1,14 @@
--- The credits of the centres add up to those of the office.
-use Rattle.std.proofs.Common.{◌≡◌, ℕ, List, [], ◌∷◌, refl, sym, ap, ◌∙◌, true, false, true≢false}
-use Rattle.std.proofs.Common.{cond, ◌||◌, Bool, filter, arith, ℤ, pos, ◌+ℤ◌}
+-- The credits of the centres add up to those of the office, and are taken off what is owed.
+use Rattle.std.proofs.Common.{◌≡◌, ℕ, zero, suc, ◌+◌, List, [], ◌∷◌, refl, sym, ap, ◌∙◌, true, false, true≢false}
+use Rattle.std.proofs.Common.{cond, ◌||◌, Bool, filter, arith, ℤ, pos, negsuc, ◌+ℤ◌, ◌-ℤ◌, int_lt}
+use Rattle.std.proofs.Common.{if◌then◌else◌, sum_by, unsigned_abs}
 use Rattle.book_model.proofs.Std.{list_any, ints, exact_bytes, tells_apart, All-head, All-tail}
+use Rattle.book_model.proofs.Std.{sum_by-cons}
 use Rattle.book_model.specs.Words.{Credit, same_bytes}
 use Rattle.book_model.proofs.Lemmas.{same_bytes-by_cmp}
-use Rattle.book_laws.specs.CreditAmounts.{AreApart, CreditsAddUp, credited}
+use Rattle.report_texts.specs.Charges.{all_charges, plain_credit, plain_credits}
+use Rattle.report_texts.specs.declared.charges.CreditAmount.{CreditAmount}
+use Rattle.book_laws.specs.CreditAmounts.{AreApart, CreditsAddUp, CreditsAreTakenOff, credited}
 use Rattle.book_laws.specs.CreditAmounts.{credited_over}
 
 -- a credit of no centre of a list adds nothing to what these are credited
@@ -63,3 +67,45 @@ credits_add_up centres (credit ∷ credits) apart all =
     ∙ ap (λ rest. credit.amount +ℤ rest)
     (credits_add_up centres credits apart
     (All-tail (λ (one : Credit). known one ≡ true) credit credits all))
+
+-- ---- what is owed
+
+abbrev credited_by : CreditAmount → ℕ
+credited_by credit = credit.credited
+
+abbrev debited_by : CreditAmount → ℕ
+debited_by credit = credit.debited
+
+-- one credit more, whatever its sign
+one_credit : (amount : ℤ) (a b : ℕ) (others : ℤ) → (pos a -ℤ pos b) ≡ others
+    → (pos ((if int_lt amount (pos 0) then 0 else unsigned_abs amount) + a)
+    -ℤ pos ((if int_lt amount (pos 0) then unsigned_abs amount else 0) + b))
+    ≡ (amount +ℤ others)
+one_credit (pos zero) a b others is = omega (arith, ints, is)
+one_credit (pos (suc n)) a b others is = omega (arith, ints, is)
+one_credit (negsuc n) a b others is = omega (arith, ints, is)
+
+-- what credits take off, less what those below 0 add, is what they come to
+both_sides : (credits : List Credit)
+    → (pos (sum_by credited_by (plain_credits credits))
+    -ℤ pos (sum_by debited_by (plain_credits credits)))
+    ≡ credited credits
+both_sides [] = refl
+both_sides (credit ∷ others) =
+    let rest = plain_credits others in
+    (λ i. pos (sum_by-cons credited_by (plain_credit credit) rest i)
+    -ℤ pos (sum_by-cons debited_by (plain_credit credit) rest i))
+    ∙ one_credit credit.amount (sum_by credited_by rest) (sum_by debited_by rest) (credited others)
+    (both_sides others)
+
+-- so they are taken off
+taken_off : (charged reversed a b : ℕ) (all : ℤ) → (pos a -ℤ pos b) ≡ all
+    → (pos (charged + b) -ℤ pos (reversed + a)) ≡ ((pos charged -ℤ pos reversed) -ℤ all)
+taken_off charged reversed a b all is = omega (arith, ints, is)
+
+-- the law
+pub credits_are_taken_off : CreditsAreTakenOff
+credits_are_taken_off bill =
+    let charges = all_charges bill in
+    taken_off (charges.steps + charges.jobs + charges.late) charges.reversed charges.credited
+    charges.debited (credited bill.credits) (both_sides bill.credits)

@@ -44,8 +44,8 @@ pub use records::{
     lives_net, lives_take_turns, prices_are_reckoned, rates_say_what_is_charged, trails_net,
 };
 pub use rulings::{
-    closed_credits_stay, closed_tariffs_stay, credits_add_up, credits_change_bills_alone,
-    unused_changes_nothing, withheld_nets_to_nothing,
+    closed_credits_stay, closed_tariffs_stay, credits_add_up, credits_are_taken_off,
+    credits_change_bills_alone, unused_changes_nothing, withheld_nets_to_nothing,
 };
 pub use runs::{
     calls_follow_history, closed_statements_stay, lists_conserve, open_statement_is_first,

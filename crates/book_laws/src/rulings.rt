@@ -1,7 +1,7 @@
 //! Laws of works that are withheld, of credits, and of tariffs in the place of others, which hold of
 //! the definitions alone. Each is the contract of a function that does nothing.
 
-ghost use Rattle.book_laws.specs.CreditAmounts.{CreditsAddUp};
+ghost use Rattle.book_laws.specs.CreditAmounts.{CreditsAddUp, CreditsAreTakenOff};
 ghost use Rattle.book_laws.specs.RulingLaws.{ClosedCreditsStay, ClosedTariffsStay};
 ghost use Rattle.book_laws.specs.RulingLaws.{CreditsChangeBillsAlone, UnusedChangesNothing};
 ghost use Rattle.book_laws.specs.RulingLaws.{WithheldNetsToNothing};
@@ -25,6 +25,11 @@ pub fn credits_change_bills_alone()
 /// What the centres are credited adds up to what the office gave.
 pub fn credits_add_up()
     ensures { CreditsAddUp }
+{}
+
+/// What a bill says is owed is what it charges, less what is reversed, less what is credited.
+pub fn credits_are_taken_off()
+    ensures { CreditsAreTakenOff }
 {}
 
 /// Where no work was ever withheld, records are undisputed, and choices answered, as if none could
