@@ -1,8 +1,6 @@
 //! The credits, one after the other.
 
 ghost use Rattle.std.specs.Prelude.{◌≡◌, IfOk, length, true};
-ghost use Rattle.std.specs.List.{list_all};
-ghost use Rattle.book_model.specs.RulingsAsked as spec;
 ghost use Rattle.consistent_tables.specs.Consistent.{IsOwnCredit};
 ghost use Rattle.tree_tables.specs.Columns.{credit_columns};
 ghost use Rattle.tree_tables.specs.Stored.{credit_entry};
@@ -13,6 +11,7 @@ use crate::finding::{Place, Tree, Wrong};
 use crate::stop::{Stop, met, unsound};
 use crate::trees::Trees;
 use crate::walk::{MOST_ROWS, Walk, endless};
+use book_core::{CREDIT_END, is_reason};
 use sqlite_trees::error::StoreError;
 use sqlite_trees::store::Store;
 use sqlite_value::row::Row;
@@ -21,12 +20,6 @@ use tree_tables::{StoredCredit, int_at, name_at, number_at, period_at, text_at};
 
 /// The most credits that there are.
 const MAX_CREDITS: u32 = 10_000;
-
-/// The absolute value of a credited amount is below this.
-const CREDIT_END: i64 = 100_000_000_000_000;
-
-/// The most characters of a reason.
-const MAX_REASON: usize = 200;
 
 /// What the row of a credit says.
 fn credit_in(alloc: Global, row: &Row) -> Result<StoredCredit, StoreError>
@@ -40,27 +33,6 @@ fn credit_in(alloc: Global, row: &Row) -> Result<StoredCredit, StoreError>
         amount: int_at(row, 3)?,
         reason: text_at(row, 4, alloc)?,
     })
-}
-
-/// A reason may have the character.
-fn is_reason_character(character: u8) -> bool
-    ensures { result ≡ spec.is_reason_character character }
-{
-    b' ' <= character && character <= b'~'
-}
-
-/// A reason may have each character of the text.
-fn has_reason_characters(text: &str) -> bool
-    ensures { result ≡ list_all spec.is_reason_character text.now }
-{
-    text.bytes().all(is_reason_character)
-}
-
-/// The text is a reason.
-fn is_reason(text: &str) -> bool
-    ensures { result ≡ spec.is_reason text.now }
-{
-    1 <= text.len() && text.len() <= MAX_REASON && has_reason_characters(text)
 }
 
 /// The credit is one that can have been given, in a period that has begun.
