@@ -80,6 +80,16 @@ file = place (codes "file") any
 abbrev pub period : WordSeen
 period = place (codes "period") (at_most most_number)
 
+-- the centre that is credited, with what, and why
+abbrev pub credited : WordSeen
+credited = place (codes "centre") any
+
+abbrev pub amount : WordSeen
+amount = place (codes "amount") any
+
+abbrev pub reason : WordSeen
+reason = place (codes "reason") any
+
 abbrev pub date : WordSeen
 date = place (codes "date") any
 
@@ -199,7 +209,10 @@ commands_above = (
     (codes "import", book ∷ file ∷ layouts ∷ quiet ∷ whole ∷ wait ∷ explain ∷ []) ∷
     (codes "close", book ∷ period ∷ date ∷ dry_run ∷ near ∷ wait ∷ explain ∷ []) ∷
     (codes "choose", book ∷ digest ∷ names ∷ dry_run ∷ none ∷ wait ∷ explain ∷ []) ∷
-    (codes "adopt", book ∷ dry_run ∷ wait ∷ explain ∷ []) ∷
+    (codes "adopt", book ∷ dry_run ∷ wait ∷ explain ∷ []) ∷ (
+      codes "credit",
+      book ∷ period ∷ credited ∷ amount ∷ reason ∷ dry_run ∷ wait ∷ explain ∷ [],
+    ) ∷
     []
 
 abbrev pub commands_below : List (Text × List WordSeen)

@@ -158,6 +158,9 @@ IsRuling name rows (ruling.Replace file) =
 IsRuling name rows (ruling.Withhold digest) =
     (name ≡ codes "choose") × IsText rows (codes "sha256") digest
     × IsLeftOut rows (codes "from") × IsFlag rows (codes "none") true
+IsRuling name rows (ruling.Credit period centre amount reason) =
+    (name ≡ codes "credit") × IsPeriod rows period × IsText rows (codes "centre") centre
+    × IsText rows (codes "amount") amount × IsText rows (codes "reason") reason
 
 -- whether only what would change is asked for
 abbrev pub IsDryRun : List Row → Bool → Type 0

@@ -10,6 +10,9 @@ pub(crate) enum Help {
     Tariff,
     Copy,
     Period,
+    Credited,
+    Amount,
+    Reason,
     Date,
     FirstDay,
     Sha256,
@@ -47,6 +50,11 @@ impl Help {
             Help::Tariff => "The file of the tariff",
             Help::Copy => "The file of the copy, which is not there yet",
             Help::Period => "The number of the period, from 1",
+            Help::Credited => "The centre that is credited",
+            Help::Amount => {
+                "What it owes less, such as 12.5000; what it owes more stands behind --, as -3.0000"
+            }
+            Help::Reason => "Why, in 1 to 200 printable characters: it stands on the bill",
             Help::Date => "The last day of the period, such as 2024-01-31",
             Help::FirstDay => "The tariff's first day, such as 2024-01-01",
             Help::Sha256 => "The record's name, as the list of disputes shows it",
@@ -99,7 +107,9 @@ impl Help {
             Help::Sha256 | Help::RecordName => "SHA256",
             Help::Layout => "LAYOUT",
             Help::Wait => "SECONDS",
-            Help::Centre => "CENTRE",
+            Help::Centre | Help::Credited => "CENTRE",
+            Help::Amount => "AMOUNT",
+            Help::Reason => "REASON",
             Help::Cpu | Help::Excp | Help::Record => "RATE",
             Help::Port => "PORT",
             Help::Requests | Help::Number => "NUMBER",

@@ -62,6 +62,12 @@ const COPY: Argument = Argument::InPlace("file", Help::Copy, ValueKind::Text);
 
 const PERIOD: Argument = Argument::InPlace("period", Help::Period, ValueKind::AtMost(MOST_NUMBER));
 
+const CREDITED: Argument = Argument::InPlace("centre", Help::Credited, ValueKind::Text);
+
+const AMOUNT: Argument = Argument::InPlace("amount", Help::Amount, ValueKind::Text);
+
+const REASON: Argument = Argument::InPlace("reason", Help::Reason, ValueKind::Text);
+
 const DATE: Argument = Argument::InPlace("date", Help::Date, ValueKind::Text);
 
 const FIRST_DAY: Argument = Argument::InPlace("date", Help::FirstDay, ValueKind::Text);
@@ -139,7 +145,7 @@ const NUMBER: Argument = Argument::InPlaceOr(
 
 /// The commands in the order of the program's help. The commands of reports have the words that the
 /// rows of `report_rows` give them.
-pub(crate) static KNOWN_COMMANDS: [KnownCommand; 26] = [
+pub(crate) static KNOWN_COMMANDS: [KnownCommand; 27] = [
     KnownCommand {
         name: "trial",
         about: "Prices a dump from standard input in new books, and prints their statement",
@@ -179,6 +185,13 @@ pub(crate) static KNOWN_COMMANDS: [KnownCommand; 26] = [
         name: "adopt",
         about: "Takes steps that began at different times for different work, for good",
         words: &[BOOK, DRY_RUN, WAIT, EXPLAIN],
+    },
+    KnownCommand {
+        name: "credit",
+        about: "Takes an amount off what a centre owes for the open period, for a reason",
+        words: &[
+            BOOK, PERIOD, CREDITED, AMOUNT, REASON, DRY_RUN, WAIT, EXPLAIN,
+        ],
     },
     KnownCommand {
         name: "statement",

@@ -76,6 +76,7 @@ fn change_in<'a>(name: &str, found: &ArgMatches<'a>) -> Option<Request<'a>>
         "close" => of_books_in(found, close_in(found)),
         "choose" => choice_in(found),
         "adopt" => of_books_in(found, ruling_in(found, false, Ruling::Adopt)),
+        "credit" => of_books_in(found, credit_in(found)),
         _ => service_in(name, found),
     }
 }
@@ -235,6 +236,29 @@ fn close_in<'a>(found: &ArgMatches<'a>) -> Option<BookRequest<'a>>
     let date = text_in(found, "date")?;
     let near = flag_in(found, "near")?;
     ruling_in(found, near, Ruling::Close { period, date })
+}
+
+fn credit_in<'a>(found: &ArgMatches<'a>) -> Option<BookRequest<'a>>
+    ensures asked { IfSome result (IsOfBooks (codes "credit") (rows_in found.now)) }
+    ensures some { HasWord (rows_in found.now) known.period
+        → HasWord (rows_in found.now) known.credited → HasWord (rows_in found.now) known.amount
+        → HasWord (rows_in found.now) known.reason → HasWord (rows_in found.now) known.dry_run
+        → IsSome result }
+{
+    let period = number_in(found, "period")?;
+    let centre = text_in(found, "centre")?;
+    let amount = text_in(found, "amount")?;
+    let reason = text_in(found, "reason")?;
+    ruling_in(
+        found,
+        false,
+        Ruling::Credit {
+            period,
+            centre,
+            amount,
+            reason,
+        },
+    )
 }
 
 /// The ruling, or one that is made only where its day is not far.

@@ -90,6 +90,16 @@ pub enum Ruling<'a> {
         /// Its name, as 64 hexadecimal digits.
         name: &'a str,
     },
+    /// A centre credited with an amount. Its texts may turn out to be none of these.
+    Credit {
+        /// The number of the period, which is to be open.
+        period: u16,
+        /// The name of the centre.
+        centre: &'a str,
+        /// The amount in money units, with four decimals.
+        amount: &'a str,
+        reason: &'a str,
+    },
 }
 
 /// The words that name a period, of the whole office or of one centre.

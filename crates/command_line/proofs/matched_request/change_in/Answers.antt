@@ -71,3 +71,18 @@ returns-in-adopt-clause-some c =
     λ has others.
     let words = subst (λ n. HasWordsOf n (rows_in c.args.found.now)) c.in-adopt.is has in
     c.of_books_in-in-adopt.ensures.some words.0 words.1.1.0 (c.ruling_in.ensures.some words.1.0)
+
+pub returns-in-credit-clause-request : goal.returns-in-credit-clause-request
+returns-in-credit-clause-request c =
+    c.of_books_in-in-credit.ensures.request c.args.name.now
+    (subst (λ n. IfSome c.credit_in.result (IsOfBooks n (rows_in c.args.found.now)))
+    (sym c.in-credit.is) c.credit_in.ensures.asked)
+
+pub returns-in-credit-clause-some : goal.returns-in-credit-clause-some
+unfolding known_table
+returns-in-credit-clause-some c =
+    λ has others.
+    let words = subst (λ n. HasWordsOf n (rows_in c.args.found.now)) c.in-credit.is has in
+    c.of_books_in-in-credit.ensures.some words.0 words.1.1.1.1.1.1.0
+    (c.credit_in.ensures.some words.1.0 words.1.1.0 words.1.1.1.0 words.1.1.1.1.0
+    words.1.1.1.1.1.0)
