@@ -218,6 +218,7 @@ fn is_dated(ruling: Ruling<'_>) -> bool
         Ruling::Adopt => false,
         Ruling::Replace { .. } => false,
         Ruling::Withhold { .. } => false,
+        Ruling::Credit { .. } => false,
     }
 }
 
