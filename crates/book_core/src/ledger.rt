@@ -10,13 +10,15 @@ ghost use Rattle.book_model.specs.Words.{ShowsDispute, dispute_outcome, what_if_
 ghost use Rattle.book_model.specs.Words.{ShowsDetail, next_detail_outcome};
 ghost use Rattle.book_model.specs.Words.{IsTrail, trail_outcome, trail_shown};
 ghost use Rattle.book_model.specs.Words.{IsUsage, record_outcome};
+ghost use Rattle.book_model.specs.Words.{credit_given_outcome, credit_shown};
 ghost use Rattle.book_core.specs.Ledgers.{StopIsHarmless, Seen};
 ghost use Rattle.book_core.specs.Calls.{IsCall};
 ghost use Rattle.book_core.specs.Submissions.{Takes, records_in};
 ghost use Rattle.book_core.specs.Transition.{IsTransition};
 
 use book_model::{
-    Accepted, ChargeRow, Detail, Dispute, LedgerFault, Line, ListedRuling, Ruled, Ruling, Trail,
+    Accepted, ChargeRow, Credit, Detail, Dispute, LedgerFault, Line, ListedRuling, Ruled, Ruling,
+    Trail,
 };
 use smf_text::Name;
 use std::alloc::Global;
@@ -208,6 +210,14 @@ pub trait Ledger {
             (seen self.old) (seen self.new) result
             (ruling_outcome (seen self.old).naming number) }
         ensures shown { IfOk result ShowsDays };
+
+    /// The credit of a number, from 0, in the order in which they were given; `None` where there
+    /// are no more. In the list of rulings they stand behind all others, however many there are.
+    /// Never refused.
+    fn credit_given(&mut self, number: u64) -> Result<Option<Credit>, LedgerFault>
+        ensures { IsCall (λ found. option_map credit_shown found)
+            (seen self.old) (seen self.new) result
+            (credit_given_outcome number) };
 
     /// The record that is held under a name, and nothing else of it: one look where its trail
     /// takes many. Refused: `NoSuchRecord`.

@@ -5,6 +5,7 @@ mod acceptance;
 mod accepted_tariff;
 mod charge_rows;
 mod close_days;
+mod credit_copies;
 mod credit_limits;
 mod details;
 mod effects;
@@ -24,6 +25,7 @@ pub use acceptance::{is_full, name_of};
 pub use accepted_tariff::{AcceptedTariff, are_before};
 pub use charge_rows::{empty_row, key_of, row_with};
 pub use close_days::{is_after, is_through};
+pub use credit_copies::copied_credit;
 pub use credit_limits::{is_credit_amount, is_reason};
 pub use details::{comes_after, copied, detail_with, is_asked, sort_details};
 pub use effects::{

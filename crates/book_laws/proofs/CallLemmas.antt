@@ -8,7 +8,7 @@ use Rattle.book_model.specs.Words.{accept_answer, Book, new_book, dispute_shown}
 use Rattle.book_model.specs.Words.{book_after, Outcome, accept_outcome, charges_outcome}
 use Rattle.book_model.specs.Words.{adjustments_outcome, disputes_outcome, periods_outcome, Naming}
 use Rattle.book_model.specs.Words.{dispute_outcome, next_detail_outcome, record_outcome}
-use Rattle.book_model.specs.Words.{ruling_outcome}
+use Rattle.book_model.specs.Words.{credit_given_outcome, credit_shown, ruling_outcome}
 use Rattle.book_model.specs.Words.{ruling_shown, trail_outcome, trail_shown, what_if_outcome}
 use Rattle.book_core.specs.Words.{Calls, listed, Seen, IsOpenAt, Accepts, Takes, first_of}
 use Rattle.book_core.specs.Words.{IsTransition, MakesAnswered}
@@ -26,7 +26,7 @@ use Rattle.book_http.proofs.LawLemmas.{request_answered}
 use Rattle.book_laws.specs.CallLaws.{CallsFollowHistory}
 use Rattle.book_laws.specs.Calls.{Call, Request, RunRequests, AcceptRecord, ReadCharges}
 use Rattle.book_laws.specs.Calls.{AcceptRecords, ChooseEach, MakeRuling, HttpDetails, HttpRequest}
-use Rattle.book_laws.specs.Calls.{ReadAdjustments}
+use Rattle.book_laws.specs.Calls.{ReadAdjustments, ReadCredit}
 use Rattle.book_laws.specs.Calls.{ReadDisputes, ReadPeriods, ReadChargesUnder, ReadDetail}
 use Rattle.book_laws.specs.Calls.{ReadDispute, ReadRecord, ReadRuling, ReadTrail, Step, AreDone}
 use Rattle.book_laws.specs.Calls.{calls_of, ledger_after_calls, work_of, works_of}
@@ -102,6 +102,9 @@ call_answered naming (ReadPeriods answer) =
     readings_answered naming (λ days. days.items) periods_outcome answer (λ book. refl)
 call_answered naming (ReadRuling number answer) =
     readings_answered naming (λ found. option_map ruling_shown found) (ruling_outcome naming number)
+    answer (λ book. refl)
+call_answered naming (ReadCredit number answer) =
+    readings_answered naming (λ found. option_map credit_shown found) (credit_given_outcome number)
     answer (λ book. refl)
 call_answered naming (ReadRecord name answer) =
     readings_answered naming (λ bytes. bytes.items) (record_outcome naming name) answer

@@ -93,7 +93,7 @@ pub use Rattle.book_model.specs.RulingsAsked.{is_reason, is_reason_character, ru
 pub use Rattle.book_model.specs.Outcomes.{Outcome, accept_event, accept_outcome}
 pub use Rattle.book_model.specs.Outcomes.{adjustments_outcome, adopt_outcome}
 pub use Rattle.book_model.specs.Outcomes.{charges_outcome, choose_outcome}
-pub use Rattle.book_model.specs.Outcomes.{close_outcome, dispute_outcome}
+pub use Rattle.book_model.specs.Outcomes.{close_outcome, credit_given_outcome, dispute_outcome}
 pub use Rattle.book_model.specs.Outcomes.{disputes_outcome, if_done}
 pub use Rattle.book_model.specs.Outcomes.{periods_outcome, no_event, record_outcome, ruled_as}
 pub use Rattle.book_model.specs.Outcomes.{credit_outcome, replace_outcome, rule_outcome}

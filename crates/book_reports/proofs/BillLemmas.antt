@@ -11,7 +11,7 @@ use Rattle.book_reports.proofs.Words.{BilledLine, HeldBack, Detail, LedgerFault,
 use Rattle.book_reports.proofs.Words.{shown_by, same_value, billed_outcome, tariffs_outcome}
 use Rattle.book_reports.proofs.Words.{tariffs_shown, work_outcome, work_seen, work_shown}
 use Rattle.book_reports.proofs.Words.{closed_through}
-use Rattle.book_reports.proofs.BillCreditLemmas.{credits_listed}
+use Rattle.book_reports.proofs.BillCreditLemmas.{credits_are}
 use Rattle.book_reports.specs.BillCredits.{credits_outcome}
 use Rattle.book_reports.specs.Bills.{PeriodBillSeen, bill_with, period_bill_outcome}
 use Rattle.book_reports.specs.HeldBack.{held_back_outcome}
@@ -77,7 +77,7 @@ pub bill_known : (naming : Naming) (number : ℕ) (centre : Option (List ℕ)) (
     → (held_back_outcome naming number centre book).answer ≡ Ok held
     → (days_outcome number book).answer ≡ Ok days
     → (tariffs_outcome number book).answer ≡ Ok (tariffs_shown kept)
-    → (credits_outcome naming number centre book).answer ≡ Ok credits
+    → (credits_outcome number centre book).answer ≡ Ok credits
     → (period_bill_outcome naming number centre book).answer
     ≡ Ok (bill_made work lines held days kept credits)
 bill_known naming number centre work lines held days kept credits book worked lined holds between keeps
@@ -104,8 +104,7 @@ bill_known naming number centre work lines held days kept credits book worked li
         let of_held = same_value holds in
         let of_days = same_value between in
         let of_tariffs = same_value keeps in
-        let of_credits = sym (credits_listed naming number centre book.rulings)
-        ∙ same_value credited in
+        let of_credits = sym (credits_are number centre book.rulings) ∙ same_value credited in
         λ i. Ok (record {
           through = (of_work i).through;
           bill = record {

@@ -1,15 +1,14 @@
-//! The credits of a bill: those of its period, as the list of rulings has them. Rulings are read one
-//! at a time.
+//! The credits of a bill: those of its period. Credits are read one at a time.
 
 ghost use Rattle.std.specs.Prelude.{◌≡◌, ◌+◌, ◌++◌, [], IfOk, IfSome, OnOk, map, option_map};
 ghost use Rattle.std.specs.List.{cons_option};
-ghost use Rattle.book_model.specs.Words.{credit_shown, ruling_shown};
+ghost use Rattle.book_model.specs.Words.{credit_shown};
 ghost use Rattle.book_core.specs.Calls.{IsCall};
 ghost use Rattle.report_texts.specs.Charges.{FitCredits, plain_credits};
 ghost use Rattle.book_reports.specs.BillCredits as spec;
 
-use book_core::{Ledger, LedgerFault, ListedRuling};
-use book_lists::{RulingCursor, Step, fold};
+use book_core::{Ledger, LedgerFault, copied_credit};
+use book_lists::{CreditCursor, Step, fold};
 use book_model::Credit;
 use report_texts::plain_credit;
 use smf_text::Name;
@@ -36,56 +35,22 @@ fn is_asked_of(named: &Option<Name>, centre: Name) -> bool
 }
 
 /// A credit of that period to that centre is kept.
-fn is_billed(step: &CreditStep, period: u16, centre: Name) -> bool
-    ensures { result ≡ spec.is_billed step.now.period step.now.centre period centre }
+fn is_billed(step: &CreditStep, credit: &Credit) -> bool
+    ensures { result ≡ spec.is_billed step.now.period step.now.centre (credit_shown credit.now) }
 {
-    period == step.period && is_asked_of(&step.centre, centre)
+    credit.period == step.period && is_asked_of(&step.centre, credit.centre)
 }
 
-/// A credit, if it is kept.
-fn credit_if(
-    alloc: Global,
-    step: &CreditStep,
-    period: u16,
-    centre: Name,
-    amount: i64,
-    reason: &str,
-) -> Result<Option<Credit>, AllocError>
+/// A copy of a credit, if it is kept.
+fn credit_of(step: &CreditStep, credit: &Credit) -> Result<Option<Credit>, AllocError>
     ensures { IfOk result (λ found. option_map credit_shown found
-        ≡ spec.credit_if (spec.is_billed step.now.period step.now.centre period centre)
-        (spec.credit_with period centre amount reason.now)) }
+        ≡ spec.credit_of step.now.period step.now.centre (credit_shown credit.now)) }
 {
-    if !is_billed(step, period, centre) {
+    if !is_billed(step, credit) {
         return Ok(None);
     }
-    let reason = String::from_str(alloc, reason)?;
-    Ok(Some(Credit {
-        period,
-        centre,
-        amount,
-        reason,
-    }))
-}
-
-/// A ruling, if it is a credit that is kept.
-fn credit_of(
-    alloc: Global,
-    step: &CreditStep,
-    ruling: &ListedRuling,
-) -> Result<Option<Credit>, AllocError>
-    ensures { IfOk result (λ found. option_map credit_shown found
-        ≡ spec.credit_of step.now.period step.now.centre (ruling_shown ruling.now)) }
-{
-    match ruling {
-        ListedRuling::Credit {
-            period,
-            centre,
-            amount,
-            reason,
-            ..
-        } => credit_if(alloc, step, *period, *centre, *amount, reason.as_str()),
-        _ => Ok(None),
-    }
+    let copy = copied_credit(credit)?;
+    Ok(Some(copy))
 }
 
 /// One more joins the others, if there is one.
@@ -100,17 +65,17 @@ fn push_found(credits: &mut Vec<Credit>, found: Option<Credit>) -> Result<(), Al
     Ok(())
 }
 
-impl Step<ListedRuling> for CreditStep {
+impl Step<Credit> for CreditStep {
     ghost use Rattle.std.specs.Prelude.{◌≡◌, map};
-    ghost use Rattle.book_model.specs.Words.{ruling_shown};
+    ghost use Rattle.book_model.specs.Words.{credit_shown};
     ghost use Rattle.book_reports.specs.BillCredits.{credits_of, credits_shown};
 
     type State = Vec<Credit>;
 
-    ghost Takes = { λ step ruling. Unit {0} };
+    ghost Takes = { λ step credit. Unit {0} };
 
-    ghost Has = { λ step credits rulings.
-        credits_shown credits ≡ credits_of step.period step.centre (map ruling_shown rulings) };
+    ghost Has = { λ step credits read.
+        credits_shown credits ≡ credits_of step.period step.centre (map credit_shown read) };
 
     fn begin(&self, alloc: Global) -> Result<Vec<Credit>, AllocError> {
         Ok(Vec::new(alloc))
@@ -118,11 +83,11 @@ impl Step<ListedRuling> for CreditStep {
 
     fn add(
         &self,
-        alloc: Global,
+        _alloc: Global,
         credits: &mut Vec<Credit>,
-        ruling: &ListedRuling,
+        credit: &Credit,
     ) -> Result<(), LedgerFault> {
-        let found = credit_of(alloc, self, ruling)?;
+        let found = credit_of(self, credit)?;
         push_found(credits, found)?;
         Ok(())
     }
@@ -136,13 +101,13 @@ pub(crate) fn billed_credits<L: Ledger>(
     centre: &Option<Name>,
 ) -> Result<Vec<Credit>, LedgerFault>
     ensures { IsCall spec.credits_shown (L.seen ledger.old) (L.seen ledger.new) result
-        (spec.credits_outcome (L.seen ledger.old).naming period centre.now) }
+        (spec.credits_outcome period centre.now) }
 {
     let step = CreditStep {
         period,
         centre: *centre,
     };
-    fold(alloc, ledger, &RulingCursor, &step)
+    fold(alloc, ledger, &CreditCursor, &step)
 }
 
 /// A sum with what a credit comes to, whatever its sign, if 64 bits hold it.
@@ -179,7 +144,7 @@ pub(crate) fn shown_credits<L: Ledger>(
     centre: &Option<Name>,
 ) -> Result<Vec<Credit>, LedgerFault>
     ensures credits { IsCall spec.credits_shown (L.seen ledger.old) (L.seen ledger.new) result
-        (spec.credits_outcome (L.seen ledger.old).naming period centre.now) }
+        (spec.credits_outcome period centre.now) }
     ensures fit { IfOk result (λ credits. FitCredits (plain_credits (spec.credits_shown credits))) }
 {
     let credits = billed_credits(alloc, ledger, period, centre)?;

@@ -1,11 +1,11 @@
 //! Credits that a plain ledger keeps.
 
-ghost use Rattle.std.specs.Prelude.{◌≡◌, IfOk, map, nat_le};
+ghost use Rattle.std.specs.Prelude.{◌≡◌, IfOk, map, nat_le, option_map, slice_get};
 ghost use Rattle.std.specs.List.{list_any};
 ghost use Rattle.book_model.specs.Words.{credit_shown, is_credit, most_credits};
 ghost use Rattle.plain_ledger.specs.Plain.{credit_with};
 
-use book_core::MAX_CREDITS;
+use book_core::{MAX_CREDITS, copied_credit};
 use book_model::Credit;
 use smf_text::Name;
 use std::alloc::{AllocError, Global};
@@ -28,6 +28,20 @@ pub(crate) fn new_credit(
         amount,
         reason,
     })
+}
+
+/// A copy of the credit at a place, from 0, if there is one.
+pub(crate) fn credit_at(credits: &[Credit], place: u64) -> Result<Option<Credit>, AllocError>
+    ensures { IfOk result (λ found. option_map credit_shown found
+        ≡ slice_get (map credit_shown credits.now) place) }
+{
+    let count = credits.len() as u64;
+    if place >= count {
+        return Ok(None);
+    }
+    let at = place as usize;
+    let copy = copied_credit(&credits[at])?;
+    Ok(Some(copy))
 }
 
 /// No more credits can be given.

@@ -169,6 +169,10 @@ impl<N: Naming + Drop> Ledger for PlainLedger<N> {
         self.ruling_listed(number)
     }
 
+    fn credit_given(&mut self, number: u64) -> Result<Option<Credit>, LedgerFault> {
+        self.credit_kept(number)
+    }
+
     fn record_named(&mut self, alloc: Global, name: &[u8; 32]) -> Result<Vec<u8>, LedgerFault> {
         self.record_held(alloc, name)
     }

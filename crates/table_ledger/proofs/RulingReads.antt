@@ -1,13 +1,15 @@
 -- What stands in the list of rulings, by what is remembered and by the tables of choices, of
 -- replaced tariffs and of credits.
 use Rattle.std.proofs.Common.{◌≡◌, ◌∙◌, ◌+◌, ◌∷◌, [], ℕ, List, None, Option, Some, ap, arith, length}
-use Rattle.std.proofs.Common.{map, option_map, refl, slice_get, sym, unwrap_or, All, nat_cmp}
-use Rattle.std.proofs.lemmas.Option.{slice_get-map}
+use Rattle.std.proofs.Common.{map, option_map, refl, slice_get, sym, unwrap_or, All, nat_cmp, ◌≤◌}
+use Rattle.std.proofs.lemmas.Option.{slice_get-map, slice_get_past}
 use Rattle.book_model.proofs.Std.{All-head, All-tail, cons_option, get, get-from_entries, length-map}
 use Rattle.book_model.proofs.Std.{nat_cmp_total}
 use Rattle.book_model.specs.declared.listed_ruling.ListedRuling.{ListedRuling}
 use Rattle.book_model.specs.Words.{Book, Credit, Naming, Replaced, ReplacedSeen, RulingSeen}
-use Rattle.book_model.specs.Words.{all_replaced_seen, credit_seen, replaced_seen, ruling_shown}
+use Rattle.book_model.specs.declared.bill.Credit as billed
+use Rattle.book_model.specs.Words.{all_replaced_seen, credit_seen, credit_shown, replaced_seen}
+use Rattle.book_model.specs.Words.{ruling_shown}
 use Rattle.book_model.specs.Words.{rulings_listed}
 use Rattle.book_core.specs.ListedRulings.{StandsAt, listed_with}
 use Rattle.book_core.specs.Words.{ruled_in}
@@ -53,11 +55,16 @@ replaced_found number tariff tables found =
 
 pub credit_found : (number : ℕ) (credit : StoredCredit) (tables : Tables)
     → FindsCredit number tables (Some credit)
-    → credit_read_at number tables.credits
-    ≡ Some (credit_seen (credit_entry credit).0 (credit_entry credit).1)
+    → get tables.credits number ≡ Some (credit_entry credit).1
 credit_found number credit tables found =
-    let say : ℕ × Credit → RulingSeen = λ entry. credit_seen entry.0 entry.1 in
-    of_row say number (get tables.credits number) ∙ sym (ap (option_map say) found)
+    by (get tables.credits number)
+    ∙ sym (ap (option_map (λ (entry : ℕ × Credit). entry.1)) found)
+  where
+    by : (kept : Option Credit) → kept
+        ≡ option_map (λ (entry : ℕ × Credit). entry.1)
+        (option_map (λ (credit : Credit). (number, credit)) kept)
+    by None = refl
+    by (Some credit) = refl
 
 -- ---- replaced tariffs, which came as texts
 
@@ -81,6 +88,27 @@ all_seen {book} (one ∷ rest) all =
     let first = one_seen one (All-head (IsReplaced book) one rest all).texted in
     let later = all_seen rest (All-tail (IsReplaced book) one rest all) in
     λ i. cons_option (first i) (later i)
+
+-- ---- credits by their numbers
+
+-- the row of a credit is under its number, from 1
+credit_at : (naming : Naming) (book : Book) (place : ℕ)
+    → get (tables_of naming book).credits (place + 1) ≡ slice_get book.rulings.credits place
+credit_at naming book place =
+    get-from_entries nat_cmp_total (under_numbers 1 book.rulings.credits) (place + 1)
+    ∙ find-numbers 1 (place + 1) place book.rulings.credits (omega arith)
+
+-- a credit that was looked up
+pub given_read : (naming : Naming) (book : Book) (place : ℕ) (credit : billed.Credit)
+    → get (tables_of naming book).credits (place + 1) ≡ Some (credit_shown credit)
+    → slice_get book.rulings.credits place ≡ Some (credit_shown credit)
+given_read naming book place credit read = sym (credit_at naming book place) ∙ read
+
+-- past those that are remembered there is none
+pub none_given : {summary : Summary} {book : Book} → Remembers summary book → (place : ℕ)
+    → summary.credits ≤ place → slice_get book.rulings.credits place ≡ None
+none_given {book = book} remembers place past =
+    slice_get_past book.rulings.credits place (omega (arith, remembers.credits, past))
 
 -- ---- what stands in the list
 
@@ -157,9 +185,7 @@ module _ {summary : Summary} {book : Book} (remembers : Remembers summary book) 
         → credit_read_at (place + 1) kept.credits ≡ Some (ruling_shown ruling)
         → slice_get (rulings_listed naming book.rulings) number ≡ Some (ruling_shown ruling)
     credit_read stands read =
-        let at : get kept.credits (place + 1) ≡ slice_get book.rulings.credits place =
-        get-from_entries nat_cmp_total (under_numbers 1 book.rulings.credits) (place + 1)
-        ∙ find-numbers 1 (place + 1) place book.rulings.credits (omega arith) in
+        let at = credit_at naming book place in
         by_book ∙ stands.1 naming book.rulings.choices book.rulings.replaced book.rulings.credits
         (sym remembers.choices) many_seen (sym remembers.credits)
         ∙ ap (option_map (credit_seen (place + 1))) (sym at) ∙ read

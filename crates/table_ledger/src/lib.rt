@@ -19,6 +19,7 @@ mod details;
 mod disputes;
 mod effects;
 mod finish;
+mod given_credits;
 mod ledger;
 mod listed_rulings;
 mod load;

@@ -2,21 +2,23 @@
 
 ghost use Rattle.std.specs.Prelude.{◌≡◌, ◌<◌, ◌+◌, IfOk, Some, option_map};
 ghost use Rattle.book_model.specs.Words.{Naming, ShowsDays, HasDays, most_choices, most_credits};
-ghost use Rattle.book_model.specs.Words.{credit_seen, most_replaced, ruling_outcome, ruling_shown};
+ghost use Rattle.book_model.specs.Words.{credit_seen, credit_shown, most_replaced, ruling_outcome};
+ghost use Rattle.book_model.specs.Words.{ruling_shown};
 ghost use Rattle.table_model.specs.ListsRead.{choice_read_at, choice_shown};
 ghost use Rattle.tree_tables.specs.States.{state_of};
 ghost use Rattle.tree_tables.specs.Steps.{Looks};
-ghost use Rattle.tree_tables.specs.Stored.{choice_entry, credit_entry, replaced_entry};
+ghost use Rattle.tree_tables.specs.Stored.{choice_entry, replaced_entry};
 ghost use Rattle.table_ledger.specs.RulingLooks.{credit_read_at, replaced_read_at, replaced_shown};
 ghost use Rattle.table_ledger.specs.Stages.{AttemptsOne};
 
 use crate::days::is_day;
+use crate::given_credits::look_for_given;
 use crate::summary::Summary;
-use book_core::{LedgerFault, ListedAt, ListedRuling, RulingCounts};
+use book_core::{Credit, LedgerFault, ListedAt, ListedRuling, RulingCounts};
 use sqlite_trees::error::StoreError;
 use sqlite_trees::store::Store;
 use std::alloc::Global;
-use tree_tables::{StoredChoice, StoredCredit, StoredReplaced, TreeTables};
+use tree_tables::{StoredChoice, StoredReplaced, TreeTables};
 
 /// A choice as the list shows it.
 fn listed_choice(choice: &StoredChoice) -> ListedRuling
@@ -88,14 +90,13 @@ fn look_for_replaced<S: Store>(
     Ok(listed_replaced(tariff))
 }
 
-/// A credit as the list shows it.
-fn listed_credit(credit: StoredCredit) -> ListedRuling
-    ensures shown { ruling_shown result
-        ≡ credit_seen (credit_entry credit).0 (credit_entry credit).1 }
+/// A credit as the list shows it, by its number.
+fn listed_credit(number: u32, credit: Credit) -> ListedRuling
+    ensures shown { ruling_shown result ≡ credit_seen number (credit_shown credit) }
     ensures days { HasDays (ruling_shown result) }
 {
     ListedRuling::Credit {
-        number: credit.number,
+        number,
         period: credit.period,
         centre: credit.centre,
         amount: credit.amount,
@@ -114,10 +115,8 @@ fn look_for_credit<S: Store>(
         (λ tables ruling. credit_read_at (place + 1) tables.credits ≡ Some (ruling_shown ruling)) }
     ensures days { IfOk result (λ ruling. HasDays (ruling_shown ruling)) }
 {
-    let Some(credit) = tables.find_credit(alloc, place + 1)? else {
-        return Err(StoreError::Corrupt);
-    };
-    Ok(listed_credit(credit))
+    let credit = look_for_given(tables, alloc, place)?;
+    Ok(listed_credit(place + 1, credit))
 }
 
 /// The ruling of a number in the list, if there is one: a choice, a replaced tariff or a credit

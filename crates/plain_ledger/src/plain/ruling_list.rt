@@ -1,15 +1,17 @@
 //! The list of the office's rulings, as it is read of a plain ledger.
 
 use super::PlainLedger;
+use crate::credits::credit_at;
 use crate::replaced::list_replaced;
 use book_core::{ListedAt, RulingCounts, name_of};
-use book_model::{LedgerFault, ListedRuling, Naming};
+use book_model::{Credit, LedgerFault, ListedRuling, Naming};
 use std::alloc::AllocError;
 
 impl<N: Naming + Drop> PlainLedger<N> {
     ghost use Rattle.std.specs.Prelude.{◌≡◌, ◌<◌, ◌≤◌, ◌+◌, IfOk, Some, length, option_map};
     ghost use Rattle.std.specs.Prelude.{slice_get};
     ghost use Rattle.book_model.specs.Words.{Answers, HasDays, ShowsDays, choice_seen, credit_seen};
+    ghost use Rattle.book_model.specs.Words.{credit_given_outcome, credit_shown};
     ghost use Rattle.book_model.specs.Words.{most_replaced, ruling_outcome, ruling_shown};
     ghost use Rattle.plain_ledger.specs.PlainBook.{book_in, naming_in};
 
@@ -87,5 +89,14 @@ impl<N: Naming + Drop> PlainLedger<N> {
             ListedAt::Credit(place) => Ok(Some(self.credit_listed(place)?)),
             ListedAt::Other(found) => Ok(found),
         }
+    }
+
+    /// The credit of a number, if there is one.
+    pub(super) fn credit_kept(&self, number: u64) -> Result<Option<Credit>, LedgerFault>
+        ensures { Answers (λ found. option_map credit_shown found) result
+            (credit_given_outcome number (book_in self.now)).answer }
+    {
+        let found = credit_at(&self.credits, number)?;
+        Ok(found)
     }
 }

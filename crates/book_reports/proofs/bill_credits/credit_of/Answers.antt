@@ -1,10 +1,17 @@
-use Rattle.std.proofs.Common.{FitsSigned, rules, w64}
-use Rattle.book_model.proofs.Std.{to_z-of_z}
+use Rattle.std.proofs.Common.{◌∙◌, Bool, Some, ap, sym}
+use Rattle.book_model.specs.Words.{credit_shown}
+use Rattle.book_reports.specs.BillCredits.{credit_if}
 use Rattle.book_reports.proofs.bill_credits.credit_of.Goals as goal
 
-pub returns-in-Credit : goal.returns-in-Credit
-returns-in-Credit c =
-    let amount = c.in-Credit.amount in
-    let fits : FitsSigned w64 amount = search rules in
-    rw c.in-Credit.is
-    (rw (to_z-of_z w64 amount fits, c.as_str.ensures.value) at c.credit_if.ensures)
+-- it is not on the bill
+pub returns-then-not-is_billed : goal.returns-then-not-is_billed
+returns-then-not-is_billed c =
+    let billed = sym c.is_billed.ensures ∙ c.if-not-is_billed.true in
+    ap (λ (billed : Bool). credit_if billed (credit_shown c.args.credit.now)) (sym billed)
+
+-- or it is
+pub returns : goal.returns
+returns c =
+    let billed = sym c.is_billed.ensures ∙ c.if-not-is_billed.false in
+    ap Some c.in_ok-copy.ensures
+    ∙ ap (λ (billed : Bool). credit_if billed (credit_shown c.args.credit.now)) (sym billed)

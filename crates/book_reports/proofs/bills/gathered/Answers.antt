@@ -79,7 +79,7 @@ returns-clause-bill g c =
     let held = both_shown (λ book. refl) lines (rw lines.work.naming at c.in_ok-held.ensures) in
     let days = both_shown (λ book. refl) held c.in_ok-days.ensures.days in
     let kept = both_shown (λ book. refl) days c.in_ok-kept.ensures.tariffs in
-    let all = both_shown (λ book. refl) kept (rw kept.work.naming at c.in_ok-credits.ensures.credits) in
+    let all = both_shown (λ book. refl) kept c.in_ok-credits.ensures.credits in
     answers _ (λ book. refl)
     (λ book known. bill_known naming c.args.period c.args.centre.now c.in_ok-work.work
     c.in_ok-lines.lines.items c.in_ok-held.held c.in_ok-days.days c.in_ok-kept.kept

@@ -1,7 +1,7 @@
 use Rattle.std.proofs.Common.{◌∙◌, List, None, Ok, ap, length, refl, sym}
 use Rattle.book_model.proofs.Std.{length-map}
 use Rattle.book_model.specs.Words.{Credit, credit_shown}
-use Rattle.book_reports.proofs.BillCreditLemmas.{credits_listed}
+use Rattle.book_reports.proofs.BillCreditLemmas.{credits_are}
 use Rattle.book_reports.proofs.Words.{call_failed, read_as, same_value}
 use Rattle.book_reports.proofs.figures.count_credits.Goals as goal
 
@@ -13,11 +13,10 @@ returns-in_err-credits g c =
 -- there are as many as were gathered
 pub returns : goal.returns
 returns g c =
-    let naming = (g.L.Ledger.seen c.args.ledger.now).naming in
     let credits = c.in_ok-credits.credits.items in
     read_as (λ book. refl) (λ book. refl) (record { reopen = refl; store = refl })
     (λ book said.
-    let are = sym (credits_listed naming c.args.period None book.rulings) ∙ same_value said in
+    let are = sym (credits_are c.args.period None book.rulings) ∙ same_value said in
     ap (λ (all : List Credit). Ok (length all)) are
     ∙ ap Ok (length-map credits credit_shown ∙ sym c.len.ensures))
     c.in_ok-credits.ensures
