@@ -19,7 +19,7 @@ ADJUSTMENT_COLUMNS = "period,action,day,centre,shift,amount,name,job"
 STATEMENT_COLUMNS = "period,day,centre,shift,count,cpu,blocks,"
 DETAIL_COLUMNS = "period,day,centre,shift,time,job,program,jobid,step,cpu,blocks,amount,name"
 BILL_COLUMNS = "period,day,centre,shift,kind,count,cpu,blocks,amount,of_period,name,job,program,jobid,step,percent"
-OFFICE_BILL_COLUMNS = "period,centre,steps,jobs,late,reversed,owed,booked"
+OFFICE_BILL_COLUMNS = "period,centre,steps,jobs,late,reversed,owed,booked,credits"
 COVERAGE_COLUMNS = "period,day,system,count,first,last"
 # The columns of FOCUS 1.0 that have something to say of a period, by their public names.
 FOCUS_COLUMNS = (
@@ -315,8 +315,8 @@ def placed(widths, cells):
 
 
 def sums_columns(*cells):
-    """A line of sums: a centre, and five amounts."""
-    return placed((-16, 13, 13, 13, 13, 13), cells)
+    """A line of sums: a centre, and five amounts; or six, where something is credited."""
+    return placed((-16, *(len(cells) - 1) * (13,)), cells)
 
 
 def work_columns(*cells):
@@ -329,6 +329,11 @@ def record_columns(*cells):
     return placed((-10, -16, -8, -8, -8, 5, 6, 32), cells)
 
 
+def credit_columns(*cells):
+    """A line of a credit: its reason, and its amount."""
+    return placed((-78, 21), cells)
+
+
 def booked(amount, places):
     """So many units of the last of some decimals, the nearest ones: halves go away from zero."""
     unit = 10 ** (4 - places)
@@ -336,9 +341,9 @@ def booked(amount, places):
     return units if amount >= 0 else -units
 
 
-def owed(steps, jobs, late, taken_back):
+def owed(steps, jobs, late, taken_back, credited):
     """What a bill comes to."""
-    return steps + jobs + late - taken_back
+    return steps + jobs + late - taken_back - credited
 
 
 def step_of(one):
@@ -820,13 +825,17 @@ class Books:
         """How many decimals a bill books: as the last of its tariffs says."""
         return ([2] + [one.booked_decimals() for one in self.tariffs_in(period)])[-1]
 
-    def sums_line(self, period, word, parts, booked_units=None):
-        """The line of sums of a centre, or of all."""
-        steps, jobs, late, back = parts
+    def sums_heading(self, has_credits):
+        """The names of the columns of sums."""
+        return sums_columns("CENTRE", "CHARGED", "LATE", "REVERSED", *["CREDITS"] * has_credits, "OWED", "BOOKED")
+
+    def sums_line(self, period, word, parts, has_credits, booked_units=None):
+        """The line of sums of a centre, or of all. What is credited stands there only on a bill that has a credit."""
+        steps, jobs, late, back, credited = parts
         places = self.booked_decimals(period)
         units = booked(owed(*parts), places) if booked_units is None else booked_units
-        return sums_columns(word, *(decimals(one, 4) for one in (steps + jobs, late, back, owed(*parts))),
-                            decimals(units, places))
+        amounts = (steps + jobs, late, back, *[credited] * has_credits, owed(*parts))
+        return sums_columns(word, *(decimals(one, 4) for one in amounts), decimals(units, places))
 
     def tariff_on(self, day):
         """The tariff in force on a day."""
@@ -876,21 +885,35 @@ class Books:
                 yield "  " + one.name
             yield record_columns("TOTAL", *6 * ("",), decimals(sum(one.amount for one in lines), 4))
 
+    def credit_part(self, period, centre):
+        """What is credited, if something is: each with its reason."""
+        credits = self.credits_of(period, centre)
+        if credits:
+            yield "CREDITS"
+            yield credit_columns("REASON", "AMOUNT")
+            yield from (credit_columns(reason, decimals(amount, 4)) for _, amount, reason in credits)
+            yield credit_columns("TOTAL", decimals(sum(amount for _, amount, _ in credits), 4))
+
     def bill_end(self, period, centre):
         """What a bill says of disputes, while its period is open. As they end a closed period's bill stays as it is."""
         if period == self.open:
             count, least, greatest = self.held_back(centre)
             yield "DISPUTES %d LEAST %s GREATEST %s" % (count, decimals(least, 4), decimals(greatest, 4))
 
+    def credits_of(self, period, centre=None):
+        """The credits of a period, of all centres or of one: of each its centre, its amount and its reason."""
+        return [credit for of_period, *credit in self.credits if of_period == period and centre in (None, credit[0])]
+
     def parts(self, period, centre=None):
-        """What a bill has of steps, of jobs, of what came late, and of what was reversed."""
+        """What a bill has of steps, of jobs, of what came late, of what was reversed, and of what is credited."""
         rows = [sum(sums[3] for _, sums in rows) for rows in self.work(period, centre)]
-        return rows + [sum(one.amount for sign, one in self.lines(period, centre) if sign == which) for which in (1, -1)]
+        rows += [sum(one.amount for sign, one in self.lines(period, centre) if sign == which) for which in (1, -1)]
+        return rows + [sum(amount for _, amount, _ in self.credits_of(period, centre))]
 
     def billed(self, period):
-        """The centres that a period has rows or lines of, each with the parts of its bill."""
+        """The centres that a period has rows, lines or credits of, each with the parts of its bill."""
         centres = {self.held[name].centre for name in self.counted(period)}
-        centres |= {one.centre for _, one in self.lines(period)}
+        centres |= {one.centre for _, one in self.lines(period)} | {centre for centre, _, _ in self.credits_of(period)}
         return [(centre, self.parts(period, centre)) for centre in sorted(centres)]
 
     def bill(self, period, centre=None):
@@ -900,8 +923,9 @@ class Books:
 
     def centre_bill(self, period, centre):
         """What a department gets below the head: its sums, the prices and percents, and what the sums are made of."""
-        yield sums_columns("CENTRE", "CHARGED", "LATE", "REVERSED", "OWED", "BOOKED")
-        yield self.sums_line(period, centre, self.parts(period, centre))
+        has_credits = self.credits_of(period, centre) != []
+        yield self.sums_heading(has_credits)
+        yield self.sums_line(period, centre, self.parts(period, centre), has_credits)
         yield from self.bill_end(period, centre)
         yield from self.bill_terms(period)
         for by_tariff in (True, False):
@@ -909,14 +933,16 @@ class Books:
                 yield from self.work_part(period, centre, is_job, by_tariff)
         for which in (1, -1):
             yield from self.record_part(period, centre, which)
+        yield from self.credit_part(period, centre)
 
     def office_bill(self, period):
         """A line for each centre, and the office's total, which books what they do together."""
-        yield sums_columns("CENTRE", "CHARGED", "LATE", "REVERSED", "OWED", "BOOKED")
+        has_credits = self.credits_of(period) != []
+        yield self.sums_heading(has_credits)
         billed, places = self.billed(period), self.booked_decimals(period)
         for word, parts in billed:
-            yield self.sums_line(period, word, parts)
-        yield self.sums_line(period, "TOTAL", self.parts(period),
+            yield self.sums_line(period, word, parts, has_credits)
+        yield self.sums_line(period, "TOTAL", self.parts(period), has_credits,
                              sum(booked(owed(*parts), places) for _, parts in billed))
         yield from self.bill_end(period, None)
         yield from self.bill_terms(period)
@@ -926,8 +952,9 @@ class Books:
             yield OFFICE_BILL_COLUMNS
             places = self.booked_decimals(period)
             for name, parts in self.billed(period):
-                yield comma_line(period, name, *(decimals(amount, 4) for amount in (*parts, owed(*parts))),
-                                 decimals(booked(owed(*parts), places), places))
+                *charges, credited = parts
+                yield comma_line(period, name, *(decimals(amount, 4) for amount in (*charges, owed(*parts))),
+                                 decimals(booked(owed(*parts), places), places), decimals(credited, 4))
             return
         yield BILL_COLUMNS
         for is_job in (False, True):
@@ -940,6 +967,8 @@ class Books:
             yield comma_line(period, one.day, one.centre, one.shift, ACTIONS[sign], "", "", "",
                              decimals(sign * one.amount, 4), self.of_which(period, sign, one), one.name, one.job,
                              one.program, one.job_id, step_of(one), "")
+        for _, amount, reason in self.credits_of(period, centre):
+            yield comma_line(period, "", centre, "", "CREDIT", *3 * ("",), decimals(-amount, 4), "", "", reason, *4 * ("",))
         for one in self.tariffs_in(period):
             for kind, subtype in (("STEP-PRICE", b"\0\4"), ("JOB-PRICE", b"\0\5")):
                 yield comma_line(period, one.effective, centre, "", kind, *one.prices_of(subtype), *8 * ("",))

@@ -190,6 +190,10 @@ DIGITS = re.compile("[0-9A-Fa-f]{64}")
 
 OF_PERIODS = "statement table adjustments adjustment_table".split()
 
+# What spells an amount, in ten-thousandths without its point, and what a reason is.
+AMOUNT = re.compile(r"-?(?:0|[1-9][0-9]{0,9})\.[0-9]{4}")
+REASON = re.compile("[ -~]{1,200}")
+
 # A period in a path.
 NUMBER = re.compile("[1-9][0-9]{0,3}")
 
@@ -305,13 +309,15 @@ class Rows:
         """How often a bill asks the books. For its steps and jobs: for the days of the closes, for each detail, and for
         the end, which is all where there is no such period. For its lines: for these, and of a centre for the trail of
         each record. For what is held back: for the days, and while the period is open for each dispute and the end. For
-        its first day: for the days. For its tariffs: for the days, for each tariff, and for the end."""
+        its first day: for the days. For its tariffs: for the days, for each tariff, and for the end. For its credits: for
+        each credit of the books, and for the end."""
         books = self.books
         if not 0 < period <= books.open:
             return 2
         lines = 0 if centre is None else len(books.lines(period, centre))
         disputes = len(books.disputed()) + 1 if period == books.open else 0
-        return 2 + len(books.counted_in_order(period, centre)) + 1 + lines + 1 + disputes + 1 + 2 + len(books.tariffs)
+        asks = 2 + len(books.counted_in_order(period, centre)) + 1 + lines + 1 + disputes + 1 + 2 + len(books.tariffs)
+        return asks + len(books.credits) + 1
 
     def bill(self, verb, period, centre=None):
         """The bill of a centre for a period, or of all, or why there is none."""
@@ -582,10 +588,10 @@ class Rows:
         output = self.output(words[at + 1:])
         errors = []
         if not isinstance(output, bytes):
-            errors = [line for line in output if line.startswith("chargectl")]
+            errors = [line for line in output if line.startswith(("chargectl", "error: "))]
             output = bytes_of(line for line in output if line not in errors)
         refusal = ["! " + line for line in errors]
-        refusal += ["STATUS %d" % (1 if line == "chargectl: io" else 3) for line in errors]
+        refusal += ["STATUS %d" % (2 if line.startswith("error: ") else 1 if line == "chargectl: io" else 3) for line in errors]
         notices = ["! " + line for line in self.notices]
         return output_shown(verb, words[:at + 1], output) + notices + refusal
 
@@ -609,7 +615,8 @@ class Rows:
         # How long a command waits for books changes nothing that it says of them.
         words = [word for word, before in zip(words, [""] + words) if "--wait" not in (word, before)]
         is_tried = "--dry-run" in words
-        verb, book, *words = [word for word in words if word != "--dry-run"]
+        # After -- a word is no option, whatever it begins with.
+        verb, book, *words = [word for word in words if word not in ("--dry-run", "--")]
         if book != "@books":
             raise NotKnown
         books, given = self.books, dict(options(words))
@@ -647,6 +654,17 @@ class Rows:
                 return ["chargectl: word"]
             return self.ruled(office.ruling_of_close(int(period), day_of(word)), is_tried)
 
+        def credit(period, centre, amount, reason):
+            """A credit. What is no name of a centre is a wrong word; then the amount is looked at, and the reason."""
+            if not office.is_name(centre):
+                return ["chargectl: word"]
+            units = int(amount.replace(".", "")) if AMOUNT.fullmatch(amount) else 0
+            if units == 0:
+                return ["error: AMOUNT has four decimals and is not 0"]
+            if not REASON.fullmatch(reason):
+                return ["error: REASON has 1 to 200 printable characters"]
+            return self.ruled(office.ruling_of_credit(int(period), centre, units, reason), is_tried)
+
         def choose(name=None, *_):
             """One choice, or those of a file. What is no name in the file is a wrong word, before the first of them."""
             if "--from" not in given:
@@ -669,6 +687,7 @@ class Rows:
                 "record": record,
                 "import": lambda file: self.dumped(books.take(self.file(file))),
                 "choose": choose,
+                "credit": credit,
                 "adopt": lambda: self.ruled(office.ruling_of_adoption(), is_tried),
                 "rulings": lambda: list(books.rulings()),
                 "periods": lambda: list(books.periods()),
