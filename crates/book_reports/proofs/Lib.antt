@@ -8,6 +8,7 @@ pub mod DisputeLemmas
 pub mod DetailLemmas
 pub mod DetailLengths
 pub mod TariffLemmas
+pub mod ReplacedTextLemmas
 pub mod WhatIfLemmas
 pub mod NextTariffLemmas
 pub mod FigureLemmas

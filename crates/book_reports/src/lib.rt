@@ -24,6 +24,7 @@ mod pages;
 mod period_days;
 mod receipt_lines;
 mod record_names;
+mod replaced_texts;
 mod report;
 mod reports;
 mod ruling_texts;
