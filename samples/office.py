@@ -1065,6 +1065,11 @@ class Books:
         """The file of the tariff that begins on a day, if one does."""
         return next((tariff.file for tariff in self.tariffs if tariff.effective == day), None)
 
+    def replaced_text(self, day, digest):
+        """The file of a tariff of a day that another took the place of, by its SHA-256, if there is one."""
+        files = [old.file for _, old in self.replaced if old.effective == day]
+        return next((file for file in files if hashlib.sha256(file).hexdigest() == digest), None)
+
     def has_centre(self, period, centre):
         """A centre is there in a period, if a tariff has a rule for it that begins no later than the period's last day; and that
         of the work to which no rule applies is."""

@@ -637,11 +637,13 @@ class Rows:
             file = self.file(file)
             return ["chargectl: io"] if file is None else books.what_if(file, int(period), centre, "--csv" in given)
 
-        def tariff_text(word):
-            """The file of a tariff, by the day on which it begins. What is no day is a wrong word."""
-            if day_of(word) is None:
+        def tariff_text(word, *_):
+            """The file of a tariff, by the day on which it begins, or one that another took the place of. What is no day is a
+            wrong word, and so is what spells no SHA-256."""
+            digest = given.get("--replaced")
+            if day_of(word) is None or digest is not None and not DIGITS.fullmatch(digest):
                 return ["chargectl: word"]
-            file = books.tariff_text(day_of(word))
+            file = books.tariff_text(day_of(word)) if digest is None else books.replaced_text(day_of(word), digest.lower())
             return office.refused(office.NO_SUCH_TARIFF) if file is None else file
 
         def record(word):

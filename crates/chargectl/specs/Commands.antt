@@ -56,6 +56,11 @@ abbrev pub asked_centre : Option (Bor (List ℕ)) → Option (Option (List ℕ))
 asked_centre None = Some None
 asked_centre (Some text) = option_map Some (centre_named text.now)
 
+-- the tariff of a day that another took the place of, by the SHA-256 of its text
+abbrev pub replaced_by : Option ℤ → Option (List ℕ) → Option About
+replaced_by (Some day) (Some digest) = Some (about.OfReplaced day digest)
+replaced_by day digest = None
+
 -- what words say that a report is about, if each of them is what it has to be
 abbrev pub about_of : Words → Option About
 about_of (worded.OfCentre period) =
@@ -63,6 +68,7 @@ about_of (worded.OfCentre period) =
 about_of (worded.OfPeriod period) = Some (about.OfPeriod period)
 about_of worded.OfOffice = Some about.OfOffice
 about_of (worded.OfDay date) = option_map about.OfDay (day_of_text_of date.now)
+about_of (worded.OfReplaced date digest) = replaced_by (day_of_text_of date.now) (name_in digest.now)
 about_of (worded.OfRecord name) = option_map about.OfRecord (name_in name.now)
 
 -- the report that they ask for

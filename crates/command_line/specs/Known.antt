@@ -93,6 +93,10 @@ reason = place (codes "reason") any
 abbrev pub date : WordSeen
 date = place (codes "date") any
 
+-- the text of a tariff that another took the place of
+abbrev pub replaced : WordSeen
+replaced = named_if_given (codes "replaced") any
+
 abbrev pub digest : WordSeen
 digest = place_if_given (codes "sha256") any
 
@@ -174,9 +178,10 @@ named_by about.OfOffice = []
 named_by about.OfDay = date ∷ []
 named_by about.OfRecord = record_name ∷ []
 
--- and of which centre
+-- and of which centre, or which tariff that another took the place of
 abbrev pub chosen_by : subject.Shape → List WordSeen
 chosen_by about.OfCentre = centre ∷ []
+chosen_by about.OfDay = replaced ∷ []
 chosen_by other = []
 
 -- what may be a table, or be made by other prices

@@ -127,7 +127,10 @@ abbrev pub HasShape : Shape → List Row → Words → Type 0
 HasShape shape.OfCentre rows (worded.OfCentre period) = NamesPeriod rows period
 HasShape shape.OfPeriod rows (worded.OfPeriod period) = IsPeriod rows period
 HasShape shape.OfOffice rows worded.OfOffice = ⊤
-HasShape shape.OfDay rows (worded.OfDay date) = IsText rows (codes "date") date
+HasShape shape.OfDay rows (worded.OfDay date) =
+    IsText rows (codes "date") date × IsLeftOut rows (codes "replaced")
+HasShape shape.OfDay rows (worded.OfReplaced date digest) =
+    IsText rows (codes "date") date × IsText rows (codes "replaced") digest
 HasShape shape.OfRecord rows (worded.OfRecord digest) = IsText rows (codes "sha256") digest
 HasShape other rows words = ⊥
 

@@ -15,6 +15,7 @@ pub(crate) enum Help {
     Reason,
     Date,
     FirstDay,
+    Replaced,
     Sha256,
     RecordName,
     Names,
@@ -57,6 +58,7 @@ impl Help {
             Help::Reason => "Why, in 1 to 200 printable characters: it stands on the bill",
             Help::Date => "The last day of the period, such as 2024-01-31",
             Help::FirstDay => "The tariff's first day, such as 2024-01-01",
+            Help::Replaced => "The file that another took the place of, as the rulings show it",
             Help::Sha256 => "The record's name, as the list of disputes shows it",
             Help::RecordName => {
                 "The record's name, as details and the lists of disputes and adjustments show it"
@@ -104,7 +106,7 @@ impl Help {
             Help::Names | Help::Prices | Help::OtherPrices => "FILE",
             Help::Period => "PERIOD",
             Help::Date | Help::FirstDay => "DATE",
-            Help::Sha256 | Help::RecordName => "SHA256",
+            Help::Sha256 | Help::RecordName | Help::Replaced => "SHA256",
             Help::Layout => "LAYOUT",
             Help::Wait => "SECONDS",
             Help::Centre | Help::Credited => "CENTRE",

@@ -72,6 +72,8 @@ const DATE: Argument = Argument::InPlace("date", Help::Date, ValueKind::Text);
 
 const FIRST_DAY: Argument = Argument::InPlace("date", Help::FirstDay, ValueKind::Text);
 
+const REPLACED: Argument = Argument::NamedIfGiven("replaced", Help::Replaced, ValueKind::Text);
+
 const SHA256: Argument = Argument::InPlaceIfGiven("sha256", Help::Sha256, ValueKind::Text);
 
 const RECORD_NAME: Argument = Argument::InPlace("sha256", Help::RecordName, ValueKind::Text);
@@ -256,7 +258,7 @@ pub(crate) static KNOWN_COMMANDS: [KnownCommand; 27] = [
     KnownCommand {
         name: "tariff-text",
         about: "Prints the tariff file that begins on a day, byte for byte",
-        words: &[BOOK, FIRST_DAY, WAIT, EXPLAIN],
+        words: &[BOOK, FIRST_DAY, REPLACED, WAIT, EXPLAIN],
     },
     KnownCommand {
         name: "upgrade",

@@ -122,6 +122,12 @@ pub enum Words<'a> {
     OfOffice,
     /// The first day of a tariff, as `YYYY-MM-DD`.
     OfDay(&'a str),
+    /// That of a tariff which another took the place of.
+    OfReplaced {
+        date: &'a str,
+        /// The SHA-256 of its text, as 64 hexadecimal digits.
+        digest: &'a str,
+    },
     /// The name of a record, as 64 hexadecimal digits.
     OfRecord(&'a str),
 }
