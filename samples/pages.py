@@ -143,11 +143,16 @@ def bar_table(caption, heading, costs):
 # ---- Figures of a period
 
 def figures(books, period):
-    """How many records it counts, what it charges, adds and reverses, and what it is owed."""
+    """How many records it counts, what it charges, adds and reverses, and what it is owed, which is less by its credits."""
     rows, lines = books.rows(period), books.lines(period)
     records, charged = (sum(sums[at] for _, sums in rows) for at in (0, 3))
     added, reverses = (sum(one.amount for sign, one in lines if sign == which) for which in (1, -1))
-    return records, charged, added, reverses, charged + added - reverses
+    return records, charged, added, reverses, charged + added - reverses - credited(books, period)
+
+
+def credited(books, period):
+    """What its credits come to."""
+    return sum(one for _, one, _ in books.credits_of(period))
 
 
 # ---- The page of the office
@@ -196,11 +201,12 @@ def gaps(books, period):
 
 
 def head(books, period):
-    """Its number, whether it is open, its sums, and its gaps."""
-    _, *amounts = figures(books, period)
+    """Its number, whether it is open, its sums, and its gaps. What is credited is there only where something is."""
+    _, *sums, owed = figures(books, period)
+    credits = [("Credits", credited(books, period))] * (books.credits_of(period) != [])
     yield "<header>\n<p><a href='/'>Office</a></p>\n<h1>Period %d</h1>\n<p>%s</p>\n</header>\n<dl>\n" % (
         period, books.head(period))
-    for name, one in zip(("Charged", "Added", "Reversed", "Owed"), amounts):
+    for name, one in [*zip(("Charged", "Added", "Reversed"), sums), *credits, ("Owed", owed)]:
         yield "<div><dt>%s</dt><dd>%s</dd></div>\n" % (name, amount(one))
     yield "<div><dt>Gaps</dt><dd>%s</dd></div>\n</dl>\n" % gaps(books, period)
 

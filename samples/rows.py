@@ -347,12 +347,14 @@ class Rows:
         return self.books.of_period(getattr(self.books, OF_OFFICE[verb]), int(period))
 
     def page_asks(self, period):
-        """How often a page asks the books. That of the office: for the days of the closes, and for the rows and the lines of
-        each period. That of a period: for its coverage, which is all where there is no such period, for its rows and its
-        lines, for the disputes, and for the days of the closes."""
+        """How often a page asks the books. That of the office: for the days of the closes, for each credit and for the end, and
+        for the rows and the lines of each period. That of a period: for its coverage, which is all where there is no such
+        period, for its rows and its lines, for each credit of the books and for the end, for the disputes, and for the days of
+        the closes."""
+        credits = len(self.books.credits) + 1
         if period is None:
-            return 1 + 2 * self.books.open
-        return self.office_asks("coverage", period) + 4 * (0 < period <= self.books.open)
+            return 1 + credits + 2 * self.books.open
+        return self.office_asks("coverage", period) + (4 + credits) * (0 < period <= self.books.open)
 
     def page(self, period=None):
         """The page of a period, or of the office, or why there is none."""

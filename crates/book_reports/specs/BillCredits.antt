@@ -33,6 +33,10 @@ credits_shown credits = map credit_shown credits.items
 abbrev pub credits_outcome : ℕ → Option (List ℕ) → Book → Outcome (List Credit)
 credits_outcome number named book = no_event (Ok (credits_of number named book.rulings.credits))
 
+-- and to all credits
+abbrev pub given_outcome : Book → Outcome (List Credit)
+given_outcome book = no_event (Ok book.rulings.credits)
+
 -- what a credit comes to, whatever its sign
 abbrev pub size_of : Credit → ℕ
 size_of credit = (plain_credit credit).credited + (plain_credit credit).debited

@@ -19,9 +19,9 @@ const CREDITS_END: u64 = 1 << 62;
 
 /// Keeps the credits of a period, for the centre that is named or for the whole office.
 #[derive(Drop)]
-struct CreditStep {
-    period: u16,
-    centre: Option<Name>,
+pub(crate) struct CreditStep {
+    pub(crate) period: u16,
+    pub(crate) centre: Option<Name>,
 }
 
 /// The centre is the one that is named, or none is.
@@ -42,7 +42,7 @@ fn is_billed(step: &CreditStep, credit: &Credit) -> bool
 }
 
 /// A copy of a credit, if it is kept.
-fn credit_of(step: &CreditStep, credit: &Credit) -> Result<Option<Credit>, AllocError>
+pub(crate) fn credit_of(step: &CreditStep, credit: &Credit) -> Result<Option<Credit>, AllocError>
     ensures { IfOk result (λ found. option_map credit_shown found
         ≡ spec.credit_of step.now.period step.now.centre (credit_shown credit.now)) }
 {
@@ -54,7 +54,7 @@ fn credit_of(step: &CreditStep, credit: &Credit) -> Result<Option<Credit>, Alloc
 }
 
 /// One more joins the others, if there is one.
-fn push_found(credits: &mut Vec<Credit>, found: Option<Credit>) -> Result<(), AllocError>
+pub(crate) fn push_found(credits: &mut Vec<Credit>, found: Option<Credit>) -> Result<(), AllocError>
     ensures { OnOk result (map credit_shown credits.new.items
         ≡ map credit_shown credits.old.items ++ cons_option (option_map credit_shown found) []) }
 {
@@ -120,7 +120,7 @@ fn with_size(sum: u64, credit: &Credit) -> Option<u64>
 }
 
 /// Credits come to so little that a bill can show them, or there is no room for it.
-fn fit_credits(credits: &[Credit]) -> Result<(), AllocError>
+pub(crate) fn fit_credits(credits: &[Credit]) -> Result<(), AllocError>
     ensures { OnOk result (FitCredits (plain_credits (map credit_shown credits.now))) }
 {
     let mut sum: u64 = 0;

@@ -17,6 +17,7 @@ mod detail_lengths;
 mod figures;
 mod focus_days;
 mod focus_reports;
+mod given_credits;
 mod held_back;
 mod known_centres;
 mod next_tariffs;

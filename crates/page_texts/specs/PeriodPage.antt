@@ -3,7 +3,7 @@
 use Rattle.std.specs.Prelude.{ℕ, ℤ, ◌-◌, List, ◌++◌}
 use Rattle.book_model.specs.declared.line.Line.{Line}
 use Rattle.book_model.specs.declared.row.ChargeRow.{ChargeRow}
-use Rattle.book_model.specs.Words.{Disputed, close_of}
+use Rattle.book_model.specs.Words.{Credit, Disputed, close_of}
 use Rattle.coverage_texts.specs.declared.coverage_rows.CoverageRow.{CoverageRow}
 use Rattle.page_texts.specs.Figures.{figures_of}
 use Rattle.page_texts.specs.Frame.{page_start}
@@ -12,12 +12,12 @@ use Rattle.page_texts.specs.PeriodPictures.{centre_part, day_part}
 use Rattle.page_texts.specs.PeriodTables.{adjustment_part, dispute_part, statement_part}
 
 -- the page of a period, by its number, the days that periods were closed through, its charge rows,
--- its adjustment lines, the disputes of the office, and the rows of its coverage
+-- its adjustment lines, its credits, the disputes of the office, and the rows of its coverage
 abbrev pub period_page_text :
-    ℕ → List ℤ → List ChargeRow → List Line → List Disputed → List CoverageRow → List ℕ
-period_page_text period closes rows lines disputes coverage =
+    ℕ → List ℤ → List ChargeRow → List Line → List Credit → List Disputed → List CoverageRow → List ℕ
+period_page_text period closes rows lines credits disputes coverage =
     page_start (period_title period)
-    ++ period_head (period_title period) (close_of period closes) (figures_of rows lines)
+    ++ period_head (period_title period) (close_of period closes) (figures_of rows lines credits)
     ++ gaps_figure coverage ++ day_part rows ++ centre_part rows
     ++ statement_part rows ++ adjustment_part lines
     ++ dispute_part (close_of (period - 1) closes) (close_of period closes) disputes

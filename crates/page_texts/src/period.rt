@@ -1,7 +1,9 @@
 //! The page of a period.
 
 ghost use Rattle.std.specs.Prelude.{◌≡◌, All, IfOk, map, string_bytes};
-ghost use Rattle.book_model.specs.Words.{AreDisputes, AreLines, AreRows, IsDay, dispute_shown};
+ghost use Rattle.book_model.specs.Words.{AreDisputes, AreLines, AreRows, IsDay, credit_shown};
+ghost use Rattle.book_model.specs.Words.{dispute_shown};
+ghost use Rattle.report_texts.specs.Charges.{FitCredits, plain_credits};
 ghost use Rattle.page_texts.specs.PeriodPage as spec;
 
 use crate::closes::close_of;
@@ -12,15 +14,15 @@ use crate::period_disputes::push_dispute_part;
 use crate::period_head::{period_title, push_gaps_figure, push_period_foot, push_period_head};
 use crate::period_pictures::{push_centre_table, push_day_table};
 use crate::period_statement::push_statement_part;
-use book_model::{ChargeRow, Dispute, Line};
+use book_model::{ChargeRow, Credit, Dispute, Line};
 use coverage_texts::CoverageRow;
 use std::alloc::{AllocError, Global};
 use text_drafts::Draft;
 
 /// The page of a period: by its number, the days through which periods were closed, in order, its
-/// charge rows and its adjustment lines in the order in which the books give them, all disputes of
-/// the office, and the rows of its coverage. It shows the disputes that have a record dated in the
-/// period.
+/// charge rows and its adjustment lines in the order in which the books give them, its credits, all
+/// disputes of the office, and the rows of its coverage. It shows the disputes that have a record
+/// dated in the period.
 #[tactic(auto, unfolding(crate::specs::PeriodPictures::day_part, crate::specs::PeriodPictures::centre_part))]
 pub fn period_page(
     alloc: Global,
@@ -28,20 +30,23 @@ pub fn period_page(
     closes: &[i32],
     rows: &[ChargeRow],
     lines: &[Line],
+    credits: &[Credit],
     disputes: &[Dispute],
     coverage: &[CoverageRow],
 ) -> Result<String, AllocError>
     requires closes { All IsDay closes.now }
     requires rows { AreRows rows.now }
     requires lines { AreLines lines.now }
+    requires credits { FitCredits (plain_credits (map credit_shown credits.now)) }
     requires disputes { AreDisputes (map dispute_shown disputes.now) }
     ensures { IfOk result (λ page. string_bytes page ≡ spec.period_page_text period closes.now
-        rows.now lines.now (map dispute_shown disputes.now) coverage.now) }
+        rows.now lines.now (map credit_shown credits.now) (map dispute_shown disputes.now)
+        coverage.now) }
 {
     let number = usize::from(period);
     let before = close_of(closes, number.saturating_sub(1));
     let through = close_of(closes, number);
-    let figures = period_figures(alloc, rows, lines)?;
+    let figures = period_figures(alloc, rows, lines, credits)?;
     let days = day_costs(alloc, rows)?;
     let centres = centre_costs(alloc, rows)?;
     let title = period_title(alloc, period);

@@ -29,6 +29,13 @@ plain_credit credit = record {
 abbrev pub plain_credits : List Credit → List CreditAmount
 plain_credits credits = map plain_credit credits
 
+-- what credits take off together, and what those below 0 add
+abbrev pub credits_together : List Credit → ℕ × ℕ
+credits_together credits = (
+  sum_by (λ credit. credit.credited) (plain_credits credits),
+  sum_by (λ credit. credit.debited) (plain_credits credits),
+)
+
 -- what rows of steps, rows of jobs, lines and credits charge, in ten-thousandths of the money unit
 abbrev pub charges_of : List ChargeRow → List ChargeRow → List Line → List CreditAmount → Charges
 charges_of steps jobs lines credits = record {

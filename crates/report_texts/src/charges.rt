@@ -117,6 +117,15 @@ fn credit_sums(credits: &[CreditAmount]) -> (u64, u64)
     (credited, debited)
 }
 
+/// What credits take off together, and what those below 0 add.
+pub fn credits_together(alloc: Global, credits: &[Credit]) -> Result<(u64, u64), AllocError>
+    requires { FitCredits (spec.plain_credits (map credit_shown credits.now)) }
+    ensures { IfOk result (λ sums. sums ≡ spec.credits_together (map credit_shown credits.now)) }
+{
+    let plain = plain_credits(alloc, credits)?;
+    Ok(credit_sums(&plain))
+}
+
 /// What rows of steps, rows of jobs, lines and credits charge.
 fn charges_of(
     steps: &[ChargeRow],

@@ -36,8 +36,8 @@ pub use centres::{
     centre_statement_text, keep_lines, push_centre_title,
 };
 pub use charges::{
-    CentreCharges, Charges, CreditAmount, OfficeCharges, bill_charges, charged_in, office_charges,
-    plain_credit, push_credits, push_owed, taken_in,
+    CentreCharges, Charges, CreditAmount, OfficeCharges, bill_charges, charged_in,
+    credits_together, office_charges, plain_credit, push_credits, push_owed, taken_in,
 };
 pub use columns::{
     push_amount, push_blanks, push_count, push_credit_amount, push_left, push_number,
