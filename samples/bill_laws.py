@@ -256,8 +256,9 @@ class Tried(history.History):
         return [answer]
 
     def centres(self):
-        """All centres that some record is of, and one that none is of."""
-        return sorted({one.centre for one in self.books.held.values()}) + ["NOBODY"]
+        """All centres that some record or credit is of, and one that none is of."""
+        held = {one.centre for one in self.books.held.values()}
+        return sorted(held | {centre for _, centre, _, _ in self.books.credits}) + ["NOBODY"]
 
     def try_all(self):
         """The bills as they are now. Of a closed period's bill each text has to stay."""
