@@ -64,15 +64,15 @@ fn text_in(
     }
 }
 
-/// What was found stays; else it is what a later ruling has.
-fn put_first(found: &mut Option<String>, later: Option<String>)
-    ensures { option_map (λ text. string_bytes text) found.new ≡ spec.or_later
-        (option_map (λ text. string_bytes text) found.old)
+/// What was found, or else what a later ruling has.
+fn or_later(found: Option<String>, later: Option<String>) -> Option<String>
+    ensures { option_map (λ text. string_bytes text) result ≡ spec.or_later
+        (option_map (λ text. string_bytes text) found)
         (option_map (λ text. string_bytes text) later) }
 {
     match found {
-        Some(_) => {}
-        None => *found = later,
+        Some(text) => Some(text),
+        None => later,
     }
 }
 
@@ -99,7 +99,7 @@ impl Step<ListedRuling> for ReplacedStep {
         ruling: &ListedRuling,
     ) -> Result<(), LedgerFault> {
         let later = text_in(alloc, self, ruling)?;
-        put_first(found, later);
+        *found = or_later(found.take(), later);
         Ok(())
     }
 }
