@@ -236,7 +236,7 @@ class Tried(history.History):
         if turn % 4 != 3 or not self.steps:
             return super().words(turn)
         kind = self.numbers.below(3)
-        if kind == 0:
+        if kind == 0 and self.fronts:
             return self.replacement_words()
         return self.credit_words() if kind == 1 and self.has_credits else "withhold " + self.earlier(self.steps)
 
