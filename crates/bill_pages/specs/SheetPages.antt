@@ -1,6 +1,6 @@
 -- A sheet on a page: of a part its title, the words above its columns, a row for each of its rows, and one
 -- for their sums. Its figures are those of the text, in thousands.
-use Rattle.std.specs.Prelude.{ℕ, nat_lt, if◌then◌else◌, List, [], ◌∷◌, ◌++◌, codes, flat_map, length}
+use Rattle.std.specs.Prelude.{ℕ, nat_lt, if◌then◌else◌, List, [], ◌++◌, codes, flat_map, length}
 use Rattle.std.specs.Prelude.{Option, Some, None, bytes_eq}
 use Rattle.html_text.specs.Escaping.{escaped}
 use Rattle.bill_texts.specs.declared.column.Column.{Column}

@@ -1,5 +1,5 @@
 -- What the office books is what its centres' bills book.
-use Rattle.std.proofs.Common.{◌≡◌, ◌∙◌, ℕ, ℤ, List, [], ◌∷◌, None, ap, map, refl, sym}
+use Rattle.std.proofs.Common.{◌≡◌, ◌∙◌, ℕ, List, [], ◌∷◌, None, ap, map, refl, sym}
 use Rattle.book_model.specs.Words.{BillSeen, bill_of}
 use Rattle.report_texts.specs.Charges.{centres_on, charges_on}
 use Rattle.report_texts.specs.declared.charges.CentreCharges.{CentreCharges}

@@ -1,5 +1,5 @@
 -- Calls on one ledger, one after another: their work, and the events that they make.
-use Rattle.std.proofs.Common.{false, ℕ, List, [], ◌∷◌, ◌++◌, Result, Ok, Err, map, refl, sym, subst}
+use Rattle.std.proofs.Common.{false, ℕ, List, [], ◌∷◌, Result, Ok, Err, map, refl, sym, subst}
 use Rattle.std.proofs.Common.{Vec, Global, option_map}
 use Rattle.book_model.specs.declared.answer.Accepted.{Accepted}
 use Rattle.book_model.specs.MadeByCalls.{AreMadeOf}

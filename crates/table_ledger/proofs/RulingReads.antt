@@ -1,7 +1,7 @@
 -- What stands in the list of rulings, by what is remembered and by the tables of choices, of
 -- replaced tariffs and of credits.
 use Rattle.std.proofs.Common.{◌≡◌, ◌∙◌, ◌+◌, ◌∷◌, [], ℕ, List, None, Option, Some, ap, arith, length}
-use Rattle.std.proofs.Common.{map, option_map, refl, slice_get, sym, unwrap_or, All, nat_cmp, ◌≤◌}
+use Rattle.std.proofs.Common.{map, option_map, refl, slice_get, sym, unwrap_or, All, ◌≤◌}
 use Rattle.std.proofs.lemmas.Option.{slice_get-map, slice_get_past}
 use Rattle.book_model.proofs.Std.{All-head, All-tail, cons_option, get, get-from_entries, length-map}
 use Rattle.book_model.proofs.Std.{nat_cmp_total}
@@ -16,7 +16,7 @@ use Rattle.book_core.specs.Words.{ruled_in}
 use Rattle.book_core.specs.declared.listed_rulings.RulingCounts.{RulingCounts}
 use Rattle.table_model.specs.ListsRead.{choice_shown}
 use Rattle.table_model.specs.Readable.{IsReplaced, IsTexted}
-use Rattle.table_model.specs.Tables.{ChoiceRow, ReplacedRow}
+use Rattle.table_model.specs.Tables.{ReplacedRow}
 use Rattle.table_model.specs.TablesOf.{replaced_row}
 use Rattle.table_model.specs.Words.{IsReadable, Tables, tables_of, choice_read_at, under_numbers}
 use Rattle.table_model.proofs.ListedChoices.{choice_listed}

@@ -1,6 +1,5 @@
 //! Choices as older forms have them: their rows do not say whether they count, and each does.
 
-ghost use Rattle.std.specs.Prelude.{◌≡◌, OnOk};
 ghost use Rattle.std.specs.FinMap.{insert};
 ghost use Rattle.sqlite_trees.specs.View.{KeepsSchema};
 ghost use Rattle.tree_rows.specs.Calls.{IsSorted};
