@@ -7,7 +7,7 @@ another system.
     bill_laws.py HISTORIES CALLS [SCRIPT]   tries so many histories of so many calls: 400 of 60 take some minutes. With
                                             SCRIPT it also writes them there as rows, which ask at the end for the bills
                                             of each period and centre, for cost and usage, and for coverage, for
-                                            tests_books to play; rows know no credits, so these have none
+                                            tests_books to play
 
 After each call: the steps and jobs of a bill are the rows of its centre's statement; what it comes to is that statement's
 total with the centre's adjustments, without what is credited; of a work that is withheld nothing is charged; the centres'
@@ -207,9 +207,9 @@ REASONS = "courier tape-lost ticket-4711,twice".split()
 
 class Tried(history.History):
     """A history of which each call is tried."""
-    def __init__(self, sample, first, calls, has_credits):
+    def __init__(self, sample, first, calls):
         super().__init__(sample, first)
-        self.calls, self.stands, self.has_credits = calls, {}, has_credits
+        self.calls, self.stands = calls, {}
         self.adopted_at = None if first % 3 == 0 else self.numbers.below(calls)
 
     def name_dump(self, name, words):
@@ -238,7 +238,7 @@ class Tried(history.History):
         kind = self.numbers.below(3)
         if kind == 0 and self.fronts:
             return self.replacement_words()
-        return self.credit_words() if kind == 1 and self.has_credits else "withhold " + self.earlier(self.steps)
+        return self.credit_words() if kind == 1 else "withhold " + self.earlier(self.steps)
 
     def answer(self, words):
         """The answer to a call."""
@@ -304,7 +304,7 @@ def main(histories, calls, script=None):
     sample = (pathlib.Path(__file__).parent / "one-step.smf").read_bytes()
     lines, came = [], collections.Counter()
     for first in range(1, int(histories) + 1):
-        made = Tried(sample, first, int(calls), script is None)
+        made = Tried(sample, first, int(calls))
         for name, words in history.UNHELD:
             made.name_dump(name, words)
         for name, text in history.TEXTS.items():

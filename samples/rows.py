@@ -123,7 +123,15 @@ class Tables:
 
     def choices(self):
         for number, (name, period) in enumerate(self.books.choices, 1):
-            yield "%d %s %d" % (number, name.upper(), period)
+            yield "%d %s %d %d" % (number, name.upper(), period, number not in self.books.nones)
+
+    def credits(self):
+        for number, credit in enumerate(self.books.credits, 1):
+            yield "%d %d %s %d %s" % (number, *credit)
+
+    def replaced(self):
+        for number, (period, tariff) in enumerate(self.books.replaced, 1):
+            yield from ("%d %d %d {%s}" % (number, days(tariff.effective), period, tariff.file.decode())).split("\n")
 
     def identities(self):
         for name, one in sorted(self.books.held.items()):
@@ -153,7 +161,10 @@ class Tables:
             yield "%s %d" % (word, len(list(rows)))
 
 
-TABLES = "book closed tariffs rows lines marks choices identities detail index".split()
+TABLES = "book closed tariffs rows lines marks choices credits replaced identities detail index".split()
+
+# The commands that are rulings: each is one call of the books.
+RULINGS = "tariff replace close choose withhold credit adopt".split()
 
 # How often a report asks the books: for the days of the closes, and for what it lists. The rulings are asked for one
 # after the other.
@@ -401,7 +412,7 @@ class Rows:
         books = self.books
         if verb == "import":
             return self.take(dump_of(self.dumps, words))
-        if verb in ("tariff", "replace", "close", "choose", "withhold", "adopt") and self.is_refused():
+        if verb in RULINGS and self.is_refused():
             return office.refused(office.MEMORY)
         if verb == "tariff":
             return books.tariff(self.text(words, body).encode())
@@ -413,6 +424,9 @@ class Rows:
             return books.choose(self.name_of(words[0]))
         if verb == "withhold":
             return books.withhold(self.name_of(words[0]))
+        if verb == "credit":
+            period, centre, amount, reason = words
+            return books.credit(int(period), centre, int(amount), reason)
         if verb == "adopt":
             return books.adopt(int(words[0]))
         raise NotKnown

@@ -144,7 +144,7 @@ fn answer_by_calls<L: Ledger>(
             push_changes(&mut lines.shown_texts, ledger, out);
             Ok(())
         }
-        "tariff" | "replace" | "close" | "choose" | "withhold" | "adopt" => {
+        "tariff" | "replace" | "close" | "choose" | "withhold" | "credit" | "adopt" => {
             push_request(named, reading.layout, ledger, ask, out)
         }
         "what-if" | "what-if-table" => push_request(named, reading.layout, ledger, ask, out),
