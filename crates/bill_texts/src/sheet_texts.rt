@@ -126,6 +126,7 @@ fn push_title(out: &mut Draft, name: PartName)
         PartName::JobsByDay => out.push_str("JOBS BY DAY\nDAY        "),
         PartName::Late => out.push_str("LATE\n"),
         PartName::Reversed => out.push_str("REVERSED\n"),
+        PartName::Credits => out.push_str("CREDITS\n"),
     }
 }
 
@@ -148,6 +149,10 @@ fn push_heading(out: &mut Draft, layout: Layout)
             out.push_str("CENTRE                 CHARGED          LATE      REVERSED");
             out.push_str("          OWED        BOOKED\n");
         }
+        Layout::CreditedSums => {
+            out.push_str("CENTRE                 CHARGED          LATE      REVERSED");
+            out.push_str("       CREDITS          OWED        BOOKED\n");
+        }
         Layout::Prices => {
             out.push_str("TARIFF     OF A                         RECORD             CPU");
             out.push_str("     1000 BLOCKS\n");
@@ -158,6 +163,10 @@ fn push_heading(out: &mut Draft, layout: Layout)
         Layout::Records => {
             out.push_str("DAY        SHIFT            JOB      PROGRAM  JOBID     STEP PERIOD");
             out.push_str("                           AMOUNT\n");
+        }
+        Layout::Credits => {
+            out.push_str("REASON                                                            ");
+            out.push_str("                            AMOUNT\n");
         }
     }
 }
@@ -210,4 +219,5 @@ pub(crate) fn push_parts(out: &mut Draft, parts: &CentreParts)
     push_part(out, &parts.jobs_by_day);
     push_part(out, &parts.late);
     push_part(out, &parts.reversed);
+    push_part(out, &parts.credits);
 }

@@ -15,12 +15,14 @@ use Rattle.book_model.specs.Words.{tariff_answer, close_answer, Outcome, accept_
 use Rattle.book_model.specs.Words.{ruled_as, rule_outcome, book_after, book_of, IsAnswered}
 use Rattle.book_model.specs.Words.{IsMadeByCalls, choose_answer, record_named, adopt_answer}
 use Rattle.book_model.specs.Words.{rule_by, second_rule, TariffFault, RulingAsked, TariffAsked}
-use Rattle.book_model.specs.Words.{CloseAsked, ChoiceAsked, AdoptionAsked}
-use Rattle.book_model.proofs.Lemmas.{books_follow_history, closed_open}
+use Rattle.book_model.specs.Words.{CloseAsked, ChoiceAsked, AdoptionAsked, CreditAsked, CreditGiven}
+use Rattle.book_model.specs.Words.{ReplacementAsked, WithholdingAsked, credit_answer}
+use Rattle.book_model.specs.Words.{replacing_answer, withhold_answer}
+use Rattle.book_model.proofs.Lemmas.{books_follow_history, closed_open, credited_open}
 use Rattle.book_core.specs.Words.{Seen, Transition, NoEvent, Then, IsTransition, Makes, Calls}
 use Rattle.book_core.specs.Words.{listed, MakesAnswered}
 use Rattle.book_core.specs.Follow.{FollowsHistory}
-use Rattle.book_core.proofs.RulingLemmas.{meant_by, said_by}
+use Rattle.book_core.proofs.RulingLemmas.{meant_by, replaced_by, said_by, withheld_by}
 use Rattle.book_core.proofs.NamedLemmas.{its_name}
 use Rattle.book_core.proofs.TransitionLemmas.{after_all-append}
 
@@ -152,6 +154,24 @@ choice_done naming name book (Some bytes) found done =
       subst (λ name. record_named naming book.held name ≡ Some bytes) named found,
     )
 
+-- a tariff in the place of another
+replacement_done : (naming : Naming) (text : List ℕ) (said : Result Terms TariffFault) (book : Book)
+    → replacing_answer book text said ≡ Ok Done
+    → IfSome (replaced_by text said) (λ event. IsAnswered naming event book)
+replacement_done naming text (Ok terms) book done = done
+replacement_done naming text (Err fault) book done = tt
+
+-- the choice of none of the work of a record that is meant
+withholding_done : (naming : Naming) (name : List ℕ) (book : Book) (meant : Option (List ℕ))
+    → record_named naming book.held name ≡ meant → withhold_answer naming book name ≡ Ok Done
+    → IfSome (withheld_by meant) (λ event. IsAnswered naming event book)
+withholding_done naming name book None found done = tt
+withholding_done naming name book (Some bytes) found done =
+    let named = sym (its_name naming book.held name bytes found) in (
+      subst (λ name. withhold_answer naming book name ≡ Ok Done) named done,
+      subst (λ name. record_named naming book.held name ≡ Some bytes) named found,
+    )
+
 -- a rule that is adopted is the second one
 second_done : (rule : ℕ) (book : Book) → adopt_answer book.rulings rule ≡ Ok Done
     → adopt_answer book.rulings second_rule ≡ Ok Done
@@ -186,3 +206,16 @@ ruling_answered naming view (ChoiceAsked name) result =
 ruling_answered naming view (AdoptionAsked rule) result =
     rulings_answered naming view (λ book. Some (RulingGiven SecondRuleAdopted))
     (λ book. adopt_answer book.rulings rule) result (second_done rule)
+ruling_answered naming view (ReplacementAsked text) result =
+    rulings_answered naming view (λ book. replaced_by text (terms_in text))
+    (λ book. replacing_answer book text (terms_in text)) result
+    (replacement_done naming text (terms_in text))
+ruling_answered naming view (WithholdingAsked name) result =
+    rulings_answered naming view (λ book. withheld_by (record_named naming book.held name))
+    (λ book. withhold_answer naming book name) result
+    (λ book. withholding_done naming name book (record_named naming book.held name) refl)
+ruling_answered naming view (CreditAsked number centre amount reason) result =
+    rulings_answered naming view (λ book. Some (RulingGiven (CreditGiven centre amount reason)))
+    (λ book. credit_answer book.rulings number centre amount reason) result (λ book done.
+    subst (λ number. credit_answer book.rulings number centre amount reason ≡ Ok Done)
+    (credited_open book number centre amount reason done) done)

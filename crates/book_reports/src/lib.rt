@@ -2,6 +2,7 @@
 //! what a writer gains from them.
 #![tactic(auto)]
 
+mod bill_credits;
 mod bill_lines;
 mod bill_page_reports;
 mod bill_shifts;
@@ -16,12 +17,15 @@ mod detail_lengths;
 mod figures;
 mod focus_days;
 mod focus_reports;
+mod given_credits;
 mod held_back;
 mod known_centres;
+mod next_tariffs;
 mod pages;
 mod period_days;
 mod receipt_lines;
 mod record_names;
+mod replaced_texts;
 mod report;
 mod reports;
 mod ruling_texts;

@@ -209,26 +209,27 @@ pub record NearOfHistory (files : Files) (naming : Naming) (history : List Event
 -- those of the choices that were answered, and of one that a fault of the store hindered maybe its own.
 -- Unless a lack of memory or the store hindered one, that is what the definitions say of the history,
 -- looked at as a whole.
-pub record ChoicesMade (naming : Naming) (history : List Event) (names : List (List ℕ))
-    (chosen : Chosen) (made : List Event) : Type 0 where
+pub record ChoicesMade (withheld : Bool) (naming : Naming) (history : List Event)
+    (names : List (List ℕ)) (chosen : Chosen) (made : List Event) : Type 0 where
   pub left : Bool
-  pub work : ChoosesEach naming names chosen.answers.items chosen.refusal false (book_of history) made
-      left
+  pub work : ChoosesEach withheld naming names chosen.answers.items chosen.refusal false
+      (book_of history) made left
   pub is : are_hindered chosen.refusal ≡ false
-      → choices_outcome naming names (book_of history) ≡ record {
+      → choices_outcome withheld naming names (book_of history) ≡ record {
         answers = chosen.answers.items;
         refusal = chosen.refusal;
         events = made;
       }
 
 -- without memory for the answers none was chosen
-abbrev pub ChoicesFollow : Naming → List Event → List (List ℕ) → Result Chosen AllocError → List Event
-    → Type 0
-ChoicesFollow naming history names (Ok chosen) made = ChoicesMade naming history names chosen made
-ChoicesFollow naming history names (Err none) made = made ≡ []
+abbrev pub ChoicesFollow : Bool → Naming → List Event → List (List ℕ) → Result Chosen AllocError
+    → List Event → Type 0
+ChoicesFollow withheld naming history names (Ok chosen) made =
+    ChoicesMade withheld naming history names chosen made
+ChoicesFollow withheld naming history names (Err none) made = made ≡ []
 
 -- the names of a list, in a file that had these bytes, were chosen, and so it was told
-pub record ListOf (had : Option (List ℕ)) (naming : Naming) (history : List Event)
+pub record ListOf (withheld : Bool) (had : Option (List ℕ)) (naming : Naming) (history : List Event)
     (Refuses : RepositoryFault → Type 0) (answered : ListAnswered) (made : List Event) : Type 0 where
   pub names : List (List ℕ)
   pub lines : List ℕ
@@ -237,28 +238,28 @@ pub record ListOf (had : Option (List ℕ)) (naming : Naming) (history : List Ev
   pub placed : AreLinesOf (front_of had) lines
   pub numbered : answered.lines.items ≡ lines
   pub told : Result (Result Chosen AllocError) RepositoryFault
-  pub follows : OpenedSo Refuses (ChoicesFollow naming history names) told made
+  pub follows : OpenedSo Refuses (ChoicesFollow withheld naming history names) told made
   pub says : answered.chosen ≡ chosen_of told
 
 -- or none were
-abbrev pub ListBy : Option (List ℕ) → Naming → List Event → (RepositoryFault → Type 0)
+abbrev pub ListBy : Bool → Option (List ℕ) → Naming → List Event → (RepositoryFault → Type 0)
     → Result ListAnswered CommandFault → List Event → Type 0
-ListBy had naming history Refuses (Ok answered) made =
-    ListOf had naming history Refuses answered made
-ListBy had naming history Refuses (Err why) made = ChoosesNothing had Refuses why × (made ≡ [])
+ListBy withheld had naming history Refuses (Ok answered) made =
+    ListOf withheld had naming history Refuses answered made
+ListBy withheld had naming history Refuses (Err why) made = ChoosesNothing had Refuses why × (made ≡ [])
 
 -- and that was written
-pub record ListOfHistory (had : Option (List ℕ)) (naming : Naming) (history : List Event)
-    (Refuses : RepositoryFault → Type 0) (held holds : Option (List ℕ)) (Failed : Type 0)
-    (ended : Ended) (made : List Event) : Type 0 where
+pub record ListOfHistory (withheld : Bool) (had : Option (List ℕ)) (naming : Naming)
+    (history : List Event) (Refuses : RepositoryFault → Type 0) (held holds : Option (List ℕ))
+    (Failed : Type 0) (ended : Ended) (made : List Event) : Type 0 where
   pub came : Result ListAnswered CommandFault
-  pub listed : ListBy had naming history Refuses came made
+  pub listed : ListBy withheld had naming history Refuses came made
   pub tells : TellsList came held holds Failed ended
 
 -- The names of a list, in a file that had these bytes, were chosen on a copy of the books of a history, and so
 -- it was told: as if they had been chosen.
-pub record ListTriedOf (had : Option (List ℕ)) (naming : Naming) (history : List Event)
-    (Refuses : RepositoryFault → Type 0) (answered : ListAnswered) : Type 0 where
+pub record ListTriedOf (withheld : Bool) (had : Option (List ℕ)) (naming : Naming)
+    (history : List Event) (Refuses : RepositoryFault → Type 0) (answered : ListAnswered) : Type 0 where
   pub names : List (List ℕ)
   pub lines : List ℕ
   pub listed : AreListed names lines
@@ -267,22 +268,23 @@ pub record ListTriedOf (had : Option (List ℕ)) (naming : Naming) (history : Li
   pub numbered : answered.lines.items ≡ lines
   pub told : Result (Result Chosen AllocError) RepositoryFault
   pub follows : IfOk told (λ chosen. (events : List Event)
-      × ChoicesFollow naming history names chosen events)
+      × ChoicesFollow withheld naming history names chosen events)
   pub refused : IfErr told Refuses
   pub says : answered.chosen ≡ chosen_of told
 
 -- or none were
-abbrev pub ListTriedBy : Option (List ℕ) → Naming → List Event → (RepositoryFault → Type 0)
+abbrev pub ListTriedBy : Bool → Option (List ℕ) → Naming → List Event → (RepositoryFault → Type 0)
     → Result ListAnswered CommandFault → Type 0
-ListTriedBy had naming history Refuses (Ok answered) = ListTriedOf had naming history Refuses answered
-ListTriedBy had naming history Refuses (Err why) = ChoosesNothing had Refuses why
+ListTriedBy withheld had naming history Refuses (Ok answered) =
+    ListTriedOf withheld had naming history Refuses answered
+ListTriedBy withheld had naming history Refuses (Err why) = ChoosesNothing had Refuses why
 
 -- that was written, and no event was made
-pub record ListTriedOfHistory (had : Option (List ℕ)) (naming : Naming) (history : List Event)
-    (Refuses : RepositoryFault → Type 0) (held holds : Option (List ℕ)) (Failed : Type 0)
-    (ended : Ended) (made : List Event) : Type 0 where
+pub record ListTriedOfHistory (withheld : Bool) (had : Option (List ℕ)) (naming : Naming)
+    (history : List Event) (Refuses : RepositoryFault → Type 0) (held holds : Option (List ℕ))
+    (Failed : Type 0) (ended : Ended) (made : List Event) : Type 0 where
   pub came : Result ListAnswered CommandFault
-  pub tried : ListTriedBy had naming history Refuses came
+  pub tried : ListTriedBy withheld had naming history Refuses came
   pub tells : TellsList came held holds Failed ended
   pub none : made ≡ []
 
@@ -426,10 +428,11 @@ DoesToHistory files naming history Refuses (book.Serve port requests) held holds
     ServesOfHistory naming history Refuses requests held holds Failed ended made
 DoesToHistory files naming history Refuses (book.List asked) held holds Failed ended made =
     ListsAskedOfHistory (list_of asked) naming history Refuses held holds ended made
-DoesToHistory files naming history Refuses (book.ChooseListed file) held holds Failed ended made =
-    ListOfHistory (files.holds file.now) naming history Refuses held holds Failed ended made
-DoesToHistory files naming history Refuses (book.TryListed file) held holds Failed ended made =
-    ListTriedOfHistory (files.holds file.now) naming history Refuses held holds Failed ended made
+DoesToHistory files naming history Refuses (book.ChooseListed withheld file) held holds Failed ended made =
+    ListOfHistory withheld (files.holds file.now) naming history Refuses held holds Failed ended made
+DoesToHistory files naming history Refuses (book.TryListed withheld file) held holds Failed ended made =
+    ListTriedOfHistory withheld (files.holds file.now) naming history Refuses held holds Failed ended
+    made
 DoesToHistory files naming history Refuses (book.DryRun ruling) held holds Failed ended made =
     TriesOfHistory files naming history Refuses ruling held holds Failed ended made
 DoesToHistory files naming history Refuses (book.RuleNear ruling) held holds Failed ended made =

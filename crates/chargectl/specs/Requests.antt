@@ -106,10 +106,12 @@ Does files shelf (book.Serve port requests) name old new held holds Failed ended
     SettlesBy (ServesBy shelf requests name old new held holds Failed) ended
 Does files shelf (book.List asked) name old new held holds Failed ended =
     SettlesBy (ListsAsked (list_of asked) name (shelf old) (shelf new) held holds Failed) ended
-Does files shelf (book.ChooseListed file) name old new held holds Failed ended =
-    ChoosesListed false (files.holds file.now) name (shelf old) (shelf new) held holds Failed ended
-Does files shelf (book.TryListed file) name old new held holds Failed ended =
-    ChoosesListed true (files.holds file.now) name (shelf old) (shelf new) held holds Failed ended
+Does files shelf (book.ChooseListed withheld file) name old new held holds Failed ended =
+    ChoosesListed false withheld (files.holds file.now) name (shelf old) (shelf new) held holds Failed
+    ended
+Does files shelf (book.TryListed withheld file) name old new held holds Failed ended =
+    ChoosesListed true withheld (files.holds file.now) name (shelf old) (shelf new) held holds Failed
+    ended
 Does files shelf (book.DryRun ruling) name old new held holds Failed ended =
     TriesAndTells files ruling name (shelf old) (shelf new) held holds Failed ended
 Does files shelf (book.RuleNear ruling) name old new held holds Failed ended =

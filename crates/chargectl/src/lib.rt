@@ -1,6 +1,7 @@
 //! What the program of the chargeback office does with its words and streams.
 #![tactic(auto)]
 
+mod amounts;
 mod answered;
 mod arriving;
 mod asked_rulings;

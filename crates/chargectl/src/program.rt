@@ -137,12 +137,26 @@ fn run_on_books<S: AuditedRepository, F: Inputs, O: Writer + Drop>(
         BookRequest::Import(dump) => {
             tell(import_dump(rt, repository, inputs, book, dump), output)
         }
-        BookRequest::ChooseListed { file } => {
-            choose_listed(rt.alloc(), repository, inputs, book, file, false, output)
-        }
-        BookRequest::TryListed { file } => {
-            choose_listed(rt.alloc(), repository, inputs, book, file, true, output)
-        }
+        BookRequest::ChooseListed { none, file } => choose_listed(
+            rt.alloc(),
+            repository,
+            inputs,
+            book,
+            file,
+            false,
+            none,
+            output,
+        ),
+        BookRequest::TryListed { none, file } => choose_listed(
+            rt.alloc(),
+            repository,
+            inputs,
+            book,
+            file,
+            true,
+            none,
+            output,
+        ),
         BookRequest::DryRun(ruling) => tell(dry_run(rt, repository, inputs, book, ruling), output),
         BookRequest::Report(words) => tell(report(rt, repository, book, words), output),
         BookRequest::List(words) => {

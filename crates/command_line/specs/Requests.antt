@@ -131,7 +131,10 @@ abbrev pub HasShape : Shape → List Row → Words → Type 0
 HasShape shape.OfCentre rows (worded.OfCentre period) = NamesPeriod rows period
 HasShape shape.OfPeriod rows (worded.OfPeriod period) = IsPeriod rows period
 HasShape shape.OfOffice rows worded.OfOffice = ⊤
-HasShape shape.OfDay rows (worded.OfDay date) = IsText rows (codes "date") date
+HasShape shape.OfDay rows (worded.OfDay date) =
+    IsText rows (codes "date") date × IsLeftOut rows (codes "replaced")
+HasShape shape.OfDay rows (worded.OfReplaced date digest) =
+    IsText rows (codes "date") date × IsText rows (codes "replaced") digest
 HasShape shape.OfRecord rows (worded.OfRecord digest) = IsText rows (codes "sha256") digest
 HasShape other rows words = ⊥
 
@@ -150,13 +153,23 @@ pub record AsksReport (name : Text) (rows : List Row) (asked : ReportAsked) : Ty
 abbrev pub IsRuling : Text → List Row → Ruling → Type 0
 IsRuling name rows (ruling.Tariff file) =
     (name ≡ codes "tariff") × IsText rows (codes "file") file
+    × IsFlag rows (codes "replace") false
 IsRuling name rows (ruling.Close period date) =
     (name ≡ codes "close") × IsPeriod rows period
     × IsText rows (codes "date") date
 IsRuling name rows (ruling.Choose digest) =
     (name ≡ codes "choose") × IsText rows (codes "sha256") digest
-    × IsLeftOut rows (codes "from")
+    × IsLeftOut rows (codes "from") × IsFlag rows (codes "none") false
 IsRuling name rows ruling.Adopt = name ≡ codes "adopt"
+IsRuling name rows (ruling.Replace file) =
+    (name ≡ codes "tariff") × IsText rows (codes "file") file
+    × IsFlag rows (codes "replace") true
+IsRuling name rows (ruling.Withhold digest) =
+    (name ≡ codes "choose") × IsText rows (codes "sha256") digest
+    × IsLeftOut rows (codes "from") × IsFlag rows (codes "none") true
+IsRuling name rows (ruling.Credit period centre amount reason) =
+    (name ≡ codes "credit") × IsPeriod rows period × IsText rows (codes "centre") centre
+    × IsText rows (codes "amount") amount × IsText rows (codes "reason") reason
 
 -- whether only what would change is asked for
 abbrev pub IsDryRun : List Row → Bool → Type 0
@@ -166,6 +179,7 @@ IsDryRun rows value = IsFlag rows (codes "dry-run") value
 abbrev pub IsNear : List Row → Ruling → Bool → Type 0
 IsNear rows (ruling.Tariff file) value = IsFlag rows (codes "near") value
 IsNear rows (ruling.Close period date) value = IsFlag rows (codes "near") value
+IsNear rows (ruling.Replace file) value = IsFlag rows (codes "near") value
 IsNear rows other value = value ≡ false
 
 -- what is asked of books
@@ -176,12 +190,12 @@ IsOfBooks name rows (book.Rule ruled) =
 IsOfBooks name rows (book.RuleNear ruled) =
     IsRuling name rows ruled × IsDryRun rows false × IsNear rows ruled true
 IsOfBooks name rows (book.Import dump) = (name ≡ codes "import") × IsDump rows dump
-IsOfBooks name rows (book.ChooseListed file) =
+IsOfBooks name rows (book.ChooseListed none file) =
     (name ≡ codes "choose") × IsLeftOut rows (codes "sha256")
-    × IsText rows (codes "from") file × IsDryRun rows false
-IsOfBooks name rows (book.TryListed file) =
+    × IsText rows (codes "from") file × IsFlag rows (codes "none") none × IsDryRun rows false
+IsOfBooks name rows (book.TryListed none file) =
     (name ≡ codes "choose") × IsLeftOut rows (codes "sha256")
-    × IsText rows (codes "from") file × IsDryRun rows true
+    × IsText rows (codes "from") file × IsFlag rows (codes "none") none × IsDryRun rows true
 IsOfBooks name rows (book.DryRun ruled) = IsRuling name rows ruled × IsDryRun rows true
 IsOfBooks name rows (book.Report asked) =
     AsksReport name rows asked × ((reports.row_of asked.name).streamed ≡ false)

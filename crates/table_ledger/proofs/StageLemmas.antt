@@ -153,7 +153,7 @@ stage_steps {naming = naming} {first = first} {middle = middle} {last = last} {w
       let changes = does.done clean in
       let whole = at.kept.readable in
       let follows =
-      event_follows naming book event.event whole.sound whole.usage event.answered in
+      event_follows naming book event.event whole.sound whole.usage event.answered whole.rising in
       record {
         events = event.event ∷ [];
         made = (event.answer, ap listed (sym event.is));

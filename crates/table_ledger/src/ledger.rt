@@ -12,6 +12,7 @@ use crate::charges::try_charges;
 use crate::details::try_next_detail;
 use crate::disputes::{try_dispute, try_disputes};
 use crate::finish::finish;
+use crate::given_credits::try_credit_given;
 use crate::listed_rulings::try_ruling;
 use crate::named_records::try_record;
 use crate::other_prices::try_charges_under;
@@ -20,8 +21,8 @@ use crate::rulings::try_rule;
 use crate::summary::Summary;
 use crate::trails::try_trail_of;
 use book_core::{
-    Accepted, ChargeRow, Detail, Dispute, Ledger, LedgerFault, Line, ListedRuling, Name, Naming,
-    Ruled, Ruling, Trail,
+    Accepted, ChargeRow, Credit, Detail, Dispute, Ledger, LedgerFault, Line, ListedRuling, Name,
+    Naming, Ruled, Ruling, Trail,
 };
 use sqlite_trees::store::Store;
 use std::alloc::Global;
@@ -180,6 +181,14 @@ impl<S: Store, N: Naming + Drop> Ledger for TableLedger<S, N> {
             return Err(LedgerFault::Reopen);
         }
         let tried = try_ruling(&mut self.tables, &self.summary, self.alloc, number);
+        finish(&mut self.tables, &mut self.must_reopen, tried)
+    }
+
+    fn credit_given(&mut self, number: u64) -> Result<Option<Credit>, LedgerFault> {
+        if self.must_reopen {
+            return Err(LedgerFault::Reopen);
+        }
+        let tried = try_credit_given(&mut self.tables, &self.summary, self.alloc, number);
         finish(&mut self.tables, &mut self.must_reopen, tried)
     }
 

@@ -279,8 +279,11 @@ fn read_by<'a>(asked: BookRequest<'a>) -> Option<&'a str> {
         BookRequest::Rule(Ruling::Tariff { file })
         | BookRequest::RuleNear(Ruling::Tariff { file })
         | BookRequest::DryRun(Ruling::Tariff { file })
-        | BookRequest::ChooseListed { file }
-        | BookRequest::TryListed { file }
+        | BookRequest::Rule(Ruling::Replace { file })
+        | BookRequest::RuleNear(Ruling::Replace { file })
+        | BookRequest::DryRun(Ruling::Replace { file })
+        | BookRequest::ChooseListed { file, .. }
+        | BookRequest::TryListed { file, .. }
         | BookRequest::WhatIf { file, .. } => Some(file),
         BookRequest::Import(dump) => Some(dump.file),
         _ => None,
