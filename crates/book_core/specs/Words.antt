@@ -11,3 +11,4 @@ pub use Rattle.book_core.specs.OfficeRulings.{in_its_place, is_last_begun, ruled
 pub use Rattle.book_core.specs.Room.{if_room}
 pub use Rattle.book_core.specs.Submissions.{Accepts, Takes, first_of, records_in}
 pub use Rattle.book_core.specs.Transition.{IsTransition, NoEvent, Then, Transition}
+pub use Rattle.book_core.specs.Withholdings.{TakesWorks, Withholds}

@@ -15,7 +15,9 @@ ghost use Rattle.book_core.specs.Ledgers.{StopIsHarmless, Seen};
 ghost use Rattle.book_core.specs.Calls.{IsCall};
 ghost use Rattle.book_core.specs.Submissions.{Takes, records_in};
 ghost use Rattle.book_core.specs.Transition.{IsTransition};
+ghost use Rattle.book_core.specs.Withholdings.{TakesWorks};
 
+use crate::withheld::{Withheld, with_answer};
 use book_model::{
     Accepted, ChargeRow, Credit, Detail, Dispute, LedgerFault, Line, ListedRuling, Ruled, Ruling,
     Trail,
@@ -101,6 +103,20 @@ pub trait Ledger {
             (withhold_outcome (seen self.old).naming name) }
     {
         self.rule(Ruling::Withhold(name))
+    }
+
+    /// Withholds the works of the records of these names in order, as one change of the books: the
+    /// first, and as many after it as one change takes, up to the next that is refused. Answers how
+    /// many it took, each as `withhold` would; or why the first is refused, as `withhold` says it.
+    /// After `Store` the next open finds the works of some first of them withheld, or of none.
+    fn withhold_many(&mut self, names: &[[u8; 32]]) -> Result<Withheld, LedgerFault>
+        requires { 0 < length names.now }
+        ensures takes { IsTransition (seen self.old) (seen self.new)
+            (TakesWorks (seen self.old).naming names.now result) }
+        ensures some { IfOk result (λ told. 0 < told.taken) }
+    {
+        let ruled = self.withhold(names[0])?;
+        Ok(with_answer(Withheld { taken: 0, done: 0 }, ruled))
     }
 
     /// Credits a centre with an amount, in ten-thousandths of the money unit, for a reason: the

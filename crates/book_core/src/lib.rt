@@ -15,6 +15,7 @@ mod lines;
 mod listed_rulings;
 mod pricing;
 mod rulings;
+mod withheld;
 
 pub use book_model::{
     Accepted, ChargeRow, Credit, Deed, Detail, Dispute, LedgerFault, Line, ListedRuling,
@@ -43,3 +44,4 @@ pub use rulings::{Rulings, is_done};
 pub use smf_text::Name;
 pub use streams::{Sink, Source};
 pub use tariff_rules::Tariff;
+pub use withheld::{Withheld, with_answer};
