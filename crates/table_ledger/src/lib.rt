@@ -37,6 +37,7 @@ mod tariff;
 mod trails;
 mod upgrading;
 mod withheld;
+mod withheld_together;
 mod withholding;
 
 pub use ledger::TableLedger;

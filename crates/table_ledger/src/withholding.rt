@@ -25,16 +25,16 @@ use tree_tables::{StoredRecord, TreeTables};
 /// A choice of none as it is written: its number, the period that is open, the name of a record of
 /// the work, and what it changes.
 #[derive(Clone, Copy)]
-struct NoneChoice {
-    number: u32,
-    period: u16,
-    name: [u8; 32],
-    withdrawn: Option<Effects>,
+pub(crate) struct NoneChoice {
+    pub(crate) number: u32,
+    pub(crate) period: u16,
+    pub(crate) name: [u8; 32],
+    pub(crate) withdrawn: Option<Effects>,
 }
 
 /// What the choice of none changes: the record of the identity that was charged until now, if there
 /// was one, is no longer charged.
-fn look_for_withdrawn<S: Store>(
+pub(crate) fn look_for_withdrawn<S: Store>(
     tables: &mut TreeTables<S>,
     alloc: Global,
     through: Option<i32>,
@@ -52,7 +52,10 @@ fn look_for_withdrawn<S: Store>(
 }
 
 /// Writes a choice of none.
-fn write_none<S: Store>(tables: &mut TreeTables<S>, choice: &NoneChoice) -> Result<(), StoreError>
+pub(crate) fn write_none<S: Store>(
+    tables: &mut TreeTables<S>,
+    choice: &NoneChoice,
+) -> Result<(), StoreError>
     ensures { Does result (state_of tables.old) (state_of tables.new) (IsNext choice.now.number)
         (change.put_withheld choice.now.number choice.now.period choice.now.name
         choice.now.withdrawn) }
@@ -63,7 +66,7 @@ fn write_none<S: Store>(tables: &mut TreeTables<S>, choice: &NoneChoice) -> Resu
 
 /// The answer to the choice of none of a work, by whether it is withheld, and how many choices were
 /// made.
-fn withheld_answer(withheld: bool, made: u32) -> Result<Ruled, LedgerFault>
+pub(crate) fn withheld_answer(withheld: bool, made: u32) -> Result<Ruled, LedgerFault>
     ensures answer { result ≡ withheld_by withheld (nat_le most_choices made) }
     ensures room { result ≡ Ok Ruled.Done → made < most_choices }
 {
