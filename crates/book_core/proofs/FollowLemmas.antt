@@ -17,11 +17,12 @@ use Rattle.book_model.specs.Words.{IsMadeByCalls, choose_answer, record_named, a
 use Rattle.book_model.specs.Words.{rule_by, second_rule, TariffFault, RulingAsked, TariffAsked}
 use Rattle.book_model.specs.Words.{CloseAsked, ChoiceAsked, AdoptionAsked, CreditAsked, CreditGiven}
 use Rattle.book_model.specs.Words.{ReplacementAsked, WithholdingAsked, credit_answer}
-use Rattle.book_model.specs.Words.{replacing_answer, withhold_answer}
+use Rattle.book_model.specs.Words.{replacing_answer, withhold_answer, withhold_outcome}
 use Rattle.book_model.proofs.Lemmas.{books_follow_history, closed_open, credited_open}
 use Rattle.book_core.specs.Words.{Seen, Transition, NoEvent, Then, IsTransition, Makes, Calls}
-use Rattle.book_core.specs.Words.{listed, MakesAnswered}
+use Rattle.book_core.specs.Words.{TakesWorks, Withholds, first_of, listed, MakesAnswered}
 use Rattle.book_core.specs.Follow.{FollowsHistory}
+use Rattle.book_core.specs.declared.withheld.Withheld.{Withheld}
 use Rattle.book_core.proofs.RulingLemmas.{meant_by, replaced_by, said_by, withheld_by}
 use Rattle.book_core.proofs.NamedLemmas.{its_name}
 use Rattle.book_core.proofs.TransitionLemmas.{after_all-append}
@@ -219,3 +220,25 @@ ruling_answered naming view (CreditAsked number centre amount reason) result =
     (λ book. credit_answer book.rulings number centre amount reason) result (λ book done.
     subst (λ number. credit_answer book.rulings number centre amount reason ≡ Ok Done)
     (credited_open book number centre amount reason done) done)
+
+-- so do works that are withheld one after another,
+withholds_answered : (naming : Naming) (names : List (List ℕ)) (answers : List Ruled)
+    → MakesAnswered naming (Withholds naming names answers)
+withholds_answered naming names [] = none_answered naming
+withholds_answered naming [] (answer ∷ later) = λ book was events is never. absurd never
+withholds_answered naming (name ∷ rest) (answer ∷ later) =
+    then_answered naming
+    (Calls (λ (ruled : Ruled). ruled) (withhold_outcome naming name) (Ok answer))
+    (Withholds naming rest later)
+    (ruling_answered naming (λ (ruled : Ruled). ruled) (WithholdingAsked name) (Ok answer))
+    (withholds_answered naming rest later)
+
+-- also several together
+pub works_answered : (naming : Naming) (names : List (List ℕ)) (told : Result Withheld LedgerFault)
+    → MakesAnswered naming (TakesWorks naming names told)
+works_answered naming names (Ok told) = λ book was events is takes.
+    withholds_answered naming names takes.answers book was events is takes.made
+works_answered naming names (Err Store) = λ book was events is keeps.
+    withholds_answered naming names keeps.answers book false events false keeps.kept
+works_answered naming names (Err fault) =
+    ruling_answered naming (λ (ruled : Ruled). ruled) (WithholdingAsked (first_of names)) (Err fault)
