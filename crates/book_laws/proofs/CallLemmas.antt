@@ -13,7 +13,7 @@ use Rattle.book_model.specs.Words.{ruling_shown, trail_outcome, trail_shown, wha
 use Rattle.book_core.specs.Words.{Calls, listed, Seen, IsOpenAt, Accepts, Takes, first_of}
 use Rattle.book_core.specs.Words.{IsTransition, MakesAnswered}
 use Rattle.book_core.proofs.FollowLemmas.{then_answered, calls_answered, none_answered}
-use Rattle.book_core.proofs.FollowLemmas.{accept_event-answered, ruling_answered}
+use Rattle.book_core.proofs.FollowLemmas.{accept_event-answered, ruling_answered, works_answered}
 use Rattle.book_core.proofs.TransitionLemmas.{no_work, work_then}
 use Rattle.book_lists.proofs.ReadingLemmas.{IsReading}
 use Rattle.office.specs.Laws.{IsStillOpen}
@@ -26,7 +26,7 @@ use Rattle.book_http.proofs.LawLemmas.{request_answered}
 use Rattle.book_laws.specs.CallLaws.{CallsFollowHistory}
 use Rattle.book_laws.specs.Calls.{Call, Request, RunRequests, AcceptRecord, ReadCharges}
 use Rattle.book_laws.specs.Calls.{AcceptRecords, ChooseEach, MakeRuling, HttpDetails, HttpRequest}
-use Rattle.book_laws.specs.Calls.{ReadAdjustments, ReadCredit}
+use Rattle.book_laws.specs.Calls.{ReadAdjustments, ReadCredit, WithholdWorks}
 use Rattle.book_laws.specs.Calls.{ReadDisputes, ReadPeriods, ReadChargesUnder, ReadDetail}
 use Rattle.book_laws.specs.Calls.{ReadDispute, ReadRecord, ReadRuling, ReadTrail, Step, AreDone}
 use Rattle.book_laws.specs.Calls.{calls_of, ledger_after_calls, work_of, works_of}
@@ -81,6 +81,7 @@ call_answered naming (MakeRuling ruling answer) =
     ruling_answered naming (λ ruled. ruled) ruling answer
 call_answered naming (AcceptRecord bytes answer) = record_answered naming bytes answer
 call_answered naming (AcceptRecords records answers) = takes_answered naming records answers
+call_answered naming (WithholdWorks names told) = works_answered naming names told
 call_answered naming (ReadCharges period answer) =
     readings_answered naming (λ rows. rows.items) (charges_outcome period) answer (λ book. refl)
 call_answered naming (ReadChargesUnder period terms answer) =
