@@ -1,4 +1,4 @@
-ghost use Rattle.std.specs.Prelude.{◌<◌, All, IfOk, length, map, option_map};
+ghost use Rattle.std.specs.Prelude.{◌<◌, ◌≤◌, All, IfOk, length, map, option_map};
 ghost use Rattle.book_model.specs.Words.{IsDay, IsUsageRecord, AreRows, AreLines, AreDisputes};
 ghost use Rattle.book_model.specs.Words.{dispute_shown, accept_outcome, close_outcome};
 ghost use Rattle.book_model.specs.Words.{tariff_outcome, adjustments_outcome, charges_outcome};
@@ -114,6 +114,8 @@ pub trait Ledger {
         ensures takes { IsTransition (seen self.old) (seen self.new)
             (TakesWorks (seen self.old).naming names.now result) }
         ensures some { IfOk result (λ told. 0 < told.taken) }
+        ensures few { IfOk result (λ told. told.taken ≤ length names.now) }
+        ensures done { IfOk result (λ told. told.done ≤ told.taken) }
     {
         let ruled = self.withhold(names[0])?;
         Ok(with_answer(Withheld { taken: 0, done: 0 }, ruled))

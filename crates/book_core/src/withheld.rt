@@ -17,7 +17,8 @@ pub struct Withheld {
 
 /// How many works an answer withheld that were not withheld before: one or none.
 fn done_in(ruled: Ruled) -> usize
-    ensures { result ≡ spec.done_in ruled }
+    ensures value { result ≡ spec.done_in ruled }
+    ensures one { result ≤ 1 }
 {
     match ruled {
         Ruled::Done => 1,
@@ -29,7 +30,8 @@ fn done_in(ruled: Ruled) -> usize
 pub fn with_answer(told: Withheld, ruled: Ruled) -> Withheld
     requires few { told.taken < 2 ^ 62 }
     requires within { told.done ≤ told.taken }
-    ensures { result ≡ spec.with_answer told ruled }
+    ensures value { result ≡ spec.with_answer told ruled }
+    ensures within { result.done ≤ result.taken }
 {
     Withheld {
         taken: told.taken + 1,

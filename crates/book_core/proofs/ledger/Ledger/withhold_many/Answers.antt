@@ -1,4 +1,5 @@
-use Rattle.std.proofs.Common.{◌∙◌, Err, [], ap}
+use Rattle.std.proofs.Common.{◌∙◌, Err, [], ap, arith}
+use Rattle.book_core.specs.declared.withheld.Withheld.{Withheld}
 use Rattle.std.proofs.lemmas.Result.{err_from_is_err_and}
 use Rattle.book_core.proofs.WithholdingLemmas.{first_name, more_withheld, one_refused, one_withheld}
 use Rattle.book_core.proofs.ledger.Ledger.withhold_many.Goals as goal
@@ -14,6 +15,15 @@ returns-in_err-ruled-clause-takes g c =
 -- or it is withheld
 pub returns-clause-takes : goal.returns-clause-takes
 returns-clause-takes g c =
-    one_withheld (c.with_answer.ensures ∙ more_withheld [] c.in_ok-ruled.ruled) c.requires
+    one_withheld (c.with_answer.ensures.value ∙ more_withheld [] c.in_ok-ruled.ruled) c.requires
     (first_name c.args.names.now c.index-names-0.result c.requires c.index-names-0.is)
     c.in_ok-ruled.ensures
+
+-- it is one of those that are there
+pub returns-clause-few : goal.returns-clause-few
+returns-clause-few g c =
+    let one = ap (λ (told : Withheld). told.taken) c.with_answer.ensures.value in
+    omega (arith, one, c.requires)
+
+pub returns-clause-done : goal.returns-clause-done
+returns-clause-done g c = c.with_answer.ensures.within
