@@ -61,6 +61,7 @@ fn first_names(names: &[[u8; 32]]) -> &[[u8; 32]]
     ensures first { result.now ≡ take most_in_commit names.now }
     ensures some { 0 < length names.now → 0 < length result.now }
     ensures few { length result.now ≤ most_in_commit }
+    ensures within { length result.now ≤ length names.now }
 {
     if names.len() > MOST_IN_COMMIT {
         &names[..MOST_IN_COMMIT]

@@ -66,6 +66,8 @@ fn stage_works<S: Store>(
         (state_of tables.old) (state_of tables.new) counts.new result }
     ensures kept { KeepsButChoices summary.old summary.new }
     ensures all { IfOk result (λ told. told ≡ Ok tt → counts.new.taken ≡ length names.now) }
+    ensures few { counts.new.taken ≤ length names.now }
+    ensures done { counts.new.done ≤ counts.new.taken }
 {
     for name in names {
         match stage_withheld(tables, alloc, summary, *name)? {
@@ -89,6 +91,8 @@ fn stage_together<S: Store>(
         (state_of tables.old) (state_of tables.new) result }
     ensures kept { KeepsButChoices summary.old summary.new }
     ensures some { IfOk result (λ answer. IfOk answer (λ told. 0 < told.taken)) }
+    ensures few { IfOk result (λ answer. IfOk answer (λ told. told.taken ≤ length names.now)) }
+    ensures done { IfOk result (λ answer. IfOk answer (λ told. told.done ≤ told.taken)) }
 {
     let mut counts = Withheld { taken: 0, done: 0 };
     let told = stage_works(tables, alloc, summary, names, &mut counts)?;
@@ -113,6 +117,8 @@ pub(crate) fn try_withhold_many<S: Store>(
     ensures tries { (naming : Naming) → AttemptsWorks naming names.now summary.old summary.new
         (state_of tables.old) (state_of tables.new) result }
     ensures some { IfOk result (λ answer. IfOk answer (λ told. 0 < told.taken)) }
+    ensures few { IfOk result (λ answer. IfOk answer (λ told. told.taken ≤ length names.now)) }
+    ensures done { IfOk result (λ answer. IfOk answer (λ told. told.done ≤ told.taken)) }
 {
     let choices = summary.choices;
     let staged = stage_together(tables, alloc, summary, names);

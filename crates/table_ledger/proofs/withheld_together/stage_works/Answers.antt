@@ -1,18 +1,11 @@
 use Rattle.std.proofs.Common.{◌≡◌, ◌∙◌, ◌≤◌, ◌+◌, ap, arith, drop, refl, subst, sym}
-use Rattle.book_model.specs.declared.answer.Ruled.{Ruled}
-use Rattle.book_model.specs.declared.answer.Ruled.TheVariants.{Already, Done}
-use Rattle.book_core.specs.Withholdings.{done_in, with_answer}
+use Rattle.book_core.specs.Withholdings.{with_answer}
 use Rattle.book_core.specs.declared.withheld.Withheld.{Withheld}
 use Rattle.table_ledger.proofs.SurvivalLemmas.{survives_none, survives_then}
 use Rattle.table_ledger.proofs.WithheldStages.{AreWithheld, all_withheld, none_taken, work_failed}
 use Rattle.table_ledger.proofs.WithheldStages.{work_refused, work_taken}
 use Rattle.table_ledger.proofs.Words.{state}
 use Rattle.table_ledger.proofs.withheld_together.stage_works.Goals as goal
-
--- an answer withholds at most one work
-at_most_one : (ruled : Ruled) → done_in ruled ≤ 1
-at_most_one Done = omega arith
-at_most_one Already = omega arith
 
 pub loop-name-init : goal.loop-name-init
 loop-name-init g c = record {
@@ -36,7 +29,7 @@ loop-name-preserved g c =
     let ruled = c.in-Ok.ruled in
     let kept = c.in_ok-fault.ensures.kept in
     let counts : c.with_answer-in-Ok.result ≡ with_answer c.loop-name.counts ruled =
-    c.with_answer-in-Ok.ensures in
+    c.with_answer-in-Ok.ensures.value in
     record {
       kept = record {
         rulings = kept.rulings ∙ before.kept.rulings;
@@ -47,8 +40,7 @@ loop-name-preserved g c =
       };
       survives = survives_then before.survives (c.in_ok-fault.ensures.stages (λ bytes. bytes)).survives;
       count = ap (λ (counts : Withheld). counts.taken) counts ∙ ap (λ n. n + 1) before.count;
-      within = subst (λ (counts : Withheld). counts.done ≤ counts.taken) (sym counts)
-          (omega (arith, before.within, at_most_one ruled));
+      within = c.with_answer-in-Ok.ensures.within;
       taken = λ naming clean book at.
           subst (AreWithheld naming c.args.names.now (drop (c.loop-name.name-index + 1) c.args.names.now)
           c.stage_withheld.new.summary (g.S.Store.view c.args.tables.now.store)
@@ -84,3 +76,11 @@ returns-clause-stages g c =
       found = λ clean book at.
           all_withheld (c.loop-name.invariant.taken naming clean book at) (λ made empty. tt);
     }
+
+-- no more are counted than there are
+pub returns-in_err-fault-clause-few : goal.returns-in_err-fault-clause-few
+returns-in_err-fault-clause-few g c =
+    omega (arith, c.loop-name.invariant.count, c.loop-name-test.true)
+
+pub returns-in-Err-clause-few : goal.returns-in-Err-clause-few
+returns-in-Err-clause-few g c = omega (arith, c.loop-name.invariant.count, c.loop-name-test.true)
