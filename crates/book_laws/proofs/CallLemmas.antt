@@ -21,12 +21,13 @@ use Rattle.office.proofs.ChoiceLemmas.{choices_answered}
 use Rattle.office.proofs.LawLemmas.{asks_answered}
 use Rattle.office.proofs.LeavingLemmas.{Leaves}
 use Rattle.office.proofs.RunLemmas.{runs_answered}
+use Rattle.office.proofs.WithholdingLemmas.{so_answered}
 use Rattle.book_core.proofs.FollowLemmas.{history_goes_on}
 use Rattle.book_http.proofs.LawLemmas.{request_answered}
 use Rattle.book_laws.specs.CallLaws.{CallsFollowHistory}
 use Rattle.book_laws.specs.Calls.{Call, Request, RunRequests, AcceptRecord, ReadCharges}
 use Rattle.book_laws.specs.Calls.{AcceptRecords, ChooseEach, MakeRuling, HttpDetails, HttpRequest}
-use Rattle.book_laws.specs.Calls.{ReadAdjustments, ReadCredit, WithholdWorks}
+use Rattle.book_laws.specs.Calls.{ReadAdjustments, ReadCredit, WithholdEach, WithholdWorks}
 use Rattle.book_laws.specs.Calls.{ReadDisputes, ReadPeriods, ReadChargesUnder, ReadDetail}
 use Rattle.book_laws.specs.Calls.{ReadDispute, ReadRecord, ReadRuling, ReadTrail, Step, AreDone}
 use Rattle.book_laws.specs.Calls.{calls_of, ledger_after_calls, work_of, works_of}
@@ -82,6 +83,8 @@ call_answered naming (MakeRuling ruling answer) =
 call_answered naming (AcceptRecord bytes answer) = record_answered naming bytes answer
 call_answered naming (AcceptRecords records answers) = takes_answered naming records answers
 call_answered naming (WithholdWorks names told) = works_answered naming names told
+call_answered naming (WithholdEach names counts refusal) =
+    so_answered naming names counts refusal
 call_answered naming (ReadCharges period answer) =
     readings_answered naming (λ rows. rows.items) (charges_outcome period) answer (λ book. refl)
 call_answered naming (ReadChargesUnder period terms answer) =
