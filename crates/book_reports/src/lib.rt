@@ -40,7 +40,7 @@ pub use book_texts::report_text;
 pub use check_lists::{push_last_line, push_record_line};
 pub use detail_lengths::details_length;
 pub use figures::{OpenPeriod, open_period, period_figures, rows_of_period};
-pub use receipt_lines::receipt_line_text;
+pub use receipt_lines::{receipt_line_text, withheld_line_text};
 pub use record_names::name_of_text;
 pub use report::{PeriodReport, Report, centre_named};
 pub use reports::{
