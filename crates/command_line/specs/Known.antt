@@ -106,6 +106,9 @@ record_name = place (codes "sha256") any
 abbrev pub names : WordSeen
 names = named_if_given (codes "from") any
 
+abbrev pub dumped : WordSeen
+dumped = named_if_given (codes "dump") any
+
 abbrev pub number_kind : WordSeen
 number_kind = place (codes "kind") (among (codes "frame" ∷ codes "ledger" ∷ codes "tariff"
     ∷ codes "damaged" ∷ codes "io" ∷ codes "busy" ∷ codes "exists" ∷ codes "word"
@@ -220,8 +223,10 @@ commands_above = (
     (codes "init", book ∷ explain ∷ []) ∷
     (codes "tariff", book ∷ file ∷ dry_run ∷ near ∷ replace ∷ wait ∷ explain ∷ []) ∷
     (codes "import", book ∷ file ∷ layouts ∷ quiet ∷ whole ∷ wait ∷ explain ∷ []) ∷
-    (codes "close", book ∷ period ∷ date ∷ dry_run ∷ near ∷ wait ∷ explain ∷ []) ∷
-    (codes "choose", book ∷ digest ∷ names ∷ dry_run ∷ none ∷ wait ∷ explain ∷ []) ∷
+    (codes "close", book ∷ period ∷ date ∷ dry_run ∷ near ∷ wait ∷ explain ∷ []) ∷ (
+      codes "choose",
+      book ∷ digest ∷ names ∷ dumped ∷ layouts ∷ dry_run ∷ none ∷ wait ∷ explain ∷ [],
+    ) ∷
     (codes "adopt", book ∷ dry_run ∷ wait ∷ explain ∷ []) ∷ (
       codes "credit",
       book ∷ period ∷ credited ∷ amount ∷ reason ∷ dry_run ∷ wait ∷ explain ∷ [],

@@ -19,6 +19,7 @@ pub(crate) enum Help {
     Sha256,
     RecordName,
     Names,
+    Dumped,
     Layout,
     Quiet,
     Whole,
@@ -65,6 +66,7 @@ impl Help {
                 "The record's name, as details and the lists of disputes and adjustments show it"
             }
             Help::Names => "A file of records' names in place of SHA256, one a line",
+            Help::Dumped => "With --none, a dump in place of SHA256: the works of its records",
             Help::Layout => {
                 "How the dump is laid out: segments one after another (rdw), or in blocks (bdw)"
             }
@@ -105,7 +107,7 @@ impl Help {
         match self {
             Help::Book => "BOOK",
             Help::Dump | Help::Tariff | Help::Copy => "FILE",
-            Help::Names | Help::Prices | Help::OtherPrices => "FILE",
+            Help::Names | Help::Dumped | Help::Prices | Help::OtherPrices => "FILE",
             Help::Period => "PERIOD",
             Help::Date | Help::FirstDay => "DATE",
             Help::Sha256 | Help::RecordName | Help::Replaced => "SHA256",

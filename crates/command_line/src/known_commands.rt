@@ -80,6 +80,8 @@ const RECORD_NAME: Argument = Argument::InPlace("sha256", Help::RecordName, Valu
 
 const NAMES: Argument = Argument::NamedIfGiven("from", Help::Names, ValueKind::Text);
 
+const DUMPED: Argument = Argument::NamedIfGiven("dump", Help::Dumped, ValueKind::Text);
+
 const LAYOUT: Argument = Argument::NamedOr(
     "layout",
     Help::Layout,
@@ -183,7 +185,9 @@ pub(crate) static KNOWN_COMMANDS: [KnownCommand; 26] = [
     KnownCommand {
         name: "choose",
         about: "Charges one of several records in dispute with each other, and none of the others",
-        words: &[BOOK, SHA256, NAMES, DRY_RUN, NONE, WAIT, EXPLAIN],
+        words: &[
+            BOOK, SHA256, NAMES, DUMPED, LAYOUT, DRY_RUN, NONE, WAIT, EXPLAIN,
+        ],
     },
     KnownCommand {
         name: "adopt",

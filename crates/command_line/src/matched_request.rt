@@ -1,8 +1,9 @@
 //! The command that `clap` found in the words.
 
 ghost use Rattle.std.specs.Prelude.{◌≡◌, ◌≢◌, [], ◌∷◌, ◌++◌, IfSome, IsSome, IsSomeAnd, codes};
-ghost use Rattle.std.specs.Prelude.{false};
+ghost use Rattle.std.specs.Prelude.{false, is_some};
 ghost use Rattle.clap.specs.Simple.{subcommand_rows_of};
+ghost use Rattle.clap.specs.Walk.{first_of};
 ghost use Rattle.command_line.specs.Given.{HasWord, HasWords, HasWordsOf, NoneIs, bookless, changes};
 ghost use Rattle.command_line.specs.Given.{services};
 ghost use Rattle.command_line.specs.Known as known;
@@ -310,9 +311,63 @@ fn ruling_in<'a>(found: &ArgMatches<'_>, near: bool, ruling: Ruling<'a>) -> Opti
     }
 }
 
-/// One choice, or those of the list that is named. With both, or neither, it is unclear.
+/// Choices, or that none of the works of a dump counts.
 fn choice_in<'a>(found: &ArgMatches<'a>) -> Option<Request<'a>>
     ensures request { IfSome result (IsOfCommand (codes "choose") (rows_in found.now)) }
+    ensures some { HasWord (rows_in found.now) known.book
+        → HasWord (rows_in found.now) known.layouts → HasWord (rows_in found.now) known.dry_run
+        → HasWord (rows_in found.now) known.none → HasWord (rows_in found.now) known.wait
+        → IsSome result }
+{
+    match text_in(found, "dump") {
+        Some(file) => dumped_in(found, file),
+        None => chosen_in(found),
+    }
+}
+
+/// An argument was given.
+fn is_given(found: &ArgMatches<'_>, name: &str) -> bool
+    ensures { result ≡ is_some (first_of name.now (rows_in found.now)) }
+{
+    text_in(found, name).is_some()
+}
+
+/// A record is named, or a list of names.
+fn names_some(found: &ArgMatches<'_>) -> bool
+    ensures { result ≡ spec.names_some (rows_in found.now) }
+{
+    is_given(found, "sha256") || is_given(found, "from")
+}
+
+/// What is asked by a dump: that none of its works counts. Beside other choices, as a dry run or without
+/// `--none` it is unclear.
+fn dumped_in<'a>(found: &ArgMatches<'a>, file: &'a str) -> Option<Request<'a>>
+    ensures request { IsText (rows_in found.now) (codes "dump") file.entry
+        → IfSome result (IsOfCommand (codes "choose") (rows_in found.now)) }
+    ensures some { HasWord (rows_in found.now) known.book
+        → HasWord (rows_in found.now) known.layouts → HasWord (rows_in found.now) known.dry_run
+        → HasWord (rows_in found.now) known.none → HasWord (rows_in found.now) known.wait
+        → IsSome result }
+{
+    let layout = layout_in(found)?;
+    let tried = flag_in(found, "dry-run")?;
+    let none = flag_in(found, "none")?;
+    if !none {
+        return Some(Request::Unclear(Unclear::Dump));
+    }
+    if tried {
+        return Some(Request::Unclear(Unclear::Dump));
+    }
+    if names_some(found) {
+        return Some(Request::Unclear(Unclear::Dump));
+    }
+    of_books_in(found, Some(BookRequest::WithholdDump { file, layout }))
+}
+
+/// One choice, or those of the list that is named. With both, or neither, it is unclear.
+fn chosen_in<'a>(found: &ArgMatches<'a>) -> Option<Request<'a>>
+    ensures request { IsLeftOut (rows_in found.now) (codes "dump")
+        → IfSome result (IsOfCommand (codes "choose") (rows_in found.now)) }
     ensures some { HasWord (rows_in found.now) known.book
         → HasWord (rows_in found.now) known.dry_run → HasWord (rows_in found.now) known.none
         → HasWord (rows_in found.now) known.wait → IsSome result }
@@ -334,8 +389,8 @@ fn choice_in<'a>(found: &ArgMatches<'a>) -> Option<Request<'a>>
 /// The choice of a record, or that of none of its work.
 fn named_choice<'a>(none: bool, name: &'a str) -> Ruling<'a>
     ensures ruling { (rows : _) → IsText rows (codes "sha256") name.entry
-        → IsLeftOut rows (codes "from") → IsFlag rows (codes "none") none
-        → IsRuling (codes "choose") rows result }
+        → IsLeftOut rows (codes "from") → IsLeftOut rows (codes "dump")
+        → IsFlag rows (codes "none") none → IsRuling (codes "choose") rows result }
     ensures near { (rows : _) → IsNear rows result false }
 {
     if none {
@@ -347,7 +402,7 @@ fn named_choice<'a>(none: bool, name: &'a str) -> Ruling<'a>
 /// The choices of a list, or a dry run of them.
 fn listed<'a>(tried: bool, none: bool, file: &'a str) -> BookRequest<'a>
     ensures { (rows : _) → IsLeftOut rows (codes "sha256") → IsText rows (codes "from") file.entry
-        → IsFlag rows (codes "none") none → IsDryRun rows tried
+        → IsLeftOut rows (codes "dump") → IsFlag rows (codes "none") none → IsDryRun rows tried
         → IsOfBooks (codes "choose") rows result }
 {
     if tried {
@@ -360,6 +415,7 @@ fn listed<'a>(tried: bool, none: bool, file: &'a str) -> BookRequest<'a>
 fn listed_in<'a>(found: &ArgMatches<'a>, none: bool, file: &'a str) -> Option<Request<'a>>
     ensures request { IsLeftOut (rows_in found.now) (codes "sha256")
         → IsText (rows_in found.now) (codes "from") file.entry
+        → IsLeftOut (rows_in found.now) (codes "dump")
         → IsFlag (rows_in found.now) (codes "none") none
         → IfSome result (IsOfCommand (codes "choose") (rows_in found.now)) }
     ensures some { HasWord (rows_in found.now) known.book

@@ -52,6 +52,9 @@ pub struct DumpFile<'a> {
 pub enum Unclear {
     /// Which records are chosen: a name and a list of names are given, or neither.
     Choice,
+    /// Of which works of a dump none counts: `--none` is not given, or a name, a list of names or a
+    /// dry run beside the dump.
+    Dump,
     /// What a trial prices by: a tariff and a rate are given.
     Prices,
     /// Which period: its number has a sign, or a 0 before other digits.
@@ -169,6 +172,13 @@ pub enum BookRequest<'a> {
         none: bool,
         /// The path of the list.
         file: &'a str,
+    },
+    /// The works of the records of a dump withheld, one after the other.
+    WithholdDump {
+        /// The path of the dump.
+        file: &'a str,
+        /// How its segments are laid out.
+        layout: Layout,
     },
     /// What a ruling would change printed, and nothing changed.
     DryRun(Ruling<'a>),

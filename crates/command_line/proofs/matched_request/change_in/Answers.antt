@@ -58,7 +58,8 @@ unfolding known_table
 returns-in-choose-clause-some c =
     λ has others.
     let words = subst (λ n. HasWordsOf n (rows_in c.args.found.now)) c.in-choose.is has in
-    c.choice_in.ensures.some words.0 words.1.1.1.0 words.1.1.1.1.0 words.1.1.1.1.1.0
+    c.choice_in.ensures.some words.0 words.1.1.1.1.0 words.1.1.1.1.1.0 words.1.1.1.1.1.1.0
+    words.1.1.1.1.1.1.1.0
 
 pub returns-in-adopt-clause-request : goal.returns-in-adopt-clause-request
 returns-in-adopt-clause-request c =
