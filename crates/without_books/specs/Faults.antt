@@ -79,6 +79,7 @@ status_by ended =
 -- words that do not say what is asked
 abbrev pub unclear_line : Unclear → List ℕ
 unclear_line unclear.Choice = codes "error: choose takes either SHA256 or --from FILE\n"
+unclear_line unclear.Dump = codes "error: choose takes --dump FILE with --none, and alone\n"
 unclear_line unclear.Prices = codes "error: trial takes either rates or --tariff FILE\n"
 unclear_line unclear.Period = codes "error: PERIOD is a number without a sign or a leading 0\n"
 unclear_line unclear.Form = codes "error: bill takes either --csv or --html\n"

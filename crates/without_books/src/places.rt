@@ -128,6 +128,7 @@ impl<'a> Places<'a> {
             BookRequest::BackUp { copy, .. } => places.new = Some(copy),
             BookRequest::Serve { port, .. } => places.port = Some(port),
             BookRequest::Import(dump) => places.dump = Place::File(dump.file),
+            BookRequest::WithholdDump { file, .. } => places.dump = Place::File(file),
             _ => (),
         }
         places
@@ -284,6 +285,7 @@ fn read_by<'a>(asked: BookRequest<'a>) -> Option<&'a str> {
         | BookRequest::DryRun(Ruling::Replace { file })
         | BookRequest::ChooseListed { file, .. }
         | BookRequest::TryListed { file, .. }
+        | BookRequest::WithholdDump { file, .. }
         | BookRequest::WhatIf { file, .. } => Some(file),
         BookRequest::Import(dump) => Some(dump.file),
         _ => None,
