@@ -10,6 +10,7 @@ use Rattle.book_model.specs.declared.fault.LedgerFault.TheVariants.{Memory, Stor
 use Rattle.book_core.specs.Words.{Calls, listed, MakesAnswered, Transition, NoEvent}
 use Rattle.book_core.proofs.FollowLemmas.{history_goes_on, none_answered}
 use Rattle.book_model.proofs.Lemmas.{books_follow_history}
+use Rattle.smf_frames.specs.declared.dump.Layout.{Layout}
 use Rattle.book_audit.specs.Copies.{IsAudited}
 use Rattle.book_audit.specs.declared.audited.Audited.{Audited}
 use Rattle.book_audit.specs.declared.audited.Audited.TheVariants.{Sound, Unsound}
@@ -21,6 +22,8 @@ use Rattle.office.specs.Requests.{Asks, Dump, Response}
 use Rattle.named_books.specs.Shelves.{IsTried, IsUntouched}
 use Rattle.office.proofs.ChoiceLemmas.{choices_done}
 use Rattle.office.proofs.LawLemmas.{asks_done}
+use Rattle.office.proofs.WithholdingLemmas.{so_answered}
+use Rattle.office.specs.declared.withholding.WorksTold.{WorksTold}
 use Rattle.command_line.specs.declared.request.BookRequest.{BookRequest}
 use Rattle.command_line.specs.declared.request.Request.{Request}
 use Rattle.command_line.specs.declared.request.Ruling.{Ruling}
@@ -48,6 +51,7 @@ use Rattle.chargectl.specs.CommandLaws.{ListOfHistory, ListTriedBy, ListTriedOfH
 use Rattle.chargectl.specs.CommandLaws.{ListsHistoryBy, ListsAskedOfHistory}
 use Rattle.chargectl.specs.CommandLaws.{ListsOfHistory, OpenedSo, RunsOn, ServesEach}
 use Rattle.chargectl.specs.CommandLaws.{ServesHistoryBy, TriedBy, TriesOfHistory, place_after}
+use Rattle.chargectl.specs.CommandLaws.{DumpBy, DumpOfHistory, WorksMade}
 use Rattle.chargectl.specs.DryRuns.{ComesOfDryRun, ShowsDry, TriesAndTells, TriesOnceBy}
 use Rattle.chargectl.specs.Far.{is_far_asked}
 use Rattle.chargectl.specs.NearRulings.{AsksNear, ComesNear, RulesNear, near_answered}
@@ -56,6 +60,8 @@ use Rattle.chargectl.specs.Requests.{SettlesBy}
 use Rattle.chargectl.specs.StreamedLists.{ListsAsked, ListsBy, WritesSomeOf, list_answer, list_of}
 use Rattle.chargectl.specs.StreamedLists.{listing_answered}
 use Rattle.chargectl.specs.Upgrades.{UpgradesBy}
+use Rattle.chargectl.specs.WithheldWorks.{ComesOfDump, WithholdsDump, WorksBy}
+use Rattle.chargectl.specs.declared.withheld_works.WorksAnswered.{WorksAnswered}
 use Rattle.chargectl.proofs.CommandLemmas.{either_as, nothing_as, shelf_as}
 use Rattle.chargectl.proofs.ServingLemmas.{each_answered, turn_done}
 use Rattle.chargectl.proofs.Words.{HasFailed, LedgerFault, ReportFault, RepositoryFault, Unseen}
@@ -303,6 +309,24 @@ module _ (naming : Naming) (history : List Event) (name : List ℕ) (old new : S
       (work_on book (ChoosesBy withheld naming names told) (list_answered withheld naming names told)
       done)
 
+  -- what withheld works follows the history
+  works_followed : (names : List (List ℕ)) (told : WorksTold) (made : List Event)
+      → Makes (WorksBy naming names told) history made → WorksMade naming history names told made
+  works_followed names told made it = record {
+    left = it.is;
+    work = subst (λ book. WorksBy naming names told false book made it.is)
+        (books_follow_history history) it.made_so;
+  }
+
+  -- the works of records were withheld, one change after the other
+  withheld_on : (book : List ℕ) (names : List (List ℕ)) (told : WorksTold)
+      → IsDoneTo book (WorksBy naming names told) old new
+      → Step naming history name old new (Where book name (WorksMade naming history names told))
+  withheld_on book names told done =
+      step_where (works_followed names told)
+      (work_on book (WorksBy naming names told)
+      (so_answered naming names told.counts told.refusal) done)
+
   -- or the place refused them, for such a reason
   opened_on : {A : Type 0} (book : List ℕ) (Refuses : RepositoryFault → Type 0)
       → ((fault : RepositoryFault) → old.refuses book fault → Refuses fault)
@@ -439,6 +463,43 @@ module _ (history : List Event) (name : List ℕ) (old new : Shelf)
   list_on withheld had book has holds Failed ended it =
       step_where (λ made so. record { came = it.answered; listed = so; tells = it.tells })
       (list_comes_on withheld had book it.answered it.comes)
+
+  -- the works of a dump
+  dump_comes_on : (layout : Layout) (had : Option (List ℕ)) (book : List ℕ)
+      (came : Result WorksAnswered CommandFault) → ComesOfDump layout had book old new came
+      → Step old.naming history name old new
+      (Where book name (DumpBy layout had old.naming history (Refuses book) came))
+  dump_comes_on layout had book (Ok told) comes =
+      step_where (λ made follows. record {
+        named = comes.named;
+        read = comes.read;
+        follows = follows;
+        stop = comes.came.stop;
+      })
+      (opened_on old.naming history name old new answered held book (Refuses book) (follow book)
+      (WorksBy old.naming comes.named.names.items)
+      (WorksMade old.naming history comes.named.names.items)
+      (withheld_on old.naming history name old new answered held book comes.named.names.items)
+      told.told comes.came.done)
+  dump_comes_on layout had book (Err why) comes =
+      step_as (λ made is. (
+        λ _. (
+          either_as (old.refuses book) (Refuses book) (follow book) (IsFileFault why) why comes.0,
+          is,
+        ),
+        λ _. is,
+      ))
+      (none_on old.naming history name old new answered held book comes.1)
+
+  dump_on : (layout : Layout) (had : Option (List ℕ)) (book : List ℕ) (has holds : Option (List ℕ))
+      (Failed : Type 0) (ended : Ended)
+      → WithholdsDump layout had book old new has holds Failed ended
+      → Step old.naming history name old new
+      (Where book name
+      (DumpOfHistory layout had old.naming history (Refuses book) has holds Failed ended))
+  dump_on layout had book has holds Failed ended it =
+      step_where (λ made so. record { came = it.answered; withheld = so; tells = it.tells })
+      (dump_comes_on layout had book it.answered it.comes)
 
   -- or they were tried
   names_tried : (withheld : Bool) (book : List ℕ) (names : List (List ℕ))
@@ -771,6 +832,9 @@ module _ {S : Type 0} (shelf : S → Shelf) (history : List Event) (name : List 
       (files.holds file.now) book has holds Failed ended does
   does_on files book (asks.TryListed withheld file) has holds Failed ended does =
       list_tried history name (shelf before) (shelf after) answered held Refuses follow withheld
+      (files.holds file.now) book has holds Failed ended does
+  does_on files book (asks.WithholdDump file layout) has holds Failed ended does =
+      dump_on history name (shelf before) (shelf after) answered held Refuses follow layout
       (files.holds file.now) book has holds Failed ended does
   does_on files book (asks.DryRun ruling) has holds Failed ended does =
       tries_on history name (shelf before) (shelf after) answered held Refuses follow files book ruling

@@ -4,6 +4,7 @@ use Rattle.std.specs.Prelude.{◌≡◌, ◌≢◌, ⊤, Bool, false, ℕ, List,
 use Rattle.std.specs.Prelude.{IfErr, IfOk, OnErr, OnOk, Result, Ok, Err, String, true, ℤ}
 use Rattle.std.specs.Global.{Global}
 use Rattle.std.specs.declared.alloc.AllocError.{AllocError}
+use Rattle.smf_frames.specs.declared.dump.Layout.{Layout}
 use Rattle.streams.specs.Failures.{HasFailed}
 use Rattle.streams.specs.InputOutput.{Input}
 use Rattle.tariff_rules.specs.Limits.{most_rate}
@@ -16,6 +17,7 @@ use Rattle.book_audit.specs.declared.audited.Audited.{Audited}
 use Rattle.book_audit.specs.declared.audited.Audited.TheVariants.{Sound, Unsound}
 use Rattle.book_http.specs.declared.served.Served.{Served}
 use Rattle.book_http.specs.declared.served.Served.TheVariants as served
+use Rattle.book_import.specs.declared.dump_names.DumpNames.{DumpNames}
 use Rattle.book_lists.specs.declared.fault.ReportFault.{ReportFault}
 use Rattle.book_lists.specs.Streamed.{WritesUntilOrRefuses}
 use Rattle.office.specs.declared.choosing.Chosen.{Chosen}
@@ -25,6 +27,8 @@ use Rattle.office.specs.declared.request.Asked.{Asked}
 use Rattle.office.specs.Choices.{ChoosesEach, are_hindered, choices_outcome}
 use Rattle.office.specs.Outcomes.{asked_outcome, is_hindered}
 use Rattle.office.specs.Requests.{Asks, Dump, Gives, response_by}
+use Rattle.office.specs.Withholdings.{WithholdsSo}
+use Rattle.office.specs.declared.withholding.WorksTold.{WorksTold}
 use Rattle.named_books.specs.Shelves.{Shelf, OpenedAnew, WhereUnopened}
 use Rattle.command_line.specs.declared.request.BookRequest.{BookRequest}
 use Rattle.command_line.specs.declared.request.BookRequest.TheVariants as book
@@ -57,6 +61,8 @@ use Rattle.chargectl.specs.NearRulings.{near_answer_of}
 use Rattle.chargectl.specs.Requests.{Answering, CommandsBy, IsServiceFault, WritesEarly, WritesLines}
 use Rattle.chargectl.specs.StreamedLists.{WritesSomeOf, list_answer, list_end, list_of}
 use Rattle.chargectl.specs.Serving.{AllCame, AnswersSome, IsToldOf, service_end}
+use Rattle.chargectl.specs.WithheldWorks.{IsNamedOf, TellsDump, WithholdsNothing}
+use Rattle.chargectl.specs.declared.withheld_works.WorksAnswered.{WorksAnswered}
 
 -- a command: its words, its input, its output and standard error before and after it, its status, and
 -- the place of the books after it; and what the files that it may read held
@@ -288,6 +294,37 @@ pub record ListTriedOfHistory (withheld : Bool) (had : Option (List ℕ)) (namin
   pub tells : TellsList came held holds Failed ended
   pub none : made ≡ []
 
+-- After a history the works of the records of these names were withheld, one change of the books after the
+-- other, which made these events: each answer is the one that the definitions give for the history with
+-- the events before it.
+pub record WorksMade (naming : Naming) (history : List Event) (names : List (List ℕ))
+    (told : WorksTold) (made : List Event) : Type 0 where
+  pub left : Bool
+  pub work : WithholdsSo naming names told.counts told.refusal false (book_of history) made left
+
+-- so were those of a dump, in a file that had these bytes
+pub record WorksOf (layout : Layout) (had : Option (List ℕ)) (naming : Naming) (history : List Event)
+    (Refuses : RepositoryFault → Type 0) (answered : WorksAnswered) (made : List Event) : Type 0 where
+  pub named : DumpNames
+  pub read : IsNamedOf layout had named
+  pub follows : OpenedSo Refuses (WorksMade naming history named.names.items) answered.told made
+  pub stop : answered.stop ≡ named.stop
+
+-- or none were
+abbrev pub DumpBy : Layout → Option (List ℕ) → Naming → List Event → (RepositoryFault → Type 0)
+    → Result WorksAnswered CommandFault → List Event → Type 0
+DumpBy layout had naming history Refuses (Ok answered) made =
+    WorksOf layout had naming history Refuses answered made
+DumpBy layout had naming history Refuses (Err why) made = WithholdsNothing Refuses why × (made ≡ [])
+
+-- and that was written
+pub record DumpOfHistory (layout : Layout) (had : Option (List ℕ)) (naming : Naming)
+    (history : List Event) (Refuses : RepositoryFault → Type 0) (held holds : Option (List ℕ))
+    (Failed : Type 0) (ended : Ended) (made : List Event) : Type 0 where
+  pub came : Result WorksAnswered CommandFault
+  pub withheld : DumpBy layout had naming history Refuses came made
+  pub tells : TellsDump came held holds Failed ended
+
 -- One client was replied to, and these events were made; or the place refused the books, for any reason.
 pub record AnswersOrNot (naming : Naming) (what : Served) (was : Bool) (before : Book)
     (events : List Event) (is : Bool) : Type 0 where
@@ -433,6 +470,8 @@ DoesToHistory files naming history Refuses (book.ChooseListed withheld file) hel
 DoesToHistory files naming history Refuses (book.TryListed withheld file) held holds Failed ended made =
     ListTriedOfHistory withheld (files.holds file.now) naming history Refuses held holds Failed ended
     made
+DoesToHistory files naming history Refuses (book.WithholdDump file layout) held holds Failed ended made =
+    DumpOfHistory layout (files.holds file.now) naming history Refuses held holds Failed ended made
 DoesToHistory files naming history Refuses (book.DryRun ruling) held holds Failed ended made =
     TriesOfHistory files naming history Refuses ruling held holds Failed ended made
 DoesToHistory files naming history Refuses (book.RuleNear ruling) held holds Failed ended made =

@@ -24,6 +24,7 @@ mod streamed_lists;
 mod upgrades;
 mod waiting;
 mod watched_rows;
+mod withheld_works;
 
 pub use client_requests::{Attended, serve_request};
 pub use due::Due;
