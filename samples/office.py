@@ -588,6 +588,13 @@ class Books:
             answers.append(answer)
         return answers
 
+    def withhold_dump(self, dump):
+        """The works of the usage records of a dump, one after the other. Those that are not held are passed over."""
+        answers = collections.Counter()
+        for name in (hashlib.sha256(data).hexdigest() for data in joined(dump) if kind_of(data) == "USAGE"):
+            answers[self.withhold(name)[0] if name in self.held else "NOT HELD"] += 1
+        return ["WITHHELD %d ALREADY %d NOT HELD %d STOP END" % (answers["DONE"], answers["ALREADY"], answers["NOT HELD"])]
+
     def adopt(self, rule):
         """From now on identities are those of this rule, of held records too. What closes charged stays."""
         if rule == self.rule:

@@ -704,7 +704,10 @@ class Rows:
             return self.ruled(office.ruling_of_credit(int(period), centre, units, reason), is_tried)
 
         def choose(name=None, *_):
-            """One choice, or those of a file. What is no name in the file is a wrong word, before the first of them."""
+            """One choice, or those of a file. What is no name in the file is a wrong word, before the first of them. Or none of the
+            works of a dump counts."""
+            if "--dump" in given:
+                return books.withhold_dump(self.file(given["--dump"]))
             if "--from" not in given:
                 ruling_of = office.ruling_of_none if "--none" in given else office.ruling_of_choice
                 return self.ruled(ruling_of(self.name_of(name)), is_tried)
