@@ -472,7 +472,10 @@ SOUND = "SOUND\n" + "".join(
     word + " [0-9]+\n" for word in "FORM RECORDS TARIFFS CLOSES CHOICES ROWS LINES".split())
 UNSOUND = r"UNSOUND [ -~]+: [ -~]+\n"
 RECEIPT = " ".join(word + " [0-9]+" for word in COUNTED)
-RECEIPT += r" STOP (END|FRAME [1-8]|READ|READLIMIT|LEDGER [0-9]+)\n"
+STOPPED = r" STOP (END|FRAME [1-8]|READ|READLIMIT|LEDGER [0-9]+)\n"
+RECEIPT += STOPPED
+# The same of the works of a dump.
+WITHHELD = "WITHHELD [0-9]+ ALREADY [0-9]+ NOT HELD [0-9]+" + STOPPED
 CLASSES = "HEADER|TRAILER|LOST|OTHER|CONTINUED|USAGE(?: [0-9a-f]{64})?|DAMAGED [1-9]"
 CHECKED = (r"(?:[0-9]+ TYPE (?:[0-9]+|-) (?:%s)\n)*" % CLASSES
            + r"RECORDS [0-9]+ STOP (?:END|FRAME [1-8])\n")
@@ -553,7 +556,7 @@ OF_PERIODS = ("statement", "statement-csv", "what-if", "what-if-csv", "details",
 OF_COMMANDS = {name: report_form(name) for name in (*OF_PERIODS, *WHOLE)}
 OF_COMMANDS |= {name: form(text) for name, text in BILLS.items()}
 OF_COMMANDS |= {
-    "audit": form(SOUND + "|" + UNSOUND), "import": form(RECEIPT),
+    "audit": form(SOUND + "|" + UNSOUND), "import": form(RECEIPT), "withheld": form(WITHHELD),
     "ruling": form("DONE\n|ALREADY\n"), "dry-run": form(DRY_RUN), "listed": form("(?:(?:DONE|ALREADY)\n)*"),
     "tariff-text": form(r"(?s:.*)\[rates\](?s:.*)"), "check": form(CHECKED), "init": form(""),
     "explain": form(r"[ -~]+\n[ -~]+\n"), "upgrade": form("UPGRADED 3\n|ALREADY\n"),

@@ -433,7 +433,7 @@ COMMANDS = ("init tariff import close choose adopt credit statement adjustments 
 WORDS = ("books nothing tariff dump . .. books/ books-wal 0 1 2 3 65535 65536 -1 1e3 0x1 ١ "
          "2024-01-31 2024-02-30 2024-02-29 2024-1-1 --layout --layout=bdw --layout=xyz rdw bdw "
          "--quiet --quiet=1 --whole --names --near --explain --dry-run --csv --html --cpu --cpu=100000000 --cpu=100000001 --excp --record "
-         "--record=-1 -- - -q --help -h --port --requests --from --none --replace --replaced --tariff "
+         "--record=-1 -- - -q --help -h --port --requests --from --dump --none --replace --replaced --tariff "
          "--tariff=tariff --tariff=dump "
          "--centre --centre=LEDGER --wait --wait=0 --wait=3601 frame ledger tariff damaged").split()
 WORDS += ["", " ", "\n", "é", "x" * 300, "y" * 100_000, "/dev/null/x", "%s%n", "0" * 64, "ab" * 32,
