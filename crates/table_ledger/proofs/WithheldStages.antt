@@ -1,7 +1,7 @@
 -- Works that are withheld one after another, in one commit.
 use Rattle.std.proofs.Common.{◌≡◌, ◌∙◌, ◌<◌, ◌+◌, ℕ, List, [], ◌∷◌, ◌++◌, Result, Ok, Err, refl}
 use Rattle.std.proofs.Common.{sym, ap, subst, false, true, drop, get_or, length, append-nil}
-use Rattle.std.proofs.Common.{append_assoc, add-one, drop-cons, IsErr}
+use Rattle.std.proofs.Common.{append_assoc, add-one, drop-cons, IsErr, IfOk, Bool, ◌≤◌, arith, inl, inr}
 use Rattle.book_model.specs.Words.{Book, Event, after_all, Naming, withhold_outcome}
 use Rattle.book_core.specs.declared.withheld.Withheld.{Withheld}
 use Rattle.book_core.specs.Withholdings.{with_answer, withheld_of}
@@ -13,6 +13,7 @@ use Rattle.tree_rows.proofs.Calls.{only_looks}
 use Rattle.table_ledger.proofs.Words.{View, OnlyWrites, StoreError, LedgerFault, Reopen, Ruled}
 use Rattle.table_ledger.proofs.Words.{State, HasCleanDisk, Survives, only_both, LedgerState}
 use Rattle.table_ledger.proofs.Words.{IsAt, LeavesOne, MakesOf, StagesAs, seen_on}
+use Rattle.table_ledger.specs.Attempts.{Ends}
 use Rattle.table_ledger.specs.Stages.{IsStaged}
 use Rattle.table_ledger.specs.WithheldTogether.{AnswersWorks, LeavesWorks, RefusesName, StagesAsOne}
 use Rattle.table_ledger.specs.WithheldTogether.{StagesWorks, WorksOf}
@@ -297,3 +298,29 @@ pub works_reopen : (shelf : LedgerState) (naming : Naming) (names : List (List �
 works_reopen shelf naming names closed =
     (call_reopen {V = Ruled} {view = said} {outcome = withhold_outcome naming (first_of names)} shelf
     closed).work
+
+-- what is so of each answer of what was tried is so of the answer that is given
+answer_kept : {V : Type 0} (Is : V → Type 0) (tried : Result (Result V LedgerFault) StoreError)
+    (result : Result V LedgerFault) (was is : Bool) (Same Back : Type 0)
+    → Ends result was is Same Back tried → IfOk tried (λ answer. IfOk answer Is) → IfOk result Is
+answer_kept Is (Ok answer) result was is Same Back ends so =
+    subst (λ result. IfOk result Is) (sym ends.0) so
+answer_kept Is (Err error) result was is Same Back ends so = elim ends [
+  | inl memory ↦ subst (λ result. IfOk result Is) (sym memory.0) tt
+  | inr store ↦ subst (λ result. IfOk result Is) (sym store.0) tt
+]
+
+-- no more works than the first of some names are no more than all
+few_of : (told : Result Withheld LedgerFault) (part all : ℕ) → part ≤ all
+    → IfOk told (λ one. one.taken ≤ part) → IfOk told (λ one. one.taken ≤ all)
+few_of (Ok told) part all within few = omega (arith, within, few)
+few_of (Err fault) part all within few = tt
+
+pub few_taken : (tried : Result (Result Withheld LedgerFault) StoreError)
+    (result : Result Withheld LedgerFault) (was is : Bool) (Same Back : Type 0) (part all : ℕ)
+    → Ends result was is Same Back tried → part ≤ all
+    → IfOk tried (λ answer. IfOk answer (λ (one : Withheld). one.taken ≤ part))
+    → IfOk result (λ (one : Withheld). one.taken ≤ all)
+few_taken tried result was is Same Back part all ends within few =
+    few_of result part all within
+    (answer_kept (λ (one : Withheld). one.taken ≤ part) tried result was is Same Back ends few)
