@@ -1,5 +1,5 @@
-//! The line that says what became of a dump, or of the works of its records, in a buffer of fixed size:
-//! it takes no memory, so no receipt is lost because memory runs out.
+//! The line that says what became of a dump, or of the works of its records, in a buffer of fixed
+//! size: it takes no memory, so no receipt is lost because memory runs out.
 
 ghost use Rattle.std.specs.Prelude.{◌≡◌, ◌+◌, ◌≤◌, ◌++◌, decimal, length};
 ghost use Rattle.arrayvec.specs.ArrayString.{array_string_len};
@@ -109,8 +109,8 @@ pub fn receipt_line_text(receipt: &Receipt) -> ReceiptLine
     line
 }
 
-/// The line that says what became of the works of a dump's records that were to be withheld, and why no
-/// further one was.
+/// The line that says what became of the works of a dump's records that were to be withheld, and
+/// why no further one was.
 pub fn withheld_line_text(
     withheld: usize,
     already: usize,

@@ -1,5 +1,5 @@
--- Works withheld by the records of a dump in a file: which records these are, what the books are asked,
--- what is written, and how the command ends.
+-- Works withheld by the records of a dump in a file: which records these are, what the books are
+-- asked, what is written, and how the command ends.
 use Rattle.std.specs.Prelude.{◌≡◌, ◌⊎◌, true, ℕ, List, Option, Some, None, Result, Ok, Err}
 use Rattle.sha2.specs.Sha256.{sha256}
 use Rattle.smf_frames.specs.declared.dump.Layout.{Layout}
@@ -24,8 +24,8 @@ use Rattle.without_books.specs.Faults.{end_of, shelf_fault, without_log}
 use Rattle.chargectl.specs.declared.withheld_works.WorksAnswered.{WorksAnswered}
 use Rattle.chargectl.specs.Commands.{IsFileFault, IsPrinted, IsShelfFault, first_fault}
 
--- A reader that had these bytes gave a dump, and the names of its usage records, by their SHA-256, are
--- these.
+-- A reader that had these bytes gave a dump, and the names of its usage records, by their SHA-256,
+-- are these.
 pub record IsNamedOf (layout : Layout) (had : Option (List ℕ)) (named : DumpNames) : Type 0 where
   pub cut : Option Stop
   pub input : Input
@@ -51,8 +51,8 @@ pub record AnswersDump (layout : Layout) (had : Option (List ℕ)) (book : List 
   pub read : IsNamedOf layout had named
   pub came : IsWithheld named book old new answered
 
--- why nothing is withheld, of books that are refused for these reasons: there was no memory for the names,
--- or the file is not opened
+-- why nothing is withheld, of books that are refused for these reasons: there was no memory for the
+-- names, or the file is not opened
 abbrev pub WithholdsNothing : (RepositoryFault → Type 0) → CommandFault → Type 0
 WithholdsNothing Refuses why = IsShelfFault Refuses why ⊎ IsFileFault why
 

@@ -1,6 +1,6 @@
-//! Works withheld by the records of a dump. Faults are found in this order: the books, the file, what the
-//! books say, or the stop of the dump, and then the output. The dump is read before the books are opened,
-//! and they are closed before it is written what came of it.
+//! Works withheld by the records of a dump. Faults are found in this order: the books, the file,
+//! what the books say, or the stop of the dump, and then the output. The dump is read before the
+//! books are opened, and they are closed before it is written what came of it.
 
 ghost use Rattle.std.specs.Prelude.{◌≡◌, IfErr, IfOk};
 ghost use Rattle.streams.specs.Failures.{HasFailed};
@@ -191,8 +191,8 @@ fn stop_of(refusal: Option<LedgerFault>, stop: Stop) -> Stop
     }
 }
 
-/// Writes the counts, so that they have left the program. Works that stopped say so also where they could
-/// not be written.
+/// Writes the counts, so that they have left the program. Works that stopped say so also where they
+/// could not be written.
 fn print_counts<O: Writer + Drop>(
     told: WorksTold,
     stop: Stop,

@@ -18,22 +18,24 @@ abbrev pub is_not_held : LedgerFault → Bool
 is_not_held NoSuchRecord = true
 is_not_held fault = false
 
--- The work of a record was withheld, in a call of its own, and that is the answer; or the record is not
--- held.
+-- The work of a record was withheld, in a call of its own, and that is the answer; or the record is
+-- not held.
 abbrev pub WithholdsOne : Naming → List ℕ → Option Ruled → Transition
 WithholdsOne naming name (Some answer) =
     Calls (λ (ruled : Ruled). ruled) (withhold_outcome naming name) (Ok answer)
 WithholdsOne naming name None =
     Calls (λ (ruled : Ruled). ruled) (withhold_outcome naming name) (Err NoSuchRecord)
 
--- The work of the first of these names is refused, and its record is held, or it is not known whether.
+-- The work of the first of these names is refused, and its record is held, or it is not known
+-- whether.
 pub record StopsAt (naming : Naming) (names : List (List ℕ)) (fault : LedgerFault) (was : Bool)
     (before : Book) (events : List Event) (is : Bool) : Type 0 where
   pub other : is_not_held fault ≡ false
   pub refused : TakesWorks naming names (Err fault) was before events is
 
--- The works of names were withheld in turn, each of the book that those before it left, and these are the
--- answers: one for each name; or those before the first refusal, after which none is withheld.
+-- The works of names were withheld in turn, each of the book that those before it left, and these
+-- are the answers: one for each name; or those before the first refusal, after which none is
+-- withheld.
 abbrev pub WithholdsEach : Naming → List (List ℕ) → List (Option Ruled) → Option LedgerFault
     → Transition
 WithholdsEach naming [] [] None = NoEvent

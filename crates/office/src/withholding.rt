@@ -63,8 +63,8 @@ fn with_absent(counts: WorkCounts) -> WorkCounts
     }
 }
 
-/// Withholds works by the first of these names, in one change, and counts them. Answers how many names it
-/// is done with, or why the first is refused.
+/// Withholds works by the first of these names, in one change, and counts them. Answers how many
+/// names it is done with, or why the first is refused.
 fn withhold_next<L: Ledger>(
     ledger: &mut L,
     counts: &mut WorkCounts,
@@ -94,8 +94,8 @@ fn withhold_next<L: Ledger>(
     }
 }
 
-/// Withholds the works of the records of these names, one change of the books after the other, up to the
-/// first refusal. Records that are not held are passed over.
+/// Withholds the works of the records of these names, one change of the books after the other, up
+/// to the first refusal. Records that are not held are passed over.
 pub fn withhold_each<L: Ledger>(ledger: &mut L, names: &[[u8; 32]]) -> WorksTold
     ensures { IsTransition (L.seen ledger.old) (L.seen ledger.new)
         (WithholdsSo (L.seen ledger.old).naming names.now result.counts result.refusal) }
