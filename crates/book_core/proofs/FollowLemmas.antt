@@ -9,6 +9,7 @@ use Rattle.book_model.specs.declared.answer.Ruled.TheVariants.{Done, Already}
 use Rattle.book_model.specs.MadeByCalls.{AreMadeOf}
 use Rattle.book_model.specs.declared.fault.LedgerFault.{LedgerFault}
 use Rattle.book_model.specs.declared.fault.LedgerFault.TheVariants.{Memory, Store, Reopen, OldRule}
+use Rattle.book_model.specs.declared.fault.LedgerFault.TheVariants.{NoSuchRecord}
 use Rattle.book_model.specs.Words.{Terms, terms_in, Naming, Book, new_book, Event, PeriodClosed}
 use Rattle.book_model.specs.Words.{RulingGiven, SecondRuleAdopted, after_all, accept_answer}
 use Rattle.book_model.specs.Words.{tariff_answer, close_answer, Outcome, accept_event, if_done}
@@ -22,6 +23,7 @@ use Rattle.book_model.proofs.Lemmas.{books_follow_history, closed_open, credited
 use Rattle.book_core.specs.Words.{Seen, Transition, NoEvent, Then, IsTransition, Makes, Calls}
 use Rattle.book_core.specs.Words.{TakesWorks, Withholds, first_of, listed, MakesAnswered}
 use Rattle.book_core.specs.Follow.{FollowsHistory}
+use Rattle.book_core.specs.Withholdings.{told_as}
 use Rattle.book_core.specs.declared.withheld.Withheld.{Withheld}
 use Rattle.book_core.proofs.RulingLemmas.{meant_by, replaced_by, said_by, withheld_by}
 use Rattle.book_core.proofs.NamedLemmas.{its_name}
@@ -222,15 +224,15 @@ ruling_answered naming view (CreditAsked number centre amount reason) result =
     (credited_open book number centre amount reason done) done)
 
 -- so do works that are withheld one after another,
-withholds_answered : (naming : Naming) (names : List (List ℕ)) (answers : List Ruled)
+withholds_answered : (naming : Naming) (names : List (List ℕ)) (answers : List (Option Ruled))
     → MakesAnswered naming (Withholds naming names answers)
 withholds_answered naming names [] = none_answered naming
 withholds_answered naming [] (answer ∷ later) = λ book was events is never. absurd never
 withholds_answered naming (name ∷ rest) (answer ∷ later) =
     then_answered naming
-    (Calls (λ (ruled : Ruled). ruled) (withhold_outcome naming name) (Ok answer))
+    (Calls (λ (ruled : Ruled). ruled) (withhold_outcome naming name) (told_as answer))
     (Withholds naming rest later)
-    (ruling_answered naming (λ (ruled : Ruled). ruled) (WithholdingAsked name) (Ok answer))
+    (ruling_answered naming (λ (ruled : Ruled). ruled) (WithholdingAsked name) (told_as answer))
     (withholds_answered naming rest later)
 
 -- also several together
@@ -240,5 +242,6 @@ works_answered naming names (Ok told) = λ book was events is takes.
     withholds_answered naming names takes.answers book was events is takes.made
 works_answered naming names (Err Store) = λ book was events is keeps.
     withholds_answered naming names keeps.answers book false events false keeps.kept
+works_answered naming names (Err NoSuchRecord) = λ book was events is never. absurd never
 works_answered naming names (Err fault) =
     ruling_answered naming (λ (ruled : Ruled). ruled) (WithholdingAsked (first_of names)) (Err fault)

@@ -2,18 +2,21 @@
 use Rattle.std.proofs.Common.{◌≡◌, ◌∙◌, ◌<◌, ◌+◌, ℕ, Bool, true, false, List, [], ◌∷◌, ◌++◌, length}
 use Rattle.std.proofs.Common.{refl, sym, ap, subst, Result, Ok, Err, ◌⊎◌, inl, inr, arith, drop, get_or}
 use Rattle.std.proofs.Common.{length-append, sum_by, take, ◌||◌, true≢false, take-append-drop}
+use Rattle.std.proofs.Common.{Option, Some}
 use Rattle.book_model.proofs.Std.{sum_by_push}
 use Rattle.book_model.specs.declared.answer.Ruled.{Ruled}
 use Rattle.book_model.specs.declared.fault.LedgerFault.{LedgerFault}
-use Rattle.book_model.specs.declared.fault.LedgerFault.TheVariants.{Memory, Reopen, Store}
+use Rattle.book_model.specs.declared.fault.LedgerFault.TheVariants.{Memory, NoSuchRecord, Reopen}
+use Rattle.book_model.specs.declared.fault.LedgerFault.TheVariants.{Store}
 use Rattle.book_model.specs.Words.{Book, Event, Naming, RulingGiven, WorkWithheld, after_all, if_done}
 use Rattle.book_model.specs.Words.{record_named, withhold_answer, withhold_outcome}
 use Rattle.book_core.specs.Calls.{Calls, IsCall, listed}
 use Rattle.book_core.specs.Ledgers.{Seen}
 use Rattle.book_core.specs.Submissions.{first_of}
 use Rattle.book_core.specs.Transition.{IsTransition}
-use Rattle.book_core.specs.Withholdings.{KeepsWithheld, TakesSome, TakesWorks, Withholds, done_in}
-use Rattle.book_core.specs.Withholdings.{with_answer, withheld_of}
+use Rattle.book_core.specs.Withholdings.{KeepsWithheld, TakesSome, TakesWorks, Withholds}
+use Rattle.book_core.specs.Withholdings.{absent_in, done_in, is_not_held, told_as, with_answer}
+use Rattle.book_core.specs.Withholdings.{withheld_of}
 use Rattle.book_core.specs.declared.withheld.Withheld.{Withheld}
 use Rattle.book_core.proofs.RulingLemmas.{withheld_by}
 use Rattle.book_core.proofs.ThenLemmas.{nothing_more}
@@ -27,16 +30,17 @@ said ruled = ruled
 -- ---- counts
 
 -- one more answer is counted
-pub more_withheld : (answers : List Ruled) (ruled : Ruled)
-    → with_answer (withheld_of answers) ruled ≡ withheld_of (answers ++ ruled ∷ [])
-more_withheld answers ruled =
+pub more_withheld : (answers : List (Option Ruled)) (answer : Option Ruled)
+    → with_answer (withheld_of answers) answer ≡ withheld_of (answers ++ answer ∷ [])
+more_withheld answers answer =
     λ i. record {
-      taken = sym (length-append answers (ruled ∷ [])) i;
-      done = sym (sum_by_push done_in answers ruled) i;
+      taken = sym (length-append answers (answer ∷ [])) i;
+      done = sym (sum_by_push done_in answers answer) i;
+      absent = sym (sum_by_push absent_in answers answer) i;
     }
 
 -- where none is counted there is no answer
-pub none_withheld : (told : Withheld) (answers : List Ruled) → told ≡ withheld_of answers
+pub none_withheld : (told : Withheld) (answers : List (Option Ruled)) → told ≡ withheld_of answers
     → told.taken ≡ 0 → answers ≡ []
 none_withheld told [] counts none = refl
 none_withheld told (answer ∷ answers) counts none =
@@ -50,13 +54,20 @@ pub first_name : (names : List (List ℕ)) (found : List ℕ) → 0 < length nam
 first_name [] found some is = absurd (omega arith)
 first_name (name ∷ rest) found some is = sym is
 
--- one work was withheld
-pub withholds_one : (naming : Naming) (names : List (List ℕ)) (answer : Ruled) → 0 < length names
-    → Implies (Calls said (withhold_outcome naming (first_of names)) (Ok answer))
+-- the fault of a record that is not held is one
+pub absent_fault : (fault : LedgerFault) → is_not_held fault ≡ true → fault ≡ NoSuchRecord
+absent_fault NoSuchRecord is = refl
+absent_fault fault is = absurd (true≢false (sym is))
+
+-- the first name was answered
+pub withholds_one : (naming : Naming) (names : List (List ℕ)) (answer : Option Ruled)
+    → 0 < length names
+    → Implies (Calls said (withhold_outcome naming (first_of names)) (told_as answer))
     (Withholds naming names (answer ∷ []))
 withholds_one naming [] answer some was before events is called = absurd (omega arith)
 withholds_one naming (name ∷ rest) answer some was before events is called =
-    nothing_more (Calls said (withhold_outcome naming name) (Ok answer)) was before events is called
+    nothing_more (Calls said (withhold_outcome naming name) (told_as answer)) was before events is
+    called
 
 -- the event of a work that is refused is none
 refused_event : (naming : Naming) (name : List ℕ) (before : Book) (fault : LedgerFault)
@@ -74,8 +85,8 @@ first_kept : (naming : Naming) (names : List (List ℕ)) (before : Book) (events
 first_kept naming names before events (Ok answer) some is made = record {
   was_open = refl;
   closed = refl;
-  answers = answer ∷ [];
-  kept = withholds_one naming names answer some false before events false (record {
+  answers = Some answer ∷ [];
+  kept = withholds_one naming names (Some answer) some false before events false (record {
     makes = (is, made);
     reopens = record { reopen = refl; store = refl };
   });
@@ -106,11 +117,12 @@ store_keeps naming names was before events is some opened closed (inr made) =
     some refl made in
     record { was_open = opened; closed = closed; answers = keeps.answers; kept = keeps.kept }
 
--- the first work was refused in a call of its own
+-- the first work was refused in a call of its own, and its record is held
 pub refused_work : (naming : Naming) (names : List (List ℕ)) (fault : LedgerFault) → 0 < length names
+    → is_not_held fault ≡ false
     → Implies (Calls said (withhold_outcome naming (first_of names)) (Err fault))
     (TakesWorks naming names (Err fault))
-refused_work naming names Store some was before events is called =
+refused_work naming names Store some held was before events is called =
     elim (fails said (withhold_outcome naming (first_of names)) Store was before events is called) [
       | wanting memory none same ↦ absurd (cc)
       | failed store opened closed either ↦
@@ -119,33 +131,39 @@ refused_work naming names Store some was before events is called =
       | refused answer opened closed none ↦
           absurd (true≢false (sym (called.reopens.store ∙ ap (λ b. b || true) opened) ∙ closed))
     ]
-refused_work naming names fault some was before events is called = called
+refused_work naming names NoSuchRecord some held was before events is called =
+    absurd (true≢false held)
+refused_work naming names fault some held was before events is called = called
 
 -- ---- a change that takes one work, by a call of its own
 
 pub one_refused : {old new : Seen} {names : List (List ℕ)} {name : List ℕ} {fault : LedgerFault}
     (told : Result Withheld LedgerFault) → told ≡ Err fault → 0 < length names
-    → first_of names ≡ name → IsCall said old new (Err fault) (withhold_outcome old.naming name)
+    → is_not_held fault ≡ false → first_of names ≡ name
+    → IsCall said old new (Err fault) (withhold_outcome old.naming name)
     → IsTransition old new (TakesWorks old.naming names told)
-one_refused {old} {new} {names} {name} {fault} told is some first called =
+one_refused {old} {new} {names} {name} {fault} told is some held first called =
     subst (λ told. IsTransition old new (TakesWorks old.naming names told)) (sym is)
     (work_as old new (Calls said (withhold_outcome old.naming name) (Err fault))
     (TakesWorks old.naming names (Err fault))
-    (λ was before events leaves call. refused_work old.naming names fault some was before events leaves
+    (λ was before events leaves call. refused_work old.naming names fault some held was before events
+    leaves
     (subst (λ name. Calls said (withhold_outcome old.naming name) (Err fault) was before events leaves)
     (sym first) call)) called.work)
 
-pub one_withheld : {old new : Seen} {names : List (List ℕ)} {name : List ℕ} {ruled : Ruled}
-    {told : Withheld} → told ≡ withheld_of (ruled ∷ []) → 0 < length names → first_of names ≡ name
-    → IsCall said old new (Ok ruled) (withhold_outcome old.naming name)
+pub one_withheld : {old new : Seen} {names : List (List ℕ)} {name : List ℕ} {told : Withheld}
+    (answer : Option Ruled) → told ≡ withheld_of (answer ∷ []) → 0 < length names
+    → first_of names ≡ name
+    → IsCall said old new (told_as answer) (withhold_outcome old.naming name)
     → IsTransition old new (TakesWorks old.naming names (Ok told))
-one_withheld {old} {new} {names} {name} {ruled} {told} counts some first called =
-    work_as old new (Calls said (withhold_outcome old.naming name) (Ok ruled))
+one_withheld {old} {new} {names} {name} {told} answer counts some first called =
+    work_as old new (Calls said (withhold_outcome old.naming name) (told_as answer))
     (TakesSome old.naming names told)
     (λ was before events leaves call. record {
-      answers = ruled ∷ [];
-      made = withholds_one old.naming names ruled some was before events leaves
-          (subst (λ name. Calls said (withhold_outcome old.naming name) (Ok ruled) was before events leaves)
+      answers = answer ∷ [];
+      made = withholds_one old.naming names answer some was before events leaves
+          (subst (λ name. Calls said (withhold_outcome old.naming name) (told_as answer) was before events
+          leaves)
           (sym first) call);
       counts = counts;
     }) called.work
@@ -153,7 +171,7 @@ one_withheld {old} {new} {names} {name} {ruled} {told} counts some first called 
 -- ---- a change that is handed the first of some names
 
 -- what was withheld of the first names was withheld of all
-withholds_further : (naming : Naming) (early later : List (List ℕ)) (answers : List Ruled)
+withholds_further : (naming : Naming) (early later : List (List ℕ)) (answers : List (Option Ruled))
     → Implies (Withholds naming early answers) (Withholds naming (early ++ later) answers)
 withholds_further naming early later [] was before events is withholds = withholds
 withholds_further naming [] later (answer ∷ rest) was before events is withholds = absurd withholds
@@ -187,6 +205,7 @@ takes_further naming early later (Err Store) some was before events is takes = r
   answers = takes.answers;
   kept = withholds_further naming early later takes.answers false before events false takes.kept;
 }
+takes_further naming early later (Err NoSuchRecord) some was before events is takes = absurd takes
 takes_further naming early later (Err fault) some was before events is takes =
     subst (λ name. Calls said (withhold_outcome naming name) (Err fault) was before events is)
     (first_further early later some) takes

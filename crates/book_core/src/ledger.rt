@@ -1,4 +1,4 @@
-ghost use Rattle.std.specs.Prelude.{◌<◌, ◌≤◌, All, IfOk, length, map, option_map};
+ghost use Rattle.std.specs.Prelude.{◌<◌, ◌≤◌, ◌+◌, All, IfOk, length, map, option_map};
 ghost use Rattle.book_model.specs.Words.{IsDay, IsUsageRecord, AreRows, AreLines, AreDisputes};
 ghost use Rattle.book_model.specs.Words.{dispute_shown, accept_outcome, close_outcome};
 ghost use Rattle.book_model.specs.Words.{tariff_outcome, adjustments_outcome, charges_outcome};
@@ -17,7 +17,7 @@ ghost use Rattle.book_core.specs.Submissions.{Takes, records_in};
 ghost use Rattle.book_core.specs.Transition.{IsTransition};
 ghost use Rattle.book_core.specs.Withholdings.{TakesWorks};
 
-use crate::withheld::{Withheld, with_answer};
+use crate::withheld::{Withheld, with_answer, work_answer};
 use book_model::{
     Accepted, ChargeRow, Credit, Detail, Dispute, LedgerFault, Line, ListedRuling, Ruled, Ruling,
     Trail,
@@ -107,18 +107,25 @@ pub trait Ledger {
 
     /// Withholds the works of the records of these names in order, as one change of the books: the
     /// first, and as many after it as one change takes, up to the next that is refused. Answers how
-    /// many it took, each as `withhold` would; or why the first is refused, as `withhold` says it.
-    /// After `Store` the next open finds the works of some first of them withheld, or of none.
+    /// many it took, each as `withhold` would, and those that are not held among them; or why the
+    /// first is refused, as `withhold` says it. After `Store` the next open finds the works of some
+    /// first of them withheld, or of none.
     fn withhold_many(&mut self, names: &[[u8; 32]]) -> Result<Withheld, LedgerFault>
         requires { 0 < length names.now }
         ensures takes { IsTransition (seen self.old) (seen self.new)
             (TakesWorks (seen self.old).naming names.now result) }
         ensures some { IfOk result (λ told. 0 < told.taken) }
         ensures few { IfOk result (λ told. told.taken ≤ length names.now) }
-        ensures done { IfOk result (λ told. told.done ≤ told.taken) }
+        ensures done { IfOk result (λ told. told.done + told.absent ≤ told.taken) }
     {
-        let ruled = self.withhold(names[0])?;
-        Ok(with_answer(Withheld { taken: 0, done: 0 }, ruled))
+        let told = self.withhold(names[0]);
+        let answer = work_answer(told)?;
+        let none = Withheld {
+            taken: 0,
+            done: 0,
+            absent: 0,
+        };
+        Ok(with_answer(none, answer))
     }
 
     /// Credits a centre with an amount, in ten-thousandths of the money unit, for a reason: the

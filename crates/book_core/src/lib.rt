@@ -44,4 +44,4 @@ pub use rulings::{Rulings, is_done};
 pub use smf_text::Name;
 pub use streams::{Sink, Source};
 pub use tariff_rules::Tariff;
-pub use withheld::{Withheld, with_answer};
+pub use withheld::{Withheld, with_answer, work_answer};
