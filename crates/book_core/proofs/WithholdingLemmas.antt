@@ -49,10 +49,10 @@ none_withheld told (answer ∷ answers) counts none =
 -- ---- the first of them
 
 -- the first name
-pub first_name : (names : List (List ℕ)) (found : List ℕ) → 0 < length names
-    → found ≡ get_or names 0 found → first_of names ≡ found
-first_name [] found some is = absurd (omega arith)
-first_name (name ∷ rest) found some is = sym is
+pub first_name : (names : List (List ℕ)) (d : List ℕ) → 0 < length names
+    → first_of names ≡ get_or names 0 d
+first_name [] d some = absurd (omega arith)
+first_name (name ∷ rest) d some = refl
 
 -- the fault of a record that is not held is one
 pub absent_fault : (fault : LedgerFault) → is_not_held fault ≡ true → fault ≡ NoSuchRecord
