@@ -1,12 +1,13 @@
 -- Works that are withheld one after another, in one commit.
 use Rattle.std.proofs.Common.{◌≡◌, ◌∙◌, ◌<◌, ◌+◌, ℕ, List, [], ◌∷◌, ◌++◌, Result, Ok, Err, refl}
 use Rattle.std.proofs.Common.{sym, ap, subst, false, true, drop, get_or, length, append-nil}
-use Rattle.std.proofs.Common.{append_assoc, add-one, drop-cons, IsErr, IfOk, Bool, ◌≤◌, arith, inl, inr}
+use Rattle.std.proofs.Common.{append_assoc, add-one, drop-cons, IsErr, IfOk, Bool, ◌≤◌, arith}
+use Rattle.std.proofs.Common.{inl, inr, Option, Some, None}
 use Rattle.book_model.specs.Words.{Book, Event, after_all, Naming, withhold_outcome}
 use Rattle.book_core.specs.declared.withheld.Withheld.{Withheld}
-use Rattle.book_core.specs.Withholdings.{with_answer, withheld_of}
-use Rattle.book_core.specs.Words.{Calls, IsTransition, LeavesOpen, Makes, NoEvent, TakesWorks, Withholds}
-use Rattle.book_core.specs.Words.{first_of}
+use Rattle.book_core.specs.Withholdings.{is_not_held, told_as, with_answer, withheld_of}
+use Rattle.book_core.specs.Words.{Calls, IsTransition, LeavesOpen, Makes, NoEvent, Reopens}
+use Rattle.book_core.specs.Words.{TakesWorks, Withholds, first_of}
 use Rattle.book_core.proofs.TransitionLemmas.{after_all-append}
 use Rattle.book_core.proofs.WithholdingLemmas.{more_withheld, none_withheld, refused_work}
 use Rattle.tree_rows.proofs.Calls.{only_looks}
@@ -41,10 +42,10 @@ IsAnswered naming name answer is old new book =
 -- the works so far were taken: whatever is taken of the rest, all of it is
 pub record AreWithheld (naming : Naming) (names rest : List (List ℕ)) (is : Summary) (old new : View)
     (book : Book) (counts : Withheld) : Type 0 where
-  pub answers : List Ruled
+  pub answers : List (Option Ruled)
   pub counted : counts ≡ withheld_of answers
   pub events : List Event
-  pub leads : (later : List Ruled) (late : List Event)
+  pub leads : (later : List (Option Ruled)) (late : List Event)
       → Withholds naming rest later false (after_all events book) late false
       → Withholds naming names (answers ++ later) false book (late ++ events) false
   pub only : OnlyWrites old new
@@ -64,38 +65,41 @@ none_taken naming names {view = view} {book = book} at counted = record {
   at = at;
 }
 
+-- an answer to a work leaves open books open
+stays_open : (answer : Option Ruled) → Reopens (told_as answer) false false
+stays_open (Some ruled) = record { reopen = refl; store = refl }
+stays_open None = record { reopen = refl; store = refl }
+
 -- one more work was answered and written
 more_taken : {naming : Naming} {names rest : List (List ℕ)} {name : List ℕ} {was is : Summary}
-    {old middle new : View} {book : Book} {counts : Withheld} {answer : Ruled}
+    {old middle new : View} {book : Book} {counts : Withheld} (answer : Option Ruled)
     (taken : AreWithheld naming names (name ∷ rest) was old middle book counts)
-    → IsAnswered naming name (Ok answer) is middle new (after_all taken.events book)
+    → IsAnswered naming name (told_as answer) is middle new (after_all taken.events book)
     → AreWithheld naming names rest is old new book (with_answer counts answer)
-more_taken {naming} {names} {rest} {name} {was} {is} {old} {middle} {new} {book} {counts} {answer} taken staged = record {
-  answers = taken.answers ++ answer ∷ [];
-  counted = ap (λ (told : Withheld). with_answer told answer) taken.counted
-      ∙ more_withheld taken.answers answer;
-  events = staged.events ++ taken.events;
-  leads = λ later late made.
-      subst (λ all. Withholds naming names all false book (late ++ (staged.events ++ taken.events)) false)
-      (sym (append_assoc taken.answers (answer ∷ []) later))
-      (subst (λ events. Withholds naming names (taken.answers ++ answer ∷ later) false book events false)
-      (append_assoc late staged.events taken.events)
-      (taken.leads (answer ∷ later) (late ++ staged.events) (record {
-        between = false;
-        early = staged.events;
-        late = late;
-        first = record {
-          makes = staged.made;
-          reopens = record { reopen = refl; store = refl };
-        };
-        next = subst (λ book. Withholds naming rest later false book late false)
-            (after_all-append staged.events taken.events book) made;
-        all = refl;
-      })));
-  only = only_both old taken.only staged.only;
-  at = subst (IsAt naming is new) (sym (after_all-append staged.events taken.events book))
-      (record { kept = staged.kept; remembers = staged.remembers is refl });
-}
+more_taken {naming} {names} {rest} {name} {was} {is} {old} {middle} {new} {book} {counts} answer taken
+    staged = record {
+      answers = taken.answers ++ answer ∷ [];
+      counted = ap (λ (told : Withheld). with_answer told answer) taken.counted
+          ∙ more_withheld taken.answers answer;
+      events = staged.events ++ taken.events;
+      leads = λ later late made.
+          subst (λ all. Withholds naming names all false book (late ++ (staged.events ++ taken.events)) false)
+          (sym (append_assoc taken.answers (answer ∷ []) later))
+          (subst (λ events. Withholds naming names (taken.answers ++ answer ∷ later) false book events false)
+          (append_assoc late staged.events taken.events)
+          (taken.leads (answer ∷ later) (late ++ staged.events) (record {
+            between = false;
+            early = staged.events;
+            late = late;
+            first = record { makes = staged.made; reopens = stays_open answer };
+            next = subst (λ book. Withholds naming rest later false book late false)
+                (after_all-append staged.events taken.events book) made;
+            all = refl;
+          })));
+      only = only_both old taken.only staged.only;
+      at = subst (IsAt naming is new) (sym (after_all-append staged.events taken.events book))
+          (record { kept = staged.kept; remembers = staged.remembers is refl });
+    }
 
 -- the first of the works are staged: so many were answered, and if none was, this is why
 abbrev AreStaged : Naming → List (List ℕ) → Summary → View → View → Book → Withheld
@@ -131,11 +135,12 @@ all_withheld {naming = naming} {names = names} {book = book} {counts = counts} t
 refused_next : {naming : Naming} {names rest : List (List ℕ)} {name : List ℕ} {was is : Summary}
     {old middle new : View} {book : Book} {counts : Withheld} (fault : LedgerFault)
     (taken : AreWithheld naming names (name ∷ rest) was old middle book counts)
-    → LeavesOpen {V = Ruled} (Err fault)
+    → LeavesOpen {V = Ruled} (Err fault) → is_not_held fault ≡ false
     → IsAnswered naming name (Err fault) is middle new (after_all taken.events book)
     → (counts.taken ≡ 0 → names ≡ name ∷ rest)
     → AreStaged naming names is old new book counts (Err fault)
-refused_next {naming} {names} {rest} {name} {was} {is} {old} {middle} {new} {book} {counts} fault taken plain staged all =
+refused_next {naming} {names} {rest} {name} {was} {is} {old} {middle} {new} {book} {counts} fault taken
+    plain held staged all =
     let outcome = withhold_outcome naming name (after_all taken.events book) in
     let none : staged.events ≡ [] = refused_none said outcome fault staged.events plain staged.made in
     let still : AreWithheld naming names (name ∷ rest) is old new book counts = record {
@@ -151,57 +156,60 @@ refused_next {naming} {names} {rest} {name} {was} {is} {old} {middle} {new} {boo
     let nothing : NoEvent false book taken.events false =
     subst (λ answers. Withholds naming names answers false book taken.events false)
     (none_withheld counts taken.answers taken.counted empty) made in
-    subst (λ names. Calls said (withhold_outcome naming (first_of names)) (Err fault) false book [] false)
-    (sym (all empty)) (record {
-      makes = subst (λ events. Makes said (withhold_outcome naming name (after_all events book)) (Err fault) [])
-          nothing.none
-          (subst (λ events. Makes said outcome (Err fault) events) none staged.made);
-      reopens = record { reopen = plain.served; store = sym plain.stored };
-    }))
+    record {
+      held = held;
+      refused = subst (λ names. Calls said (withhold_outcome naming (first_of names)) (Err fault) false
+          book [] false)
+          (sym (all empty)) (record {
+            makes = subst
+                (λ events. Makes said (withhold_outcome naming name (after_all events book)) (Err fault)
+                [])
+                nothing.none
+                (subst (λ events. Makes said outcome (Err fault) events) none staged.made);
+            reopens = record { reopen = plain.served; store = sym plain.stored };
+          });
+    })
 
 -- the next name, and those after it
-name_is : (names : List (List ℕ)) (i : ℕ) (found name : List ℕ) → i < length names
-    → found ≡ get_or names i found → name ≡ found
-    → drop i names ≡ name ∷ drop (i + 1) names
-name_is names i found name within is same =
-    drop-cons names i found within
-    ∙ (λ j. sym is j ∷ drop (sym (add-one i) j) names)
-    ∙ ap (λ one. one ∷ drop (i + 1) names) (sym same)
+name_is : (names : List (List ℕ)) (i : ℕ) (d : List ℕ) → i < length names
+    → drop i names ≡ get_or names i d ∷ drop (i + 1) names
+name_is names i d within =
+    drop-cons names i d within
+    ∙ ap (λ later. get_or names i d ∷ drop later names) (sym (add-one i))
 
 module _ {naming : Naming} (names : List (List ℕ)) {was is : Summary} {old middle : State}
-    {counts : Withheld} (i : ℕ) (found : List ℕ) {name : List ℕ} (within : i < length names)
-    (here : found ≡ get_or names i found) (same : name ≡ found)
+    {counts : Withheld} (i : ℕ) (d : List ℕ) (within : i < length names)
     (early : Survives old middle (λ trees. ⊥))
     (taken : HasCleanDisk middle → (book : Book) → IsAt naming was old.view book
     → AreWithheld naming names (drop i names) is old.view middle.view book counts) (new : State)
   where
     -- what was taken before the work
     before_it : HasCleanDisk middle → (book : Book) → IsAt naming was old.view book
-        → AreWithheld naming names (name ∷ drop (i + 1) names) is old.view middle.view book counts
+        → AreWithheld naming names (get_or names i d ∷ drop (i + 1) names) is old.view middle.view book counts
     before_it clean book at =
         subst (λ rest. AreWithheld naming names rest is old.view middle.view book counts)
-        (name_is names i found name within here same) (taken clean book at)
+        (name_is names i d within) (taken clean book at)
 
     -- the work was answered, and its choice written where it is withheld
-    pub work_taken : {next : Summary} {given : Result Ruled LedgerFault} {answer : Ruled}
-        → given ≡ Ok answer
-        → StagesAs (λ tables. tables) said naming is next middle new (withhold_outcome naming name) (Ok given)
+    pub work_taken : {next : Summary} {given : Result Ruled LedgerFault} (answer : Option Ruled)
+        → given ≡ told_as answer
+        → StagesAs (λ tables. tables) said naming is next middle new (withhold_outcome naming (get_or names i d)) (Ok given)
         → HasCleanDisk new → (book : Book) → IsAt naming was old.view book
         → AreWithheld naming names (drop (i + 1) names) next old.view new.view book
         (with_answer counts answer)
-    work_taken {next = next} given_is stages clean book at =
+    work_taken {next = next} answer given_is stages clean book at =
         let before = before_it (clean_before stages.survives clean) book at in
-        more_taken before
-        (subst (λ given. IsAnswered naming name given next middle.view new.view
+        more_taken answer before
+        (subst (λ given. IsAnswered naming (get_or names i d) given next middle.view new.view
         (after_all before.events book)) given_is
         (stages.found clean (after_all before.events book) before.at))
 
-    -- the books refused it
+    -- the books refused it, and its record is held
     pub work_refused : {next : Summary} {given : Result Ruled LedgerFault} (fault : LedgerFault)
-        → given ≡ Err fault → counts.taken ≡ i
-        → StagesAs (λ tables. tables) said naming is next middle new (withhold_outcome naming name) (Ok given)
+        → given ≡ Err fault → is_not_held fault ≡ false → counts.taken ≡ i
+        → StagesAs (λ tables. tables) said naming is next middle new (withhold_outcome naming (get_or names i d)) (Ok given)
         → StagesWorks naming names was next old new counts (Ok (Err fault))
-    work_refused {next = next} {given = given} fault given_is count stages =
+    work_refused {next = next} {given = given} fault given_is held count stages =
         let plain : LeavesOpen {V = Ruled} (Err fault) =
         subst (λ (given : Result Ruled LedgerFault). LeavesOpen given) given_is stages.plain in
         record {
@@ -209,18 +217,18 @@ module _ {naming : Naming} (names : List (List ℕ)) {was is : Summary} {old mid
           survives = survives_then early stages.survives;
           found = λ clean book at.
               let before = before_it (clean_before stages.survives clean) book at in
-              refused_next fault before plain
-              (subst (λ given. IsAnswered naming name given next middle.view new.view
+              refused_next fault before plain held
+              (subst (λ given. IsAnswered naming (get_or names i d) given next middle.view new.view
               (after_all before.events book)) given_is
               (stages.found clean (after_all before.events book) before.at))
               (λ empty. ap (λ n. drop n names) (sym empty ∙ count)
-              ∙ name_is names i found name within here same);
+              ∙ name_is names i d within);
         }
 
     -- the store refused it
     pub work_failed : {next : Summary} {error : StoreError} (late : Withheld)
         (tried : Result (Result (Unit {0}) LedgerFault) StoreError) → IsErr tried
-        → StagesAs (λ tables. tables) said naming is next middle new (withhold_outcome naming name) (Err error)
+        → StagesAs (λ tables. tables) said naming is next middle new (withhold_outcome naming (get_or names i d)) (Err error)
         → StagesWorks naming names was next old new late tried
     work_failed late tried failed stages =
         unstaged tried failed (survives_then early stages.survives) (λ clean book at.
@@ -266,7 +274,8 @@ no_work_staged {naming} {names} fault {counts} empty some stages = record {
         events = staged.events;
         made = subst (λ events. TakesWorks naming names (Err fault) false book events false)
             (sym nothing.none)
-            (refused_work naming names fault some false book [] false (staged.made.none empty));
+            (let first = staged.made.none empty in
+            refused_work naming names fault some first.held false book [] false first.refused);
         leaves = staged.leaves;
         only = staged.only;
         kept = staged.kept;

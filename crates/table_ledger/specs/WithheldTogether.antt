@@ -1,11 +1,11 @@
 -- Works that are withheld together: they are staged one after another, and are one commit.
-use Rattle.std.specs.Prelude.{◌≡◌, false, ℕ, List, [], Result, Ok, Err}
+use Rattle.std.specs.Prelude.{◌≡◌, false, ℕ, List, [], Option, Result, Ok, Err}
 use Rattle.sqlite_trees.specs.declared.error.StoreError.{StoreError}
 use Rattle.book_model.specs.declared.answer.Ruled.{Ruled}
 use Rattle.book_model.specs.declared.fault.LedgerFault.{LedgerFault}
 use Rattle.book_model.specs.Words.{Book, Event, Naming, withhold_outcome}
 use Rattle.book_core.specs.declared.withheld.Withheld.{Withheld}
-use Rattle.book_core.specs.Withholdings.{TakesSome}
+use Rattle.book_core.specs.Withholdings.{TakesSome, is_not_held}
 use Rattle.book_core.specs.Words.{Calls, TakesWorks, Withholds, first_of, ruled_in}
 use Rattle.tree_tables.specs.States.{State}
 use Rattle.table_ledger.specs.Stages.{AttemptsBy, StagesBy}
@@ -19,14 +19,18 @@ pub record KeepsButChoices (was is : Summary) : Type 0 where
   pub held : is.held ≡ was.held
   pub total : is.total ≡ was.total
 
--- the first of these names was refused with this fault, if any was
+-- the first of these names was refused with this fault, if any was, and its record is held
+pub record RefusesFirst (naming : Naming) (rest : List (List ℕ)) (book : Book) (fault : LedgerFault)
+    : Type 0 where
+  pub held : is_not_held fault ≡ false
+  pub refused : Calls (λ (ruled : Ruled). ruled) (withhold_outcome naming (first_of rest)) (Err fault)
+      false book [] false
+
 abbrev pub RefusesName : Naming → List (List ℕ) → Book → Result (Unit {0}) LedgerFault → Type 0
 RefusesName naming rest book (Ok done) = Unit {0}
-RefusesName naming rest book (Err fault) =
-    Calls (λ (ruled : Ruled). ruled) (withhold_outcome naming (first_of rest)) (Err fault)
-    false book [] false
+RefusesName naming rest book (Err fault) = RefusesFirst naming rest book fault
 
--- so many of the works were withheld, each in turn; and if none was, this is why
+-- so many of the works were answered, each in turn; and if none was, this is why
 pub record AnswersWorks (naming : Naming) (names : List (List ℕ)) (counts : Withheld)
     (told : Result (Unit {0}) LedgerFault) (book : Book) (events : List Event) : Type 0 where
   pub takes : TakesSome naming names counts false book events false
@@ -35,7 +39,7 @@ pub record AnswersWorks (naming : Naming) (names : List (List ℕ)) (counts : Wi
 -- some first of them, or none, are withheld
 pub record LeavesWorks (naming : Naming) (names : List (List ℕ)) (book : Book) (events : List Event)
     : Type 0 where
-  pub answers : List Ruled
+  pub answers : List (Option Ruled)
   pub made : Withholds naming names answers false book events false
 
 -- what they make of a book, by what is answered

@@ -1,6 +1,6 @@
 //! Works that are withheld together, in one commit.
 
-ghost use Rattle.std.specs.Prelude.{◌≡◌, ◌<◌, ◌≤◌, [], IfOk, Ok, length};
+ghost use Rattle.std.specs.Prelude.{◌≡◌, ◌<◌, ◌≤◌, ◌+◌, [], IfOk, Ok, length};
 ghost use Rattle.book_model.specs.Words.{Naming, withhold_outcome};
 ghost use Rattle.book_core.specs.Withholdings.{withheld_of};
 ghost use Rattle.tree_tables.specs.States.{state_of};
@@ -12,7 +12,7 @@ use crate::commits::commit_written;
 use crate::summary::Summary;
 use crate::withheld::is_withheld;
 use crate::withholding::{NoneChoice, look_for_withdrawn, withheld_answer, write_none};
-use book_core::{LedgerFault, Ruled, Withheld, is_done, with_answer};
+use book_core::{LedgerFault, Ruled, Withheld, is_done, with_answer, work_answer};
 use sqlite_trees::error::StoreError;
 use sqlite_trees::store::Store;
 use std::alloc::Global;
@@ -52,7 +52,7 @@ fn stage_withheld<S: Store>(
 }
 
 /// Answers the choices of none of works inside the transaction, in order, up to the first that is
-/// refused, and says why that one is.
+/// refused though its record is held, and says why that one is.
 fn stage_works<S: Store>(
     tables: &mut TreeTables<S>,
     alloc: Global,
@@ -67,12 +67,13 @@ fn stage_works<S: Store>(
     ensures kept { KeepsButChoices summary.old summary.new }
     ensures all { IfOk result (λ told. told ≡ Ok tt → counts.new.taken ≡ length names.now) }
     ensures few { counts.new.taken ≤ length names.now }
-    ensures done { counts.new.done ≤ counts.new.taken }
+    ensures done { counts.new.done + counts.new.absent ≤ counts.new.taken }
 {
     for name in names {
-        match stage_withheld(tables, alloc, summary, *name)? {
+        let told = stage_withheld(tables, alloc, summary, *name)?;
+        match work_answer(told) {
             Err(fault) => return Ok(Err(fault)),
-            Ok(ruled) => *counts = with_answer(*counts, ruled),
+            Ok(answer) => *counts = with_answer(*counts, answer),
         }
     }
     Ok(Ok(()))
@@ -92,9 +93,14 @@ fn stage_together<S: Store>(
     ensures kept { KeepsButChoices summary.old summary.new }
     ensures some { IfOk result (λ answer. IfOk answer (λ told. 0 < told.taken)) }
     ensures few { IfOk result (λ answer. IfOk answer (λ told. told.taken ≤ length names.now)) }
-    ensures done { IfOk result (λ answer. IfOk answer (λ told. told.done ≤ told.taken)) }
+    ensures done { IfOk result (λ answer. IfOk answer (λ told.
+        told.done + told.absent ≤ told.taken)) }
 {
-    let mut counts = Withheld { taken: 0, done: 0 };
+    let mut counts = Withheld {
+        taken: 0,
+        done: 0,
+        absent: 0,
+    };
     let told = stage_works(tables, alloc, summary, names, &mut counts)?;
     let Err(fault) = told else {
         return Ok(Ok(counts));
@@ -118,7 +124,8 @@ pub(crate) fn try_withhold_many<S: Store>(
         (state_of tables.old) (state_of tables.new) result }
     ensures some { IfOk result (λ answer. IfOk answer (λ told. 0 < told.taken)) }
     ensures few { IfOk result (λ answer. IfOk answer (λ told. told.taken ≤ length names.now)) }
-    ensures done { IfOk result (λ answer. IfOk answer (λ told. told.done ≤ told.taken)) }
+    ensures done { IfOk result (λ answer. IfOk answer (λ told.
+        told.done + told.absent ≤ told.taken)) }
 {
     let choices = summary.choices;
     let staged = stage_together(tables, alloc, summary, names);

@@ -1,4 +1,4 @@
-use Rattle.std.proofs.Common.{◌≡◌, ◌≤◌, drop}
+use Rattle.std.proofs.Common.{◌≡◌, ◌≤◌, ◌+◌, drop}
 use Rattle.book_model.specs.Words.{Book, Naming}
 use Rattle.table_ledger.proofs.Words.{HasCleanDisk, IsAt, Survives, Trees, state}
 use Rattle.table_ledger.specs.WithheldTogether.{KeepsButChoices}
@@ -12,7 +12,7 @@ invariant-loop-name g l = record {
   survives : Survives (state g.S.Store l.initial.tables.store) (state g.S.Store l.tables.store)
       (λ (trees : Trees). ⊥);
   count : l.counts.taken ≡ l.name-index;
-  within : l.counts.done ≤ l.counts.taken;
+  within : l.counts.done + l.counts.absent ≤ l.counts.taken;
   taken : (naming : Naming) → HasCleanDisk (state g.S.Store l.tables.store) → (book : Book)
       → IsAt naming l.initial.summary (g.S.Store.view l.initial.tables.store) book
       → AreWithheld naming l.names (drop l.name-index l.names) l.summary
