@@ -109,12 +109,15 @@ pub fn dump_names<R: Reader + Drop, N: Naming>(
                 stop: reading_end(source, &joiner),
             });
         };
-        let found = name_piece(alloc, naming, &mut joiner, &mut names, &piece[..count])?;
-        if let Some(fault) = found {
-            return Ok(DumpNames {
-                names,
-                stop: Stop::Frame(fault),
-            });
+        match name_piece(alloc, naming, &mut joiner, &mut names, &piece[..count]) {
+            Ok(None) => {}
+            Ok(Some(fault)) => {
+                return Ok(DumpNames {
+                    names,
+                    stop: Stop::Frame(fault),
+                });
+            }
+            Err(none) => return Err(none),
         }
     }
     Ok(DumpNames {

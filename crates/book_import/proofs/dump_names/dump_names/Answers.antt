@@ -56,16 +56,16 @@ returns-clause-named g c =
     }
 
 -- a descriptor has a fault
-pub returns-in-Some-found-clause-named : goal.returns-in-Some-found-clause-named
-returns-in-Some-found-clause-named g c =
+pub returns-in-Ok-Some-clause-named : goal.returns-in-Ok-Some-clause-named
+returns-in-Ok-Some-clause-named g c =
     let joins = c.loop.invariant.joins in
     let part = take c.in-Some.count c.read_piece.new.piece in
     let came = c.in-Some.ensures in
-    let fault = c.in-Some-found.fault in
-    let named = c.in_ok-found.ensures.named in
+    let fault = c.in-Ok-Some.fault in
+    let named = c.in-Ok-Some.ensures.named in
     let breaks = subst (λ found. IfSome found (λ fault. (text later : List ℕ)
     → HasTaken text c.loop.joiner → Breaks c.loop.joiner.layout (text ++ part) later fault))
-    c.in-Some-found.is c.in_ok-found.ensures.broken in
+    c.in-Ok-Some.field-0-is c.in-Ok-Some.ensures.broken in
     record {
       bytes = joins.0 ++ part;
       taken = Consumes-trans _ _ _ joins.0 part joins.1 came.taken;
@@ -86,6 +86,7 @@ loop-preserved g c =
       joins = (
         joins.0 ++ part,
         Consumes-trans _ _ _ joins.0 part joins.1 came.taken,
-        names_more joins.2 c.in_ok-found.ensures.named (c.in_ok-found.ensures.taken c.in_default-found.is),
+        names_more joins.2 c.in-Ok-None.ensures.named
+            (c.in-Ok-None.ensures.taken c.in-Ok-None.field-0-is),
       );
     }
