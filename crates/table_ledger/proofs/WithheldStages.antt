@@ -152,7 +152,7 @@ refused_next {naming} {names} {rest} {name} {was} {is} {old} {middle} {new} {boo
       at = subst (λ events. IsAt naming is new (after_all events (after_all taken.events book))) none
           (record { kept = staged.kept; remembers = staged.remembers is refl });
     } in
-    all_withheld still (λ made empty.
+    all_withheld {told = Err fault} still (λ made empty.
     let nothing : NoEvent false book taken.events false =
     subst (λ answers. Withholds naming names answers false book taken.events false)
     (none_withheld counts taken.answers taken.counted empty) made in
