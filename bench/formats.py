@@ -411,8 +411,10 @@ DISPUTE_TABLE = (
     % (VALUE, VALUE, CLOCK, CLOCK, DAY, AMOUNT, COMPLETION, VALUE, VALUE))
 PERIODS = r"PERIODS [0-9]+\n(?:[0-9]+ CLOSED THROUGH %s\n)*[0-9]+ OPEN\n" % DAY
 RULINGS = (r"RULINGS\n(?:TARIFF %s [0-9a-f]{64} [0-9]+\n)*(?:CLOSE [0-9]+ %s\n)*"
-           r"(?:CHOICE [0-9]+ PERIOD [0-9]+ [0-9a-f]{64}\n)*(?:ADOPTED PERIOD [0-9]+\n)?"
-           % (DAY, DAY))
+           r"(?:(?:CHOICE|NONE) [0-9]+ PERIOD [0-9]+ [0-9a-f]{64}\n)*(?:ADOPTED PERIOD [0-9]+\n)?"
+           r"(?:REPLACED %s PERIOD [0-9]+ [0-9a-f]{64} [0-9]+\n)*"
+           r"(?:CREDIT [0-9]+ PERIOD [0-9]+ %s -?%s [ -~]{1,200}\n)*"
+           % (DAY, DAY, DAY, NAME, AMOUNT))
 
 
 # Of the whole office alone: cost and usage, and coverage.
@@ -470,7 +472,10 @@ SOUND = "SOUND\n" + "".join(
     word + " [0-9]+\n" for word in "FORM RECORDS TARIFFS CLOSES CHOICES ROWS LINES".split())
 UNSOUND = r"UNSOUND [ -~]+: [ -~]+\n"
 RECEIPT = " ".join(word + " [0-9]+" for word in COUNTED)
-RECEIPT += r" STOP (END|FRAME [1-8]|READ|READLIMIT|LEDGER [0-9]+)\n"
+STOPPED = r" STOP (END|FRAME [1-8]|READ|READLIMIT|LEDGER [0-9]+)\n"
+RECEIPT += STOPPED
+# The same of the works of a dump.
+WITHHELD = "WITHHELD [0-9]+ ALREADY [0-9]+ NOT HELD [0-9]+" + STOPPED
 CLASSES = "HEADER|TRAILER|LOST|OTHER|CONTINUED|USAGE(?: [0-9a-f]{64})?|DAMAGED [1-9]"
 CHECKED = (r"(?:[0-9]+ TYPE (?:[0-9]+|-) (?:%s)\n)*" % CLASSES
            + r"RECORDS [0-9]+ STOP (?:END|FRAME [1-8])\n")
@@ -498,8 +503,9 @@ def report_form(name, period=0, centre=None):
 BOOKED = r"-?[0-9]+(?:\.[0-9]{1,4})?"
 BILL_HEAD = (OF_PERIOD[0] + r"(?:DRAFT|NUMBER) [0-9]+%%s\n(?:FROM %s\n)?" % DAY
              + r"(?:OFFICE [ -~]{1,40}\n)?(?:CURRENCY [ -~]{1,40}\n)?")
-SUMS_COLUMNS = "%-16s %13s %13s %13s %13s %13s\n" % ("CENTRE", "CHARGED", "LATE", "REVERSED", "OWED", "BOOKED")
-BILLED = r"(?=.{86,}\n)%%s(?: +%s){3} +-?%s +%s\n" % (AMOUNT, AMOUNT, BOOKED)
+SUMS_COLUMNS = "%-16s %13s %13s %13s(?: %13s)? %13s %13s\n" % (
+    "CENTRE", "CHARGED", "LATE", "REVERSED", "CREDITS", "OWED", "BOOKED")
+BILLED = r"(?=.{86,}\n)%%s(?: +%s){3}(?: +-?%s){1,2} +%s\n" % (AMOUNT, AMOUNT, BOOKED)
 HELD_BACK = r"(?:DISPUTES [0-9]+ LEAST %s GREATEST %s\n)?" % (AMOUNT, AMOUNT)
 WHOLE_LINE = r"(?=.{100}\n)"
 BILL_TERMS = (
@@ -517,17 +523,20 @@ BILL_RECORDS = "".join(
     r"(?:%s\n%sDAY        SHIFT            JOB      PROGRAM  JOBID     STEP PERIOD +AMOUNT\n" % (word, WHOLE_LINE)
     + r"(?:%s %s +%s [ 0-9-]+ +[0-9]+ +%s\n  [0-9a-f]{64}\n)+%sTOTAL +%s\n)?" % (DAY, NAME, SHOWN, AMOUNT, WHOLE_LINE, AMOUNT)
     for word in ("LATE", "REVERSED"))
-OFFICE_BILL_COLUMNS = "period,centre,steps,jobs,late,reversed,owed,booked"
+BILL_CREDITS = (r"(?:CREDITS\n%sREASON +AMOUNT\n(?:(?=.{100,}\n)[ -~]{1,278} -?%s\n)+%sTOTAL +-?%s\n)?"
+                % (WHOLE_LINE, AMOUNT, WHOLE_LINE, AMOUNT))
+REASON = r"(?:(?:(?![,\"])[ -~]){1,200}|\"(?:(?!\")[ -~]|\"\"){1,200}\")"
+OFFICE_BILL_COLUMNS = "period,centre,steps,jobs,late,reversed,owed,booked,credits"
 BILL_COLUMNS = ("period,day,centre,shift,kind,count,cpu,blocks,amount,of_period,name,job,program,jobid,step,"
                 "percent")
 BILLS = {
     "bill": "BILL " + BILL_HEAD % "" + SUMS_COLUMNS + "(?:%s)*%s" % (BILLED % NAME, BILLED % "TOTAL") + HELD_BACK
             + BILL_TERMS,
     "centre-bill": "BILL CENTRE %s " % NAME + BILL_HEAD % ("-" + NAME) + SUMS_COLUMNS + BILLED % NAME + HELD_BACK
-                   + BILL_TERMS + BILL_PARTS + BILL_RECORDS,
-    "bill-csv": OFFICE_BILL_COLUMNS + r"\n(?:[0-9]+,%s(?:,%s){4},-?%s,%s\n)*" % (NAME, AMOUNT, AMOUNT, BOOKED),
-    "centre-bill-csv": BILL_COLUMNS + r"\n(?:[0-9]+,%s,%s,(?:%s)?,(?:%s|%s|%s|%s|%s)\n)*" % (
-        DAY, NAME, NAME, r"STEPS,[0-9]+,[0-9]+\.[0-9]{2},[0-9]+,%s,,,,,,,[0-9]+" % AMOUNT,
+                   + BILL_TERMS + BILL_PARTS + BILL_RECORDS + BILL_CREDITS,
+    "bill-csv": OFFICE_BILL_COLUMNS + r"\n(?:[0-9]+,%s(?:,%s){4},-?%s,%s,-?%s\n)*" % (NAME, AMOUNT, AMOUNT, BOOKED, AMOUNT),
+    "centre-bill-csv": BILL_COLUMNS + r"\n(?:[0-9]+,(?:,%s,,CREDIT,,,,-?%s,,,%s,,,,|%s,%s,(?:%s)?,(?:%s|%s|%s|%s|%s))\n)*" % (
+        NAME, AMOUNT, REASON, DAY, NAME, NAME, r"STEPS,[0-9]+,[0-9]+\.[0-9]{2},[0-9]+,%s,,,,,,,[0-9]+" % AMOUNT,
         r"JOBS,[0-9]+,(?:[0-9]+\.[0-9]{2},[0-9]+|,),%s,,,,,,,[0-9]+" % AMOUNT,
         "(?:PLUS|MINUS),,,,-?%s,[0-9]+,[0-9a-f]{64},%s,%s,%s,(?:[0-9]+|-)," % (AMOUNT, *3 * (VALUE,)),
         "(?:STEP|JOB)-PRICE,%s,%s,%s,,,,,,,," % (AMOUNT, AMOUNT, AMOUNT), "PERCENT,,,,,,,,,,,[0-9]+")}
@@ -539,18 +548,18 @@ FIGURES = ("%16s %21s %21s\n" % ("", "BEFORE", "AFTER")
            + r"(?=.{60}\n)RECORDS [0-9]+ +[0-9]+ +[0-9]+\n(?=.{60}\n)%s +[0-9]+ +[0-9]+\n")
 DRY_RUN = r"DRY RUN (?:%s)" % "|".join(
     words + " (?:DONE|ALREADY)\\n" + FIGURES % last for words, last in (
-        ("TARIFF " + DAY, "PRICED"), ("CLOSE [0-9]+ " + DAY, "RECORDS [0-9]+"),
-        ("CHOOSE [0-9a-f]{64}", "DISPUTES"), ("ADOPT", "DISPUTES")))
+        ("TARIFF %s(?: REPLACE)?" % DAY, "PRICED"), ("CLOSE [0-9]+ " + DAY, "RECORDS [0-9]+"),
+        ("CHOOSE (?:NONE )?[0-9a-f]{64}", "DISPUTES"), ("CREDIT [0-9]+ " + NAME, "CREDITS [0-9]+"), ("ADOPT", "DISPUTES")))
 
 OF_PERIODS = ("statement", "statement-csv", "what-if", "what-if-csv", "details", "details-csv",
               "adjustments", "adjustments-csv", *UNDIVIDED)
 OF_COMMANDS = {name: report_form(name) for name in (*OF_PERIODS, *WHOLE)}
 OF_COMMANDS |= {name: form(text) for name, text in BILLS.items()}
 OF_COMMANDS |= {
-    "audit": form(SOUND + "|" + UNSOUND), "import": form(RECEIPT),
+    "audit": form(SOUND + "|" + UNSOUND), "import": form(RECEIPT), "withheld": form(WITHHELD),
     "ruling": form("DONE\n|ALREADY\n"), "dry-run": form(DRY_RUN), "listed": form("(?:(?:DONE|ALREADY)\n)*"),
     "tariff-text": form(r"(?s:.*)\[rates\](?s:.*)"), "check": form(CHECKED), "init": form(""),
-    "explain": form(r"[ -~]+\n[ -~]+\n"), "upgrade": form("UPGRADED 2\n|ALREADY\n"),
+    "explain": form(r"[ -~]+\n[ -~]+\n"), "upgrade": form("UPGRADED 3\n|ALREADY\n"),
     "version": form(r"chargectl [0-9.]+\n"),
     "help": form(r"[ -~\n]*Usage: chargectl[ -~\n]*"),
     "trial": form(RECEIPT + "STATEMENT PERIOD 1 OPEN\n" + TEXTS["statement"] % NAME + DISPUTES)}

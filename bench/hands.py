@@ -264,6 +264,12 @@ class Hands:
         name = self.disputed.popleft()
         self.command(lambda model: model.choose(name), "choose", name)
 
+    def credit(self, number):
+        """A credit of the open period, for a centre that is there under any tariff."""
+        period, amount = self.closes + 1, 10_000 + number
+        self.command(lambda model: model.credit(period, "UNASSIGNED", amount, "courier"), "credit", period, "UNASSIGNED",
+                     "%d.%04d" % divmod(amount, 10_000), "courier")
+
     def import_one(self, number):
         dump = dumps.dated(100_000 + number, self.through - number % (SPAN // 2))
         path = self.folder / "one.smf"
@@ -278,6 +284,8 @@ class Hands:
                 self.tariff()
             elif number % 10 == 5 and self.disputed:
                 self.choose()
+            elif number % 40 == 18:
+                self.credit(number)
             else:
                 self.import_one(number)
 

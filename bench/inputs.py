@@ -427,13 +427,13 @@ def other_log(rng):
     return rng.choice((b"x", b"\0", b"\x37")) * rng.choice((1, 40, 41, 42, 55, 56, 57, 5_000))
 
 
-COMMANDS = ("init tariff import close choose adopt statement adjustments details bill focus coverage page disputes "
+COMMANDS = ("init tariff import close choose adopt credit statement adjustments details bill focus coverage page disputes "
             "record periods rulings tariff-text upgrade audit trial check explain help serve --help -h --version "
             "-V").split()
 WORDS = ("books nothing tariff dump . .. books/ books-wal 0 1 2 3 65535 65536 -1 1e3 0x1 ١ "
          "2024-01-31 2024-02-30 2024-02-29 2024-1-1 --layout --layout=bdw --layout=xyz rdw bdw "
          "--quiet --quiet=1 --whole --names --near --explain --dry-run --csv --html --cpu --cpu=100000000 --cpu=100000001 --excp --record "
-         "--record=-1 -- - -q --help -h --port --requests --from --tariff "
+         "--record=-1 -- - -q --help -h --port --requests --from --dump --none --replace --replaced --tariff "
          "--tariff=tariff --tariff=dump "
          "--centre --centre=LEDGER --wait --wait=0 --wait=3601 frame ledger tariff damaged").split()
 WORDS += ["", " ", "\n", "é", "x" * 300, "y" * 100_000, "/dev/null/x", "%s%n", "0" * 64, "ab" * 32,
@@ -442,7 +442,7 @@ WORDS += ["", " ", "\n", "é", "x" * 300, "y" * 100_000, "/dev/null/x", "%s%n", 
 
 # What a command's words are, as often as not: books, a file, a period, a date, a name, a number.
 PLACES = {
-    "init": "B", "tariff": "BF", "import": "BF", "close": "BPD", "choose": "BN", "adopt": "B",
+    "init": "B", "tariff": "BF", "import": "BF", "close": "BPD", "choose": "BN", "adopt": "B", "credit": "BPCAR",
     "statement": "BPO", "details": "BP", "bill": "BPO", "focus": "BP", "coverage": "BPO", "page": "BP",
     "adjustments": "BP", "disputes": "B", "record": "BN",
     "periods": "B", "rulings": "B", "tariff-text": "BD", "upgrade": "B", "audit": "B", "trial": "",
@@ -455,6 +455,9 @@ PLACED = {
     "D": ("2024-01-01", "2024-01-31", "2024-02-29", "2023-02-29", "2099-12-31", "1899-12-31", "2024-1-31", ""),
     "N": (HELD_RECORD.decode(), "0" * 64, "ab" * 32, "AB" * 32, "zz" * 32, "0" * 63, ""),
     "O": ("--csv", "--html", "--tariff=tariff", "--tariff=dump", "--tariff=nothing", "--centre=LEDGER"),
+    "C": ("LEDGER", "UNASSIGNED", "NOWHERE", "ledger", ""),
+    "A": ("12.5000", "0.0001", "9999999999.9999", "10000000000.0000", "0.0000", "1", "-3.0000", ""),
+    "R": ("courier", "tape lost, ticket 4711", "r" * 200, "r" * 201, "\t", ""),
     "K": ("frame", "ledger", "tariff", "damaged", "io", "busy", "exists", "word", "unsound", "log",
           "layout", "far", "torn", "other")}
 

@@ -1,7 +1,8 @@
 #!/usr/bin/env python3
 """What holds of the bills of any books, and of their cost and usage and their coverage, tried by the rules of office.py on
-random histories of imports, closes, choices, tariffs that come late, and, in two of three, an adoption of the second rule.
-Some of the steps run on another system.
+random histories of imports, closes, choices, tariffs that come late, and, in two of three, an adoption of the second rule;
+and of what takes back: works of which none counts, tariffs in the place of others, and credits. Some of the steps run on
+another system.
 
     bill_laws.py HISTORIES CALLS [SCRIPT]   tries so many histories of so many calls: 400 of 60 take some minutes. With
                                             SCRIPT it also writes them there as rows, which ask after each ruling for the
@@ -10,7 +11,8 @@ Some of the steps run on another system.
                                             to play
 
 After each call: the steps and jobs of a bill are the rows of its centre's statement; what it comes to is that statement's
-total with the centre's adjustments; the centres' bills come to the office's; each record that a period counts has its
+total with the centre's adjustments, without what is credited; of a work that is withheld nothing is charged; the centres'
+bills come to the office's; each record that a period counts has its
 price by a tariff that stands on the bill; what a bill says is reversed was charged by the period that it names; however
 the disputes end, a centre is charged no less and no more for them than its bill says; and the bills of closed periods
 stay as they were. Cost and usage is read by Python's csv: each row has the columns of FOCUS, moments, numbers and tags; the
@@ -52,6 +54,12 @@ def summed(rows):
     return dict(sums)
 
 
+def owed_before(parts):
+    """What a bill comes to before its credits: cost and usage has none."""
+    *charges, _ = parts
+    return office.owed(*charges, 0)
+
+
 def charged(books, period, centre=None):
     """What the statement and the adjustments of a period come to."""
     return (sum(sums[3] for _, sums in books.rows(period, centre))
@@ -61,8 +69,10 @@ def charged(books, period, centre=None):
 def try_bill(books, period, centre):
     """The bill of one centre."""
     steps, jobs = books.work(period, centre)
+    credited = sum(amount for _, amount, _ in books.credits_of(period, centre))
     holds(summed(steps + jobs) == summed(books.rows(period, centre)), "steps and jobs are the statement's rows")
-    holds(office.owed(*books.parts(period, centre)) == charged(books, period, centre), "parts come to what is charged")
+    holds(owed_before(books.parts(period, centre)) == charged(books, period, centre), "parts come to what is charged")
+    holds(office.owed(*books.parts(period, centre)) == charged(books, period, centre) - credited, "credits are taken off")
     for sign, one in books.lines(period, centre):
         named = books.of_which(period, sign, one)
         holds(named < period, "a line is about an earlier period")
@@ -109,7 +119,7 @@ def try_period(books, period, centres):
         try_bill(books, period, centre)
     parts = [books.parts(period, centre) for centre in centres]
     holds([sum(column) for column in zip(*parts)] == books.parts(period), "centres come to the office")
-    holds(office.owed(*books.parts(period)) == charged(books, period), "the office is owed what is charged")
+    holds(owed_before(books.parts(period)) == charged(books, period), "the office is owed what is charged")
     tariffs = books.tariffs_in(period)
     holds(all(books.in_force(books.data[name]) in tariffs for name in books.counted(period)), "prices are by its tariffs")
 
@@ -148,10 +158,10 @@ def try_focus(books, period, centres):
     rows = list(csv.DictReader(io.StringIO(text, newline="")))
     for row in rows:
         try_focus_row(row)
-    holds(cost(rows) == office.owed(*books.parts(period)), "cost and usage is what the office is owed")
+    holds(cost(rows) == owed_before(books.parts(period)), "cost and usage is what the office is owed before credits")
     for centre in centres:
         of_centre = [row for row in rows if row["SubAccountId"] == centre]
-        holds(cost(of_centre) == office.owed(*books.parts(period, centre)), "cost and usage is what a centre owes")
+        holds(cost(of_centre) == owed_before(books.parts(period, centre)), "cost and usage is what it owes before credits")
     charges, corrections = ([row for row in rows if bool(row["ChargeClass"]) == is_so] for is_so in (False, True))
     holds(cost(charges) == sum(sums[3] for _, sums in books.rows(period)), "charges cost what the statement says")
     holds(cost(corrections) == sum(sign * one.amount for sign, one in books.lines(period)),
@@ -188,6 +198,16 @@ def try_disputes(books, numbers, centres):
         holds(count > 0 or more == 0, "where there is no dispute there is no charge")
 
 
+def try_withheld(books):
+    """Of a work that is withheld nothing is charged."""
+    withheld = books.withheld()
+    counted = {books.identity(books.held[name]) for name in books.charged(books.open)}
+    holds(not counted & withheld, "of a work that is withheld nothing is charged")
+
+
+REASONS = "courier tape-lost ticket-4711,twice".split()
+
+
 class Tried(history.History):
     """A history of which each call is tried."""
     def __init__(self, sample, first, calls):
@@ -200,9 +220,48 @@ class Tried(history.History):
         is_new = words.startswith("sample 72:")
         super().name_dump(name, words + " 14:E2E8E2F1" * (is_new and len(self.steps) % 3 == 0))
 
+    def replacement_words(self):
+        """A tariff of the first day of one that came before, with another price."""
+        front, *rules = self.earlier(self.fronts).split()[1:]
+        first_day, *_ = self.texts[front].splitlines(keepends=True)
+        name = "u%d" % len(self.texts)
+        self.name_text(name, first_day + "[rates]\nstep_cpu = %d\n" % (20000 + 1000 * self.numbers.below(3)))
+        return " ".join(["replace", name, *rules])
+
+    def credit_words(self):
+        """A credit of the open period, or of the one before; now and then one that came before, and one below 0."""
+        period, centres = self.books.open - (self.numbers.below(6) == 0), self.centres()
+        return "credit %d %s %d %s" % (period, centres[self.numbers.below(len(centres))],
+                                       [-30000, 12500, 12500, 1][self.numbers.below(4)], REASONS[self.numbers.below(3)])
+
+    def words(self, turn):
+        """One call in four takes something back."""
+        if turn % 4 != 3 or not self.steps:
+            return super().words(turn)
+        kind = self.numbers.below(3)
+        if kind == 0 and self.fronts:
+            return self.replacement_words()
+        return self.credit_words() if kind == 1 else "withhold " + self.earlier(self.steps)
+
+    def answer(self, words):
+        """The answer to a call."""
+        verb, *rest = words.split()
+        if verb == "replace":
+            [answer] = self.books.replace("".join(self.texts[name] for name in rest).encode())
+        elif verb == "credit":
+            period, centre, amount, reason = rest
+            [answer] = self.books.credit(int(period), centre, int(amount), reason)
+        elif verb == "withhold":
+            [answer] = self.books.withhold(self.name_of(*rest))
+        else:
+            return super().answer(words)
+        self.came[" ".join([verb, *answer.removeprefix("chargectl: ").split()[:2]])] += 1
+        return [answer]
+
     def centres(self):
-        """All centres that some record is of, and one that none is of."""
-        return sorted({one.centre for one in self.books.held.values()}) + ["NOBODY"]
+        """All centres that some record or credit is of, and one that none is of."""
+        held = {one.centre for one in self.books.held.values()}
+        return sorted(held | {centre for _, centre, _, _ in self.books.credits}) + ["NOBODY"]
 
     def try_all(self):
         """The bills as they are now. Of a closed period's bill each text has to stay."""
@@ -211,13 +270,15 @@ class Tried(history.History):
             try_period(books, period, centres)
             try_focus(books, period, centres)
             try_coverage(books, period)
-            holds(all(books.has_centre(period, centre) for centre, _ in books.billed(period)),
+            charged_to = {centre for (_, centre, _), _ in books.rows(period)} | {one.centre for _, one in books.lines(period)}
+            holds(all(books.has_centre(period, centre) for centre in charged_to),
                   "a centre that a period has rows or lines of is there in it")
             if period < books.open:
                 for centre in [None, *centres]:
                     texts = [*books.bill(period, centre), *books.bill_table(period, centre)]
                     texts += [*books.focus(period), *books.coverage(period)] * (centre is None)
                     holds(self.stands.setdefault((period, centre), texts) == texts, "a closed period's bill stays")
+        try_withheld(books)
         try_disputes(books, self.numbers, centres)
 
     def bill_page(self, period, centre=None):

@@ -66,6 +66,13 @@ thead .title th{font-size:1.25rem}.records .name td{font-size:.85rem}
 }
 """
 
+# Of a bill with credits: its sums have a column more, and a reason may have several lines.
+CREDIT_STYLE = """.credits tr>:first-child{text-align:left;white-space:normal;overflow-wrap:anywhere}
+@media screen and (max-width:44rem){
+.credited tr>:nth-child(5)::before{content:'credits '}.credited tr>:nth-child(6)::before{content:'owed '}
+}
+"""
+
 START = """<!DOCTYPE html>
 <html lang='en'>
 <head>
@@ -125,15 +132,17 @@ class BillPage:
         self.model, self.period, self.centre = model, period, centre
         self.is_draft, self.tariffs = period == model.open, model.tariffs_in(period)
         self.said = dict(line.split(" ", 1) for line in model.bill_head(period, centre))
+        self.credits = model.credits_of(period, centre)
 
     def name(self):
         return "Draft of bill " + self.said["DRAFT"] if self.is_draft else "Bill " + self.said["NUMBER"]
 
     def sums_cells(self, word, parts, units=None):
-        steps, jobs, late, back = parts
+        steps, jobs, late, back, credited = parts
         places = self.model.booked_decimals(self.period)
         units = office.booked(office.owed(*parts), places) if units is None else units
-        return (word, *map(money, (steps + jobs, late, back, office.owed(*parts))), office.decimals(units, places))
+        amounts = (steps + jobs, late, back, *[credited] * (self.credits != []), office.owed(*parts))
+        return (word, *map(money, amounts), office.decimals(units, places))
 
     def total_cells(self):
         places, model = self.model.booked_decimals(self.period), self.model
@@ -145,17 +154,18 @@ class BillPage:
         if self.centre:
             own = self.sums_cells(self.centre, self.model.parts(self.period, self.centre))
         currency = " <small>%s</small>" % escaped(self.said["CURRENCY"]) if "CURRENCY" in self.said else ""
-        _, charged, late, back, owed, booked = map(grouped, own)
+        _, charged, late, back, *credited, owed, booked = map(grouped, own)
         yield "<dl>\n"
         for word, figure in (("Owed", owed), ("Booked", booked)):
             yield "<div class='sum'><dt>%s</dt><dd>%s%s</dd></div>\n" % (word, figure, currency)
-        for word, figure in (("Charged", charged), ("Late", late), ("Reversed", back)):
+        others = ("Charged", charged), ("Late", late), ("Reversed", back), *(("Credits", one) for one in credited)
+        for word, figure in others:
             yield "<div><dt>%s</dt><dd>%s</dd></div>\n" % (word, figure)
         yield "</dl>\n"
 
     def top(self):
         name = self.name()
-        yield START % (name, STYLE, name)
+        yield START % (name, STYLE + CREDIT_STYLE * (self.credits != []), name)
         yield "<header>\n<p>%s</p>\n<p>%s</p>\n</header>\n" % (escaped(self.said.get("OFFICE", "Chargeback")), name)
         yield "<h1>%s</h1>\n" % (self.centre or "All centres")
         days = " from " + self.said["FROM"] if "FROM" in self.said else ""
@@ -210,12 +220,20 @@ class BillPage:
                              ("Day", "Shift", "Job", "Program", "Job id", "Step", "Of period", "Amount"),
                              (part for one in lines for part in body(rows(one))), total)
 
+    def credit_part(self):
+        if self.credits:
+            yield from table("rows credits", "Credits", ("Reason", "Amount"),
+                             body(row((reason, money(amount)), (0,)) for _, amount, reason in self.credits),
+                             row(("Total", money(sum(amount for _, amount, _ in self.credits))), (0,)))
+
     def linked(self, centre):
         return "<a href='/bill/%d/%s'>%s</a>" % (self.period, centre, centre)
 
     def centres(self):
         rows = [row(self.sums_cells(*one), (0,), self.linked) for one in self.model.billed(self.period)]
-        yield from table("rows centres", "Centres", ("Centre", "Charged", "Late", "Reversed", "Owed", "Booked"),
+        credited = self.credits != []
+        yield from table("rows centres" + " credited" * credited, "Centres",
+                         ("Centre", "Charged", "Late", "Reversed", *["Credits"] * credited, "Owed", "Booked"),
                          body(rows), row(self.total_cells(), (0,)))
 
     def links(self):
@@ -237,6 +255,7 @@ class BillPage:
                     yield from self.work_part(is_job, by_tariff)
             yield from self.record_part("Late", 1)
             yield from self.record_part("Reversed", -1)
+            yield from self.credit_part()
         yield from self.links()
 
 

@@ -19,7 +19,7 @@ ADJUSTMENT_COLUMNS = "period,action,day,centre,shift,amount,name,job"
 STATEMENT_COLUMNS = "period,day,centre,shift,count,cpu,blocks,"
 DETAIL_COLUMNS = "period,day,centre,shift,time,job,program,jobid,step,cpu,blocks,amount,name"
 BILL_COLUMNS = "period,day,centre,shift,kind,count,cpu,blocks,amount,of_period,name,job,program,jobid,step,percent"
-OFFICE_BILL_COLUMNS = "period,centre,steps,jobs,late,reversed,owed,booked"
+OFFICE_BILL_COLUMNS = "period,centre,steps,jobs,late,reversed,owed,booked,credits"
 COVERAGE_COLUMNS = "period,day,system,count,first,last"
 # The columns of FOCUS 1.0 that have something to say of a period, by their public names.
 FOCUS_COLUMNS = (
@@ -315,8 +315,8 @@ def placed(widths, cells):
 
 
 def sums_columns(*cells):
-    """A line of sums: a centre, and five amounts."""
-    return placed((-16, 13, 13, 13, 13, 13), cells)
+    """A line of sums: a centre, and five amounts; or six, where something is credited."""
+    return placed((-16, *(len(cells) - 1) * (13,)), cells)
 
 
 def work_columns(*cells):
@@ -329,6 +329,11 @@ def record_columns(*cells):
     return placed((-10, -16, -8, -8, -8, 5, 6, 32), cells)
 
 
+def credit_columns(*cells):
+    """A line of a credit: its reason, and its amount."""
+    return placed((-78, 21), cells)
+
+
 def booked(amount, places):
     """So many units of the last of some decimals, the nearest ones: halves go away from zero."""
     unit = 10 ** (4 - places)
@@ -336,9 +341,9 @@ def booked(amount, places):
     return units if amount >= 0 else -units
 
 
-def owed(steps, jobs, late, taken_back):
+def owed(steps, jobs, late, taken_back, credited):
     """What a bill comes to."""
-    return steps + jobs + late - taken_back
+    return steps + jobs + late - taken_back - credited
 
 
 def step_of(one):
@@ -386,6 +391,20 @@ def ruling_of_choice(name):
     return Ruling("CHOOSE " + name, None, lambda books: books.choose(name))
 
 
+def ruling_of_none(name):
+    return Ruling("CHOOSE NONE " + name, None, lambda books: books.withhold(name))
+
+
+def ruling_of_replacement(file):
+    """A tariff in the place of another has the day of that one."""
+    day = None if fault_of(file) else Tariff(file).effective
+    return Ruling("TARIFF %s REPLACE" % day, None, lambda books: books.replace(file))
+
+
+def ruling_of_credit(period, centre, amount, reason):
+    return Ruling("CREDIT %d %s" % (period, centre), None, lambda books: books.credit(period, centre, amount, reason))
+
+
 def ruling_of_adoption():
     return Ruling("ADOPT", None, lambda books: books.adopt(2))
 
@@ -417,8 +436,11 @@ def member_line(one):
 class Books:
     def __init__(self):
         self.tariffs, self.held, self.data, self.charged_at, self.closes = [], {}, {}, [], []
-        # The names of the records that were chosen, each with the period that was open then.
-        self.choices = []
+        # The names of the records that were chosen, each with the period that was open then; and the numbers of those choices,
+        # from 1, that chose none of the record's work.
+        self.choices, self.nones = [], set()
+        # The tariffs that another took the place of, and the credits: the period that was open then, and what it was.
+        self.replaced, self.credits = [], []
         # The period that was open when the second rule of identity was adopted.
         self.adopted = None
 
@@ -451,6 +473,37 @@ class Books:
         for name, record in self.held.items():
             if new.effective <= record.day:
                 self.held[name] = new.record(self.data[name])
+        return ["DONE"]
+
+    def replace(self, file):
+        """A tariff in the place of the one that begins on its first day."""
+        fault = fault_of(file)
+        if fault:
+            return ["chargectl: tariff " + fault]
+        new = Tariff(file)
+        if any(old.file == file for old in self.tariffs):
+            return ["ALREADY"]
+        place = next((place for place, old in enumerate(self.tariffs) if old.effective == new.effective), None)
+        if place is None:
+            return refused(NO_SUCH_TARIFF)
+        if any(new.effective <= day for day in self.closes):
+            return refused(TARIFF_DATE)
+        self.replaced.append((self.open, self.tariffs[place]))
+        self.tariffs[place] = new
+        for name, data in self.data.items():
+            if self.in_force(data) is new:
+                self.held[name] = new.record(data)
+        return ["DONE"]
+
+    def credit(self, period, centre, amount, reason):
+        """A credit, in ten-thousandths of the money unit. It charges no record and changes no price."""
+        if (period, centre, amount, reason) in self.credits:
+            return ["ALREADY"]
+        if period != self.open:
+            return refused(WRONG_PERIOD, self.open)
+        if not self.has_centre(period, centre):
+            return refused(NO_SUCH_CENTRE)
+        self.credits.append((period, centre, amount, reason))
         return ["DONE"]
 
     def in_force(self, data):
@@ -487,31 +540,60 @@ class Books:
         """The name that was chosen last of each identity of which some was."""
         return {self.identity(self.held[name]): name for name, _ in self.choices}
 
+    def withheld(self):
+        """The identities of which none was chosen last."""
+        last = {self.identity(self.held[name]): number for number, (name, _) in enumerate(self.choices, 1)}
+        return {identity for identity, number in last.items() if number in self.nones}
+
+    def was_withheld(self, identity):
+        """None of its records was chosen at some time."""
+        return any(number in self.nones and self.identity(self.held[name]) == identity
+                   for number, (name, _) in enumerate(self.choices, 1))
+
     def undisputed(self):
         count, chosen = collections.Counter(self.identity(record) for record in self.held.values()), self.chosen()
-        return {name for name, record in self.held.items()
-                if count[self.identity(record)] == 1 or chosen.get(self.identity(record)) == name}
+        withheld = self.withheld()
+        return {name for name, record in self.held.items() if self.identity(record) not in withheld
+                and (count[self.identity(record)] == 1 or chosen.get(self.identity(record)) == name)}
 
     def choose(self, name):
         if name not in self.held:
             return refused(NO_SUCH_RECORD)
-        if not self.rivals(name):
+        identity = self.identity(self.held[name])
+        if not self.rivals(name) and not self.was_withheld(identity):
             return refused(NOT_DISPUTED)
-        if self.chosen().get(self.identity(self.held[name])) == name:
+        if self.chosen().get(identity) == name and identity not in self.withheld():
             return ["ALREADY"]
         self.choices.append((name, self.open))
         return ["DONE"]
 
-    def choose_each(self, listed):
+    def withhold(self, name):
+        """No record of its work counts from now on, until one of them is chosen."""
+        if name not in self.held:
+            return refused(NO_SUCH_RECORD)
+        if self.identity(self.held[name]) in self.withheld():
+            return ["ALREADY"]
+        self.choices.append((name, self.open))
+        self.nones.add(len(self.choices))
+        return ["DONE"]
+
+    def choose_each(self, listed, is_none=False):
         """One choice after the other, up to the first refusal: the answers to those before it, and the refusal with the
         number of its line. The names come with the numbers of their lines."""
         answers = []
         for number, name in listed:
-            [answer] = self.choose(name)
+            [answer] = self.withhold(name) if is_none else self.choose(name)
             if answer.startswith("chargectl"):
                 return answers + ["%s line %d" % (answer, number)]
             answers.append(answer)
         return answers
+
+    def withhold_dump(self, dump):
+        """The works of the usage records of a dump, one after the other. Those that are not held are passed over."""
+        answers = collections.Counter()
+        for name in (hashlib.sha256(data).hexdigest() for data in joined(dump) if kind_of(data) == "USAGE"):
+            answers[self.withhold(name)[0] if name in self.held else "NOT HELD"] += 1
+        return ["WITHHELD %d ALREADY %d NOT HELD %d STOP END" % (answers["DONE"], answers["ALREADY"], answers["NOT HELD"])]
 
     def adopt(self, rule):
         """From now on identities are those of this rule, of held records too. What closes charged stays."""
@@ -635,8 +717,8 @@ class Books:
 
     def dry_run(self, ruling):
         """What a ruling would answer, and what it would change of the period that is open. The last line is of a tariff how
-        many records of that period it prices anew, of a close how many records the next period counts, and of others how
-        many disputes there are. Nothing is kept of it."""
+        many records of that period it prices anew, of a close how many records the next period counts, of a credit how many
+        the period has, and of others how many disputes there are. Nothing is kept of it."""
         after, period = copy.deepcopy(self), self.open
         [answer] = ruling.rule(after)
         if answer.startswith("chargectl: "):
@@ -644,11 +726,15 @@ class Books:
         names = ["%s %d" % (word, period) for word in ("STATEMENT", "ADJUSTMENTS", "RECORDS")]
         lines = list(map(figure, names, self.figures(period), after.figures(period)))
         if ruling.words.startswith("TARIFF "):
-            priced = [name for name in after.counted(period) if after.held[name].day >= ruling.day]
+            first = datetime.date.fromisoformat(ruling.words.split()[1])
+            priced = [name for name in after.counted(period) if after.in_force(after.data[name]).effective == first]
             lines.append(figure("PRICED", 0, len(priced) if answer == "DONE" else 0))
         elif ruling.words.startswith("CLOSE "):
             lines.append(figure("RECORDS %d" % (period + 1), 0,
                                 len(after.counted(period + 1)) if after.open > period else 0))
+        elif ruling.words.startswith("CREDIT "):
+            lines.append(figure("CREDITS %d" % period, *(sum(credit[0] == period for credit in books.credits)
+                                                         for books in (self, after))))
         else:
             lines.append(figure("DISPUTES", len(self.disputed()), len(after.disputed())))
         return ["DRY RUN %s %s" % (ruling.words, answer), figure("", "BEFORE", "AFTER")] + lines
@@ -746,13 +832,17 @@ class Books:
         """How many decimals a bill books: as the last of its tariffs says."""
         return ([2] + [one.booked_decimals() for one in self.tariffs_in(period)])[-1]
 
-    def sums_line(self, period, word, parts, booked_units=None):
-        """The line of sums of a centre, or of all."""
-        steps, jobs, late, back = parts
+    def sums_heading(self, has_credits):
+        """The names of the columns of sums."""
+        return sums_columns("CENTRE", "CHARGED", "LATE", "REVERSED", *["CREDITS"] * has_credits, "OWED", "BOOKED")
+
+    def sums_line(self, period, word, parts, has_credits, booked_units=None):
+        """The line of sums of a centre, or of all. What is credited stands there only on a bill that has a credit."""
+        steps, jobs, late, back, credited = parts
         places = self.booked_decimals(period)
         units = booked(owed(*parts), places) if booked_units is None else booked_units
-        return sums_columns(word, *(decimals(one, 4) for one in (steps + jobs, late, back, owed(*parts))),
-                            decimals(units, places))
+        amounts = (steps + jobs, late, back, *[credited] * has_credits, owed(*parts))
+        return sums_columns(word, *(decimals(one, 4) for one in amounts), decimals(units, places))
 
     def tariff_on(self, day):
         """The tariff in force on a day."""
@@ -802,21 +892,35 @@ class Books:
                 yield "  " + one.name
             yield record_columns("TOTAL", *6 * ("",), decimals(sum(one.amount for one in lines), 4))
 
+    def credit_part(self, period, centre):
+        """What is credited, if something is: each with its reason."""
+        credits = self.credits_of(period, centre)
+        if credits:
+            yield "CREDITS"
+            yield credit_columns("REASON", "AMOUNT")
+            yield from (credit_columns(reason, decimals(amount, 4)) for _, amount, reason in credits)
+            yield credit_columns("TOTAL", decimals(sum(amount for _, amount, _ in credits), 4))
+
     def bill_end(self, period, centre):
         """What a bill says of disputes, while its period is open. As they end a closed period's bill stays as it is."""
         if period == self.open:
             count, least, greatest = self.held_back(centre)
             yield "DISPUTES %d LEAST %s GREATEST %s" % (count, decimals(least, 4), decimals(greatest, 4))
 
+    def credits_of(self, period, centre=None):
+        """The credits of a period, of all centres or of one: of each its centre, its amount and its reason."""
+        return [credit for of_period, *credit in self.credits if of_period == period and centre in (None, credit[0])]
+
     def parts(self, period, centre=None):
-        """What a bill has of steps, of jobs, of what came late, and of what was reversed."""
+        """What a bill has of steps, of jobs, of what came late, of what was reversed, and of what is credited."""
         rows = [sum(sums[3] for _, sums in rows) for rows in self.work(period, centre)]
-        return rows + [sum(one.amount for sign, one in self.lines(period, centre) if sign == which) for which in (1, -1)]
+        rows += [sum(one.amount for sign, one in self.lines(period, centre) if sign == which) for which in (1, -1)]
+        return rows + [sum(amount for _, amount, _ in self.credits_of(period, centre))]
 
     def billed(self, period):
-        """The centres that a period has rows or lines of, each with the parts of its bill."""
+        """The centres that a period has rows, lines or credits of, each with the parts of its bill."""
         centres = {self.held[name].centre for name in self.counted(period)}
-        centres |= {one.centre for _, one in self.lines(period)}
+        centres |= {one.centre for _, one in self.lines(period)} | {centre for centre, _, _ in self.credits_of(period)}
         return [(centre, self.parts(period, centre)) for centre in sorted(centres)]
 
     def bill(self, period, centre=None):
@@ -826,8 +930,9 @@ class Books:
 
     def centre_bill(self, period, centre):
         """What a department gets below the head: its sums, the prices and percents, and what the sums are made of."""
-        yield sums_columns("CENTRE", "CHARGED", "LATE", "REVERSED", "OWED", "BOOKED")
-        yield self.sums_line(period, centre, self.parts(period, centre))
+        has_credits = self.credits_of(period, centre) != []
+        yield self.sums_heading(has_credits)
+        yield self.sums_line(period, centre, self.parts(period, centre), has_credits)
         yield from self.bill_end(period, centre)
         yield from self.bill_terms(period)
         for by_tariff in (True, False):
@@ -835,14 +940,16 @@ class Books:
                 yield from self.work_part(period, centre, is_job, by_tariff)
         for which in (1, -1):
             yield from self.record_part(period, centre, which)
+        yield from self.credit_part(period, centre)
 
     def office_bill(self, period):
         """A line for each centre, and the office's total, which books what they do together."""
-        yield sums_columns("CENTRE", "CHARGED", "LATE", "REVERSED", "OWED", "BOOKED")
+        has_credits = self.credits_of(period) != []
+        yield self.sums_heading(has_credits)
         billed, places = self.billed(period), self.booked_decimals(period)
         for word, parts in billed:
-            yield self.sums_line(period, word, parts)
-        yield self.sums_line(period, "TOTAL", self.parts(period),
+            yield self.sums_line(period, word, parts, has_credits)
+        yield self.sums_line(period, "TOTAL", self.parts(period), has_credits,
                              sum(booked(owed(*parts), places) for _, parts in billed))
         yield from self.bill_end(period, None)
         yield from self.bill_terms(period)
@@ -852,8 +959,9 @@ class Books:
             yield OFFICE_BILL_COLUMNS
             places = self.booked_decimals(period)
             for name, parts in self.billed(period):
-                yield comma_line(period, name, *(decimals(amount, 4) for amount in (*parts, owed(*parts))),
-                                 decimals(booked(owed(*parts), places), places))
+                *charges, credited = parts
+                yield comma_line(period, name, *(decimals(amount, 4) for amount in (*charges, owed(*parts))),
+                                 decimals(booked(owed(*parts), places), places), decimals(credited, 4))
             return
         yield BILL_COLUMNS
         for is_job in (False, True):
@@ -866,6 +974,8 @@ class Books:
             yield comma_line(period, one.day, one.centre, one.shift, ACTIONS[sign], "", "", "",
                              decimals(sign * one.amount, 4), self.of_which(period, sign, one), one.name, one.job,
                              one.program, one.job_id, step_of(one), "")
+        for _, amount, reason in self.credits_of(period, centre):
+            yield comma_line(period, "", centre, "", "CREDIT", *3 * ("",), decimals(-amount, 4), "", "", reason, *4 * ("",))
         for one in self.tariffs_in(period):
             for kind, subtype in (("STEP-PRICE", b"\0\4"), ("JOB-PRICE", b"\0\5")):
                 yield comma_line(period, one.effective, centre, "", kind, *one.prices_of(subtype), *8 * ("",))
@@ -950,13 +1060,22 @@ class Books:
         for number, through in enumerate(self.closes, 1):
             yield "CLOSE %d %s" % (number, through)
         for number, (name, period) in enumerate(self.choices, 1):
-            yield "CHOICE %d PERIOD %d %s" % (number, period, name)
+            yield "%s %d PERIOD %d %s" % ("NONE" if number in self.nones else "CHOICE", number, period, name)
         if self.adopted is not None:
             yield "ADOPTED PERIOD %d" % self.adopted
+        for period, old in self.replaced:
+            yield "REPLACED %s PERIOD %d %s %d" % (old.effective, period, hashlib.sha256(old.file).hexdigest(), len(old.file))
+        for number, (period, centre, amount, reason) in enumerate(self.credits, 1):
+            yield "CREDIT %d PERIOD %d %s %s %s" % (number, period, centre, decimals(amount, 4), reason)
 
     def tariff_text(self, day):
         """The file of the tariff that begins on a day, if one does."""
         return next((tariff.file for tariff in self.tariffs if tariff.effective == day), None)
+
+    def replaced_text(self, day, digest):
+        """The file of a tariff of a day that another took the place of, by its SHA-256, if there is one."""
+        files = [old.file for _, old in self.replaced if old.effective == day]
+        return next((file for file in files if hashlib.sha256(file).hexdigest() == digest), None)
 
     def has_centre(self, period, centre):
         """A centre is there in a period, if a tariff has a rule for it that begins no later than the period's last day; and that
@@ -1003,7 +1122,8 @@ class Books:
             return refused(NO_SUCH_RECORD)
         one, data, rivals, life = self.held[name], self.data[name], self.rivals(name), list(self.life(name))
         fields = list(fields_of(framed(data)))
-        choices = [choice for choice in self.choices if choice[0] in rivals | {name}]
+        choices = [(chosen, period, " NONE" * (number in self.nones))
+                   for number, (chosen, period) in enumerate(self.choices, 1) if chosen in rivals | {name}]
         return ["RECORD " + name,
                 "DATED %s IN PERIOD %d" % (clock(data[2:10]), self.period_of(one.day)),
                 identity_line(one.identity, "-"),
@@ -1013,7 +1133,8 @@ class Books:
                 "CPU %s BLOCKS %d" % (decimals(one.cpu, 2), one.blocks),
                 *self.in_force(data).reckoning(data),
                 "RIVALS %d" % len(rivals), *(member_line(self.held[other]) for other in sorted(rivals)),
-                "CHOICES %d" % len(choices), *("  PERIOD %d %s" % (period, chosen) for chosen, period in choices),
+                "CHOICES %d" % len(choices),
+                *("  PERIOD %d %s%s" % (period, chosen, none) for chosen, period, none in choices),
                 "LIFE %d" % len(life), *("  PERIOD %d %s" % turn for turn in life),
                 "NET %d" % sum(-1 if deed == "REVERSED" else 1 for _, deed in life)]
 

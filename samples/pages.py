@@ -158,26 +158,33 @@ def day_table(rows):
     yield TABLE_END
 
 
-def centre_table(rows, lines):
-    """For each centre a bar of what the statement charges it, and what came late, what was reversed, and what it owes."""
+def centre_table(rows, lines, credits):
+    """For each centre a bar of what the statement charges it, and what came late, what was reversed, what is credited where
+    something is, and what it owes."""
     costs = costs_by(rows, 1)
-    yield table("bars", "Cost by centre", "Centre Cost Charged Late Reversed Owed".split())
-    for centre in sorted({*costs, *(one.centre for _, one in lines)}):
+    yield table("bars", "Cost by centre", ["Centre", "Cost", "Charged", "Late", "Reversed", *["Credits"] * (credits != []), "Owed"])
+    for centre in sorted({*costs, *(one.centre for _, one in lines), *(to for to, _, _ in credits)}):
         charged = costs.get(centre, 0)
         late, reverses = (sum(one.amount for sign, one in lines if (sign, one.centre) == (which, centre)) for which in (1, -1))
+        own = sum(one for to, one, _ in credits if to == centre)
         cells = bar_cells(max(costs.values(), default=0), centre, charged)
-        yield table_row(*cells, *map(amount, (late, reverses, charged + late - reverses)))
+        yield table_row(*cells, *map(amount, (late, reverses, *[own] * (credits != []), charged + late - reverses - own)))
     yield TABLE_END
 
 
 # ---- Figures of a period
 
 def figures(books, period):
-    """How many records it counts, what it charges, adds and reverses, and what it is owed."""
+    """How many records it counts, what it charges, adds and reverses, and what it is owed, which is less by its credits."""
     rows, lines = books.rows(period), books.lines(period)
     records, charged = (sum(sums[at] for _, sums in rows) for at in (0, 3))
     added, reverses = (sum(one.amount for sign, one in lines if sign == which) for which in (1, -1))
-    return records, charged, added, reverses, charged + added - reverses
+    return records, charged, added, reverses, charged + added - reverses - credited(books, period)
+
+
+def credited(books, period):
+    """What its credits come to."""
+    return sum(one for _, one, _ in books.credits_of(period))
 
 
 def said(books, period, key):
@@ -238,11 +245,13 @@ def gaps(books, period):
 
 
 def head(books, period):
-    """The office's name, its number, whether it is open, its sums, the currency, and its gaps."""
-    _, *amounts = figures(books, period)
+    """The office's name, its number, whether it is open, its sums, the currency, and its gaps. What is credited is there only
+    where something is."""
+    _, *sums, owed = figures(books, period)
+    credits = [("Credits", credited(books, period))] * (books.credits_of(period) != [])
     yield "<header>\n<p><a href='/'>%s</a></p>\n<h1>Period %d</h1>\n<p>%s</p>\n</header>\n<dl>\n" % (
         said(books, period, "office") or "Office", period, books.head(period))
-    for name, one in zip(("Charged", "Added", "Reversed", "Owed"), amounts):
+    for name, one in [*zip(("Charged", "Added", "Reversed"), sums), *credits, ("Owed", owed)]:
         yield "<div><dt>%s</dt><dd>%s</dd></div>\n" % (name, amount(one))
     yield currency(books, period) + "<div><dt>Gaps</dt><dd>%s</dd></div>\n</dl>\n" % gaps(books, period)
 
@@ -292,7 +301,7 @@ def period_parts(books, period):
     yield START % ("Period %d" % period)
     yield from head(books, period)
     yield from day_table(rows)
-    yield from centre_table(rows, books.lines(period))
+    yield from centre_table(rows, books.lines(period), books.credits_of(period))
     yield from statement(rows)
     yield from adjustments(books.lines(period))
     yield from disputes(books, period)

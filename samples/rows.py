@@ -133,7 +133,15 @@ class Tables:
 
     def choices(self):
         for number, (name, period) in enumerate(self.books.choices, 1):
-            yield "%d %s %d" % (number, name.upper(), period)
+            yield "%d %s %d %d" % (number, name.upper(), period, number not in self.books.nones)
+
+    def credits(self):
+        for number, credit in enumerate(self.books.credits, 1):
+            yield "%d %d %s %d %s" % (number, *credit)
+
+    def replaced(self):
+        for number, (period, tariff) in enumerate(self.books.replaced, 1):
+            yield from ("%d %d %d {%s}" % (number, days(tariff.effective), period, tariff.file.decode())).split("\n")
 
     def identities(self):
         for name, one in sorted(self.books.held.items()):
@@ -157,13 +165,16 @@ class Tables:
 
     def audit(self):
         yield "SOUND"
-        yield "FORM 2"
+        yield "FORM 3"
         for word, rows in (("RECORDS", self.marks()), ("TARIFFS", self.books.tariffs), ("CLOSES", self.closed()),
                            ("CHOICES", self.choices()), ("ROWS", self.rows()), ("LINES", self.lines())):
             yield "%s %d" % (word, len(list(rows)))
 
 
-TABLES = "book closed tariffs rows lines marks choices identities detail index".split()
+TABLES = "book closed tariffs rows lines marks choices credits replaced identities detail index".split()
+
+# The commands that are rulings: each is one call of the books.
+RULINGS = "tariff replace close choose withhold credit adopt".split()
 
 # How often a report asks the books: for the days of the closes, and for what it lists. The rulings are asked for one
 # after the other.
@@ -202,6 +213,10 @@ DIGITS = re.compile("[0-9A-Fa-f]{64}")
 MARK, BLANKS, QUOTE, MOST_LINE = b"\xef\xbb\xbf", b" \t\x0c\r", '"', 128
 
 OF_PERIODS = "statement table adjustments adjustment_table".split()
+
+# What spells an amount, in ten-thousandths without its point, and what a reason is.
+AMOUNT = re.compile(r"-?(?:0|[1-9][0-9]{0,9})\.[0-9]{4}")
+REASON = re.compile("[ -~]{1,200}")
 
 # A period in a path.
 NUMBER = re.compile("[1-9][0-9]{0,3}")
@@ -318,13 +333,15 @@ class Rows:
         """How often a bill asks the books. For its steps and jobs: for the days of the closes, for each detail, and for
         the end, which is all where there is no such period. For its lines: for these, and of a centre for the trail of
         each record. For what is held back: for the days, and while the period is open for each dispute and the end. For
-        its first day: for the days. For its tariffs: for the days, for each tariff, and for the end."""
+        its first day: for the days. For its tariffs: for the days, for each tariff, and for the end. For its credits: for
+        each credit of the books, and for the end."""
         books = self.books
         if not 0 < period <= books.open:
             return 2
         lines = 0 if centre is None else len(books.lines(period, centre))
         disputes = len(books.disputed()) + 1 if period == books.open else 0
-        return 2 + len(books.counted_in_order(period, centre)) + 1 + lines + 1 + disputes + 1 + 2 + len(books.tariffs)
+        asks = 2 + len(books.counted_in_order(period, centre)) + 1 + lines + 1 + disputes + 1 + 2 + len(books.tariffs)
+        return asks + len(books.credits) + 1
 
     def bill(self, verb, period, centre=None):
         """The bill of a centre for a period, or of all, or why there is none."""
@@ -354,14 +371,15 @@ class Rows:
         return self.books.of_period(getattr(self.books, OF_OFFICE[verb]), int(period))
 
     def page_asks(self, period):
-        """How often a page asks the books. That of the office: for the days of the closes, for the rows and the lines of each
-        period, for the tariffs, and for each dispute and the end. That of a period: for its coverage, which is all where there
-        is no such period, for its rows and its lines, for the disputes, for the days of the closes, and for the tariffs. For
-        tariffs it asks for the days, for each of them, and for the end."""
-        books, tariffs = self.books, 2 + len(self.books.tariffs)
+        """How often a page asks the books. That of the office: for the days of the closes, for each credit and the end, for the
+        rows and the lines of each period, for the tariffs, and for each dispute and the end. That of a period: for its
+        coverage, which is all where there is no such period, for its rows and its lines, for each credit of the books and the
+        end, for the disputes, for the days of the closes, and for the tariffs. For tariffs it asks for the days, for each of
+        them, and for the end."""
+        books, tariffs, credits = self.books, 2 + len(self.books.tariffs), len(self.books.credits) + 1
         if period is None:
-            return 1 + 2 * books.open + tariffs + len(books.disputed()) + 1
-        return self.office_asks("coverage", period) + (4 + tariffs) * (0 < period <= books.open)
+            return 1 + credits + 2 * books.open + tariffs + len(books.disputed()) + 1
+        return self.office_asks("coverage", period) + (4 + credits + tariffs) * (0 < period <= books.open)
 
     def page(self, period=None):
         """The page of a period, or of the office, or why there is none."""
@@ -408,14 +426,21 @@ class Rows:
         books = self.books
         if verb == "import":
             return self.take(dump_of(self.dumps, words))
-        if verb in ("tariff", "close", "choose", "adopt") and self.is_refused():
+        if verb in RULINGS and self.is_refused():
             return office.refused(office.MEMORY)
         if verb == "tariff":
             return books.tariff(self.text(words, body).encode())
+        if verb == "replace":
+            return books.replace(self.text(words, body).encode())
         if verb == "close":
             return books.close(int(words[0]), datetime.date.fromisoformat(words[1]))
         if verb == "choose":
             return books.choose(self.name_of(words[0]))
+        if verb == "withhold":
+            return books.withhold(self.name_of(words[0]))
+        if verb == "credit":
+            period, centre, amount, reason = words
+            return books.credit(int(period), centre, int(amount), reason)
         if verb == "adopt":
             return books.adopt(int(words[0]))
         raise NotKnown
@@ -593,10 +618,10 @@ class Rows:
         output = self.output(words[at + 1:])
         errors = []
         if not isinstance(output, bytes):
-            errors = [line for line in output if line.startswith("chargectl")]
+            errors = [line for line in output if line.startswith(("chargectl", "error: "))]
             output = bytes_of(line for line in output if line not in errors)
         refusal = ["! " + line for line in errors]
-        refusal += ["STATUS %d" % (1 if line == "chargectl: io" else 3) for line in errors]
+        refusal += ["STATUS %d" % (2 if line.startswith("error: ") else 1 if line == "chargectl: io" else 3) for line in errors]
         notices = ["! " + line for line in self.notices]
         return output_shown(verb, words[:at + 1], output) + notices + refusal
 
@@ -620,7 +645,8 @@ class Rows:
         # How long a command waits for books changes nothing that it says of them.
         words = [word for word, before in zip(words, [""] + words) if "--wait" not in (word, before)]
         is_tried = "--dry-run" in words
-        verb, book, *words = [word for word in words if word != "--dry-run"]
+        # After -- a word is no option, whatever it begins with.
+        verb, book, *words = [word for word in words if word not in ("--dry-run", "--")]
         if book != "@books":
             raise NotKnown
         books, given = self.books, dict(options(words))
@@ -647,11 +673,13 @@ class Rows:
             file = self.file(file)
             return ["chargectl: io"] if file is None else books.what_if(file, int(period), centre, "--csv" in given)
 
-        def tariff_text(word):
-            """The file of a tariff, by the day on which it begins. What is no day is a wrong word."""
-            if day_of(word) is None:
+        def tariff_text(word, *_):
+            """The file of a tariff, by the day on which it begins, or one that another took the place of. What is no day is a
+            wrong word, and so is what spells no SHA-256."""
+            digest = given.get("--replaced")
+            if day_of(word) is None or digest is not None and not DIGITS.fullmatch(digest):
                 return ["chargectl: word"]
-            file = books.tariff_text(day_of(word))
+            file = books.tariff_text(day_of(word)) if digest is None else books.replaced_text(day_of(word), digest.lower())
             return office.refused(office.NO_SUCH_TARIFF) if file is None else file
 
         def record(word):
@@ -664,25 +692,42 @@ class Rows:
                 return ["chargectl: word"]
             return self.ruled(office.ruling_of_close(int(period), day_of(word)), is_tried)
 
+        def credit(period, centre, amount, reason):
+            """A credit. What is no name of a centre is a wrong word; then the amount is looked at, and the reason."""
+            if not office.is_name(centre):
+                return ["chargectl: word"]
+            units = int(amount.replace(".", "")) if AMOUNT.fullmatch(amount) else 0
+            if units == 0:
+                return ["error: AMOUNT has four decimals and is not 0"]
+            if not REASON.fullmatch(reason):
+                return ["error: REASON has 1 to 200 printable characters"]
+            return self.ruled(office.ruling_of_credit(int(period), centre, units, reason), is_tried)
+
         def choose(name=None, *_):
-            """One choice, or those of a file. What is no name in the file is a wrong word, before the first of them."""
+            """One choice, or those of a file. What is no name in the file is a wrong word, before the first of them. Or none of the
+            works of a dump counts."""
+            if "--dump" in given:
+                return books.withhold_dump(self.file(given["--dump"]))
             if "--from" not in given:
-                return self.ruled(office.ruling_of_choice(self.name_of(name)), is_tried)
+                ruling_of = office.ruling_of_none if "--none" in given else office.ruling_of_choice
+                return self.ruled(ruling_of(self.name_of(name)), is_tried)
             said = [(number, said_by(line)) for number, line in enumerate(self.files[given["--from"]].split(b"\n"), 1)]
             listed = [(number, name) for number, name in said if name != ""]
             for number, name in listed:
                 if not DIGITS.fullmatch(name):
                     return ["chargectl: word line %d" % number]
             tried = copy.deepcopy(books) if is_tried else books
-            return tried.choose_each((number, name.lower()) for number, name in listed)
+            return tried.choose_each(((number, name.lower()) for number, name in listed), "--none" in given)
 
         return {"init": lambda: [],
-                "tariff": lambda file: self.ruled(office.ruling_of_tariff(self.file(file)), is_tried),
+                "tariff": lambda file, *_: self.ruled(
+                    (office.ruling_of_replacement if "--replace" in given else office.ruling_of_tariff)(self.file(file)), is_tried),
                 "close": close,
                 "tariff-text": tariff_text,
                 "record": record,
                 "import": lambda file: self.dumped(books.take(self.file(file))),
                 "choose": choose,
+                "credit": credit,
                 "adopt": lambda: self.ruled(office.ruling_of_adoption(), is_tried),
                 "rulings": lambda: list(books.rulings()),
                 "periods": lambda: list(books.periods()),

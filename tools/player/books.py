@@ -8,6 +8,8 @@ written to a file that the command reads.
     trial CPU EXCP RECORD PARTS..            trial with these rates, of a dump on standard input
     close PERIOD DAY, adopt 2                close BOOK PERIOD DATE, adopt BOOK
     choose RECORD, record RECORD             the same, with the name of the record
+    replace TEXT.., withhold RECORD          tariff with --replace, choose with --none
+    credit PERIOD CENTRE AMOUNT REASON       the same, with a point before the last four digits of the amount
     disputes, periods                        the same
     statement PERIOD [CENTRE]                the same, with --centre; so are adjustments, details and bill
     focus PERIOD, coverage PERIOD            the same, and so is page; coverage-table is coverage with --csv
@@ -35,7 +37,7 @@ REPORTS = {"statement": ["statement"], "table": ["statement", "--csv"], "adjustm
 LISTS = frozenset("disputes periods record".split())
 OTHER_PRICES = frozenset("what-if what-if-table".split())
 DUMPS = frozenset("import check trial".split())
-RULINGS = frozenset("tariff close choose".split())
+RULINGS = frozenset("tariff replace close choose withhold credit".split())
 
 
 class Books(Session):
@@ -57,8 +59,8 @@ class Books(Session):
 
     def words_for(self, names, verb, words, body):
         """The words of the command that a line is for short."""
-        if verb == "tariff":
-            return ["tariff", "@books", self.text_file(names, words, body)]
+        if verb in ("tariff", "replace"):
+            return ["tariff", "@books", self.text_file(names, words, body), *["--replace"] * (verb == "replace")]
         if verb == "import":
             return ["import", "@books", self.dump_file(names, words), *self.layout]
         if verb == "check":
@@ -67,6 +69,11 @@ class Books(Session):
             return ["trial", "--cpu", words[0], "--excp", words[1], "--record", words[2], *self.layout]
         if verb in ("choose", "record") and len(words) == 1:
             return [verb, "@books", names.record(words[0])]
+        if verb == "withhold" and len(words) == 1:
+            return ["choose", "@books", names.record(words[0]), "--none"]
+        if verb == "credit" and len(words) == 4:
+            period, centre, amount, reason = words
+            return ["credit", "@books", period, centre, "--", units(int(amount)), reason]
         if verb == "close" and len(words) == 2:
             return ["close", "@books", *words]
         if verb == "adopt" and words == ["2"] or verb in ("disputes", "periods") and not words:
@@ -177,6 +184,11 @@ class Books(Session):
 
 def of_centre(words):
     return [part for word in words for part in ("--centre", word)]
+
+
+def units(amount):
+    """An amount that is counted in ten-thousandths."""
+    return "%s%d.%04d" % ("-" * (amount < 0), *divmod(abs(amount), 10000))
 
 
 def date(text):

@@ -17,8 +17,8 @@ NAMING = frozenset("row dump text".split())
 
 # Lines that leave books as they are, whoever answers them.
 ASKING = frozenset("""changes check trial reader writer what-if what-if-table disputes periods record office-page get post-text
-    connection split records layout price plan receipt write say rows lines marks closed choices tariffs detail book identities
-    index""".split()) | frozenset(books.REPORTS)
+    connection split records layout price plan receipt write say rows lines marks closed choices tariffs detail book credits
+    replaced identities index""".split()) | frozenset(books.REPORTS)
 
 # How many lines of a script are named that nobody plays.
 MOST_NAMED = 3

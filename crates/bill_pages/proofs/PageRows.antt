@@ -31,7 +31,7 @@ unfolding parts_page
 all_pages period parts =
     in_order (part_page period parts.steps_by_shift) (part_page period parts.jobs_by_shift)
     (part_page period parts.steps_by_day) (part_page period parts.jobs_by_day)
-    (part_page period parts.late) (part_page period parts.reversed)
+    (part_page period parts.late) (part_page period parts.reversed) (part_page period parts.credits)
 
 -- so it stands in these
 pub in_pages : (period : List ℕ) (parts : PartsSeen) (part : PartSeen) (row : Fields)

@@ -15,9 +15,9 @@ four a b c d e = simp append_assoc
 pub behind_three : (all a b c : List ℕ) → all ++ a ++ b ++ c ≡ all ++ (a ++ b ++ c)
 behind_three all a b c = simp append_assoc
 
-pub in_order : (a b c d e f : List ℕ) → a ++ b ++ c ++ d ++ e ++ f
-    ≡ a ++ (b ++ (c ++ (d ++ (e ++ (f ++ [])))))
-in_order a b c d e f = simp (append_assoc, append-nil)
+pub in_order : (a b c d e f g : List ℕ) → a ++ b ++ c ++ d ++ e ++ f ++ g
+    ≡ a ++ (b ++ (c ++ (d ++ (e ++ (f ++ (g ++ []))))))
+in_order a b c d e f g = simp (append_assoc, append-nil)
 
 -- what is made of an element stands in what is made of all
 pub each_stands : {X : Type 0} (f : X → List ℕ) (xs : List X) (x : X) → Contains xs x

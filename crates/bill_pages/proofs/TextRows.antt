@@ -26,7 +26,7 @@ unfolding parts_text
 all_texts parts =
     in_order (part_text parts.steps_by_shift) (part_text parts.jobs_by_shift)
     (part_text parts.steps_by_day) (part_text parts.jobs_by_day) (part_text parts.late)
-    (part_text parts.reversed)
+    (part_text parts.reversed) (part_text parts.credits)
 
 -- so it stands in these
 pub in_texts : (parts : PartsSeen) (part : PartSeen) (row : Fields) → Contains (parts_in parts) part

@@ -10,9 +10,11 @@ use Rattle.html_text.specs.Escaping.{escaped}
 use Rattle.page_texts.specs.Frame.{head_start}
 use Rattle.page_texts.specs.Letterheads.{office_name}
 use Rattle.bill_texts.specs.Sheets.{Fields, PartsSeen, SheetSeen, text_at}
+use Rattle.bill_texts.specs.declared.part.Layout.{Layout}
+use Rattle.bill_texts.specs.declared.part.Layout.TheVariants as laid
 use Rattle.bill_pages.specs.declared.bill_head.PageHead.{PageHead}
 use Rattle.bill_pages.specs.Grouped.{grouped}
-use Rattle.bill_pages.specs.PageStyle.{bill_style}
+use Rattle.bill_pages.specs.PageStyle.{bill_style, credit_style}
 use Rattle.bill_pages.specs.SheetPages.{part_lines, parts_page, terms_page}
 
 -- whose bill it is, and of which days
@@ -53,9 +55,9 @@ unfoldable pub bill_path : HeadSeen → List ℕ
 bill_path head = decimal head.period ++ centre_after (codes "/") head.centre
 
 -- what stands above the page's own text, with its name at the foot of each sheet
-unfoldable pub page_start : List ℕ → List ℕ
-page_start name =
-    head_start ++ name ++ codes "</title>\n<style>\n" ++ bill_style
+unfoldable pub page_start : List ℕ → Layout → List ℕ
+page_start name sums =
+    head_start ++ name ++ codes "</title>\n<style>\n" ++ bill_style ++ credit_style sums
     ++ codes "@page{@bottom-left{content:'" ++ name ++ codes "'}}\n</style>\n</head>\n<body>\n<main>\n"
 
 -- whose bill it is
@@ -95,18 +97,23 @@ unfoldable pub other_sum : List ℕ → List ℕ → List ℕ
 other_sum word figure =
     codes "<div><dt>" ++ word ++ codes "</dt><dd>" ++ grouped figure ++ codes "</dd></div>\n"
 
+-- what is credited, where the sums have a column of it
+unfoldable pub credits_sum : Layout → Fields → List ℕ
+credits_sum laid.CreditedSums row = other_sum (codes "Credits") (text_at row 6)
+credits_sum layout row = []
+
 -- the box: what is owed and booked, and of what
-unfoldable pub sums_box : Option (List ℕ) → Fields → List ℕ
-sums_box currency row =
+unfoldable pub sums_box : Option (List ℕ) → Layout → Fields → List ℕ
+sums_box currency layout row =
     codes "<dl>\n" ++ main_sum (codes "Owed") (text_at row 4) currency
     ++ main_sum (codes "Booked") (text_at row 5) currency
     ++ other_sum (codes "Charged") (text_at row 1) ++ other_sum (codes "Late") (text_at row 2)
-    ++ other_sum (codes "Reversed") (text_at row 3) ++ codes "</dl>\n"
+    ++ other_sum (codes "Reversed") (text_at row 3) ++ credits_sum layout row ++ codes "</dl>\n"
 
 -- of the sums of all centres, or of the one
-abbrev pub box_of : Option (List ℕ) → List Fields → Option Fields → List ℕ
-box_of currency rows None = flat_map (sums_box currency) rows
-box_of currency rows (Some total) = sums_box currency total
+abbrev pub box_of : Option (List ℕ) → Layout → List Fields → Option Fields → List ℕ
+box_of currency layout rows None = flat_map (sums_box currency layout) rows
+box_of currency layout rows (Some total) = sums_box currency layout total
 
 -- what is held back in dispute
 unfoldable pub held_page : Option HeldBack → List ℕ
@@ -148,8 +155,9 @@ links_end head =
 -- what each page begins with
 unfoldable pub bill_top : HeadSeen → SheetSeen → List ℕ
 bill_top head sheet =
-    page_start (bill_name head) ++ head_page (bill_name head) head
-    ++ box_of head.letterhead.currency sheet.sums.rows sheet.sums.total ++ held_page head.held
+    page_start (bill_name head) sheet.sums.layout ++ head_page (bill_name head) head
+    ++ box_of head.letterhead.currency sheet.sums.layout sheet.sums.rows sheet.sums.total
+    ++ held_page head.held
 
 -- the page of the office's bill
 abbrev pub office_bill_page : HeadSeen → SheetSeen → List ℕ

@@ -2,7 +2,9 @@
 -- telephone a row is two lines, and the style says what its figures are. On paper, whatever its size,
 -- each sheet has the bill's number, the number of the sheet and the title of the table that goes on, and
 -- no row is cut.
-use Rattle.std.specs.Prelude.{ℕ, List, ◌++◌, codes}
+use Rattle.std.specs.Prelude.{ℕ, List, [], ◌++◌, codes}
+use Rattle.bill_texts.specs.declared.part.Layout.{Layout}
+use Rattle.bill_texts.specs.declared.part.Layout.TheVariants as laid
 
 unfoldable pub bill_style : List ℕ
 bill_style =
@@ -96,3 +98,14 @@ bill_style =
     ++ codes "tfoot{break-before:avoid}\n"
     ++ codes "thead .title th{font-size:1.25rem}.records .name td{font-size:.85rem}\n"
     ++ codes "}\n"
+
+-- what a bill with credits has of its own: its sums have a column more, and a reason may have several
+-- lines
+unfoldable pub credit_style : Layout → List ℕ
+credit_style laid.CreditedSums =
+    codes ".credits tr>:first-child{text-align:left;white-space:normal;overflow-wrap:anywhere}\n"
+    ++ codes "@media screen and (max-width:44rem){\n"
+    ++ codes ".credited tr>:nth-child(5)::before{content:'credits '}"
+    ++ codes ".credited tr>:nth-child(6)::before{content:'owed '}\n"
+    ++ codes "}\n"
+credit_style layout = []

@@ -56,11 +56,13 @@ centre_link period row =
 -- a row of a part, on the page of a period
 unfoldable pub line_page : List ℕ → Layout → Fields → List ℕ
 line_page period laid.Sums row = row_page laid.Sums (centre_link period row) row
+line_page period laid.CreditedSums row = row_page laid.CreditedSums (centre_link period row) row
 line_page period laid.Prices row = price_page row
 line_page period laid.Percents row = row_page laid.Percents (escaped (text_at row 0)) row
 line_page period laid.Work row = row_page laid.Work (escaped (text_at row 0)) row
 line_page period laid.Counts row = row_page laid.Counts (escaped (text_at row 0)) row
 line_page period laid.Records row = record_page row
+line_page period laid.Credits row = row_page laid.Credits (escaped (text_at row 0)) row
 
 -- what stands before the rows of a part and behind them: each record has a body of its own
 unfoldable pub body_start : Layout → List ℕ
@@ -85,6 +87,9 @@ unfoldable pub table_start : Layout → List ℕ
 table_start laid.Sums =
     codes "<table class='rows centres'>\n<thead>\n<tr class='title'>"
     ++ codes "<th colspan='6' scope='colgroup'>"
+table_start laid.CreditedSums =
+    codes "<table class='rows centres credited'>\n<thead>\n<tr class='title'>"
+    ++ codes "<th colspan='7' scope='colgroup'>"
 table_start laid.Prices =
     codes "<table class='prices'>\n<thead>\n<tr class='title'>"
     ++ codes "<th colspan='5' scope='colgroup'>"
@@ -100,6 +105,9 @@ table_start laid.Counts =
 table_start laid.Records =
     codes "<table class='rows records'>\n<thead>\n<tr class='title'>"
     ++ codes "<th colspan='8' scope='colgroup'>"
+table_start laid.Credits =
+    codes "<table class='rows credits'>\n<thead>\n<tr class='title'>"
+    ++ codes "<th colspan='2' scope='colgroup'>"
 
 -- its title
 unfoldable pub page_title : PartName → List ℕ
@@ -112,6 +120,7 @@ page_title named.StepsByDay = codes "Steps by day"
 page_title named.JobsByDay = codes "Jobs by day"
 page_title named.Late = codes "Late"
 page_title named.Reversed = codes "Reversed"
+page_title named.Credits = codes "Credits"
 
 -- the word above its first column
 unfoldable pub first_heading : PartName → List ℕ
@@ -124,6 +133,7 @@ first_heading named.StepsByDay = codes "Day"
 first_heading named.JobsByDay = codes "Day"
 first_heading named.Late = codes "Day"
 first_heading named.Reversed = codes "Day"
+first_heading named.Credits = codes "Reason"
 
 -- the words above the others
 unfoldable pub other_headings : Layout → List ℕ
@@ -131,6 +141,10 @@ other_headings laid.Sums =
     codes "</th><th scope='col'>Charged</th><th scope='col'>Late</th>"
     ++ codes "<th scope='col'>Reversed</th><th scope='col'>Owed</th><th scope='col'>"
     ++ codes "Booked</th></tr>\n</thead>\n"
+other_headings laid.CreditedSums =
+    codes "</th><th scope='col'>Charged</th><th scope='col'>Late</th>"
+    ++ codes "<th scope='col'>Reversed</th><th scope='col'>Credits</th>"
+    ++ codes "<th scope='col'>Owed</th><th scope='col'>Booked</th></tr>\n</thead>\n"
 other_headings laid.Prices =
     codes "</th><th scope='col'>For a</th><th scope='col'>Record</th>"
     ++ codes "<th scope='col'>CPU second</th><th scope='col'>1,000 blocks</th></tr>"
@@ -150,6 +164,8 @@ other_headings laid.Records =
     codes "</th><th scope='col'>Shift</th><th scope='col'>Job</th><th scope='col'>"
     ++ codes "Program</th><th scope='col'>Job id</th><th scope='col'>Step</th>"
     ++ codes "<th scope='col'>Of period</th><th scope='col'>Amount</th></tr>\n</thead>\n"
+other_headings laid.Credits =
+    codes "</th><th scope='col'>Amount</th></tr>\n</thead>\n"
 
 -- all that stands above its rows
 unfoldable pub part_head : PartSeen → List ℕ
@@ -184,3 +200,4 @@ parts_page period parts =
     part_page period parts.steps_by_shift ++ part_page period parts.jobs_by_shift
     ++ part_page period parts.steps_by_day ++ part_page period parts.jobs_by_day
     ++ part_page period parts.late ++ part_page period parts.reversed
+    ++ part_page period parts.credits

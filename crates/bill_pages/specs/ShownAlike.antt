@@ -22,7 +22,7 @@ pub record StandsIn (part all : List ℕ) : Type 0 where
 abbrev pub parts_in : PartsSeen → List PartSeen
 parts_in parts =
     parts.steps_by_shift ∷ parts.jobs_by_shift ∷ parts.steps_by_day ∷ parts.jobs_by_day
-    ∷ parts.late ∷ parts.reversed ∷ []
+    ∷ parts.late ∷ parts.reversed ∷ parts.credits ∷ []
 
 -- a byte that figures are made of: a digit, a sign, or the point
 abbrev pub is_figure_byte : ℕ → Bool

@@ -12,8 +12,8 @@ ghost use Rattle.bill_pages.specs.BillPages as spec;
 ghost use Rattle.bill_pages.specs.Grouped.{grouped};
 
 use crate::grouped::{push_figure, push_made_figure};
-use crate::page_style::push_bill_style;
-use bill_texts::{Part, text_at};
+use crate::page_style::{push_bill_style, push_credit_style};
+use bill_texts::{Layout, Part, text_at};
 use book_model::HeldBack;
 use csv::StringRecord;
 use html_text::push_escaped;
@@ -84,13 +84,14 @@ pub(crate) fn push_bill_path(out: &mut Draft, head: &PageHead<'_>)
 
 /// Appends what stands above the page's own text.
 #[tactic(auto, unfolding(crate::specs::BillPages::page_start))]
-pub(crate) fn push_page_start(out: &mut Draft, name: &Draft)
-    ensures { out.new ≡ out.old ++ spec.page_start name.now }
+pub(crate) fn push_page_start(out: &mut Draft, name: &Draft, sums: Layout)
+    ensures { out.new ≡ out.old ++ spec.page_start name.now sums }
 {
     push_head_start(out);
     out.push_draft(name);
     out.push_str("</title>\n<style>\n");
     push_bill_style(out);
+    push_credit_style(out, sums);
     out.push_str("@page{@bottom-left{content:'");
     out.push_draft(name);
     out.push_str("'}}\n</style>\n</head>\n<body>\n<main>\n");
@@ -197,11 +198,23 @@ fn push_other_sum(out: &mut Draft, word: &str, figure: &str)
     out.push_str("</dd></div>\n");
 }
 
+/// Appends what is credited, where the sums have a column of it.
+#[tactic(auto, unfolding(crate::specs::BillPages::credits_sum))]
+fn push_credits_sum(out: &mut Draft, layout: Layout, row: &StringRecord)
+    ensures { out.new ≡ out.old ++ spec.credits_sum layout (fields_of row.now) }
+{
+    match layout {
+        Layout::CreditedSums => push_other_sum(out, "Credits", text_at(row, 6)),
+        _ => {}
+    }
+}
+
 /// Appends the box of sums.
 #[tactic(auto, unfolding(crate::specs::BillPages::sums_box))]
-fn push_sums(out: &mut Draft, currency: &Option<String>, row: &StringRecord)
+fn push_sums(out: &mut Draft, currency: &Option<String>, layout: Layout, row: &StringRecord)
     ensures { out.new ≡ out.old
-        ++ spec.sums_box (option_map (λ text. string_bytes text) currency.now) (fields_of row.now) }
+        ++ spec.sums_box (option_map (λ text. string_bytes text) currency.now) layout
+        (fields_of row.now) }
 {
     out.push_str("<dl>\n");
     push_main_sum(out, "Owed", text_at(row, 4), currency);
@@ -209,28 +222,29 @@ fn push_sums(out: &mut Draft, currency: &Option<String>, row: &StringRecord)
     push_other_sum(out, "Charged", text_at(row, 1));
     push_other_sum(out, "Late", text_at(row, 2));
     push_other_sum(out, "Reversed", text_at(row, 3));
+    push_credits_sum(out, layout, row);
     out.push_str("</dl>\n");
 }
 
 /// Appends it, if there was memory to make its sums.
-fn push_box(out: &mut Draft, currency: &Option<String>, row: &RowDraft)
+fn push_box(out: &mut Draft, currency: &Option<String>, layout: Layout, row: &RowDraft)
     ensures { out.new ≡ out.old
-        ++ spec.sums_box (option_map (λ text. string_bytes text) currency.now) row.now }
+        ++ spec.sums_box (option_map (λ text. string_bytes text) currency.now) layout row.now }
 {
     match row.whole() {
-        Some(fields) => push_sums(out, currency, fields),
-        None => out.leave_out(&(currency, row)),
+        Some(fields) => push_sums(out, currency, layout, fields),
+        None => out.leave_out(&((currency, layout), row)),
     }
 }
 
 /// Appends that of each row.
 #[tactic(auto, using(std::proofs::lemmas::List::flat_map_more))]
-fn push_boxes(out: &mut Draft, currency: &Option<String>, rows: &[RowDraft])
+fn push_boxes(out: &mut Draft, currency: &Option<String>, layout: Layout, rows: &[RowDraft])
     ensures { out.new ≡ out.old ++ flat_map
-        (spec.sums_box (option_map (λ text. string_bytes text) currency.now)) rows.now }
+        (spec.sums_box (option_map (λ text. string_bytes text) currency.now) layout) rows.now }
 {
     for row in rows {
-        push_box(out, currency, row);
+        push_box(out, currency, layout, row);
     }
 }
 
@@ -238,11 +252,11 @@ fn push_boxes(out: &mut Draft, currency: &Option<String>, rows: &[RowDraft])
 pub(crate) fn push_box_of(out: &mut Draft, currency: &Option<String>, sums: &Part)
     ensures { out.new ≡ out.old
         ++ spec.box_of (option_map (λ text. string_bytes text) currency.now)
-        (part_shown sums.now).rows (part_shown sums.now).total }
+        (part_shown sums.now).layout (part_shown sums.now).rows (part_shown sums.now).total }
 {
     match &sums.total {
-        None => push_boxes(out, currency, &sums.rows),
-        Some(row) => push_box(out, currency, row),
+        None => push_boxes(out, currency, sums.layout, &sums.rows),
+        Some(row) => push_box(out, currency, sums.layout, row),
     }
 }
 

@@ -34,7 +34,7 @@ fn push_top(out: &mut Draft, head: &PageHead<'_>, sheet: &Sheet)
 {
     let mut name = Draft::new(out.alloc());
     push_bill_name(&mut name, head);
-    push_page_start(out, &name);
+    push_page_start(out, &name, sheet.sums.layout);
     push_head(out, &name, head);
     push_box_of(out, &head.letterhead.currency, &sheet.sums);
     push_held(out, head.held);

@@ -3,6 +3,7 @@
 ghost use Rattle.std.specs.Prelude.{◌≡◌, ◌++◌};
 ghost use Rattle.bill_pages.specs.PageStyle as spec;
 
+use bill_texts::Layout;
 use text_drafts::Draft;
 
 /// For a browser, for a telephone and for paper.
@@ -105,4 +106,24 @@ pub(crate) fn push_bill_style(out: &mut Draft)
     ensures { out.new ≡ out.old ++ spec.bill_style }
 {
     out.push_str(STYLE);
+}
+
+/// For a bill with credits: its sums have a column more, and a reason may have several lines.
+const CREDIT_STYLE: &str = "\
+    .credits tr>:first-child{text-align:left;white-space:normal;overflow-wrap:anywhere}\n\
+    @media screen and (max-width:44rem){\n\
+    .credited tr>:nth-child(5)::before{content:'credits '}\
+    .credited tr>:nth-child(6)::before{content:'owed '}\n\
+    }\n\
+";
+
+/// Appends the style of credits, where a bill has some.
+#[tactic(auto, unfolding(crate::specs::PageStyle::credit_style))]
+pub(crate) fn push_credit_style(out: &mut Draft, sums: Layout)
+    ensures { out.new ≡ out.old ++ spec.credit_style sums }
+{
+    match sums {
+        Layout::CreditedSums => out.push_str(CREDIT_STYLE),
+        _ => {}
+    }
 }

@@ -152,13 +152,13 @@ fn push_centre_link(out: &mut Draft, period: u16, row: &StringRecord)
 }
 
 /// Appends the sums of a centre.
-fn push_centre(out: &mut Draft, period: u16, row: &StringRecord)
-    ensures { out.new ≡ out.old ++ spec.row_page Layout.Sums
+fn push_centre(out: &mut Draft, period: u16, layout: Layout, row: &StringRecord)
+    ensures { out.new ≡ out.old ++ spec.row_page layout
         (spec.centre_link (decimal period) (fields_of row.now)) (fields_of row.now) }
 {
     let mut first = Draft::new(out.alloc());
     push_centre_link(&mut first, period, row);
-    push_cells(out, Layout::Sums, &first, row);
+    push_cells(out, layout, &first, row);
 }
 
 /// Appends a row of a part, on the page of a period.
@@ -167,12 +167,14 @@ fn push_fields(out: &mut Draft, period: u16, layout: Layout, row: &StringRecord)
     ensures { out.new ≡ out.old ++ spec.line_page (decimal period) layout (fields_of row.now) }
 {
     match layout {
-        Layout::Sums => push_centre(out, period, row),
+        Layout::Sums => push_centre(out, period, Layout::Sums, row),
+        Layout::CreditedSums => push_centre(out, period, Layout::CreditedSums, row),
         Layout::Prices => push_prices(out, row),
         Layout::Percents => push_words(out, Layout::Percents, row),
         Layout::Work => push_words(out, Layout::Work, row),
         Layout::Counts => push_words(out, Layout::Counts, row),
         Layout::Records => push_record(out, row),
+        Layout::Credits => push_words(out, Layout::Credits, row),
     }
 }
 
@@ -256,6 +258,11 @@ const SUMS_START: &str = "\
     <th colspan='6' scope='colgroup'>\
 ";
 
+const CREDITED_START: &str = "\
+    <table class='rows centres credited'>\n<thead>\n<tr class='title'>\
+    <th colspan='7' scope='colgroup'>\
+";
+
 const PRICES_START: &str = "\
     <table class='prices'>\n<thead>\n<tr class='title'>\
     <th colspan='5' scope='colgroup'>\
@@ -276,10 +283,21 @@ const RECORDS_START: &str = "\
     <th colspan='8' scope='colgroup'>\
 ";
 
+const CREDITS_START: &str = "\
+    <table class='rows credits'>\n<thead>\n<tr class='title'>\
+    <th colspan='2' scope='colgroup'>\
+";
+
 const SUMS_HEADINGS: &str = "\
     </th><th scope='col'>Charged</th><th scope='col'>Late</th>\
     <th scope='col'>Reversed</th><th scope='col'>Owed</th><th scope='col'>\
     Booked</th></tr>\n</thead>\n\
+";
+
+const CREDITED_HEADINGS: &str = "\
+    </th><th scope='col'>Charged</th><th scope='col'>Late</th>\
+    <th scope='col'>Reversed</th><th scope='col'>Credits</th>\
+    <th scope='col'>Owed</th><th scope='col'>Booked</th></tr>\n</thead>\n\
 ";
 
 const PRICES_HEADINGS: &str = "\
@@ -311,6 +329,8 @@ const RECORDS_HEADINGS: &str = "\
     <th scope='col'>Of period</th><th scope='col'>Amount</th></tr>\n</thead>\n\
 ";
 
+const CREDITS_HEADINGS: &str = "</th><th scope='col'>Amount</th></tr>\n</thead>\n";
+
 /// Appends the beginning of a table.
 #[tactic(auto, unfolding(crate::specs::SheetPages::table_start))]
 fn push_table_start(out: &mut Draft, layout: Layout)
@@ -318,11 +338,13 @@ fn push_table_start(out: &mut Draft, layout: Layout)
 {
     match layout {
         Layout::Sums => out.push_str(SUMS_START),
+        Layout::CreditedSums => out.push_str(CREDITED_START),
         Layout::Prices => out.push_str(PRICES_START),
         Layout::Percents => out.push_str(PERCENTS_START),
         Layout::Work => out.push_str(WORK_START),
         Layout::Counts => out.push_str(WORK_START),
         Layout::Records => out.push_str(RECORDS_START),
+        Layout::Credits => out.push_str(CREDITS_START),
     }
 }
 
@@ -341,6 +363,7 @@ fn push_title(out: &mut Draft, name: PartName)
         PartName::JobsByDay => out.push_str("Jobs by day"),
         PartName::Late => out.push_str("Late"),
         PartName::Reversed => out.push_str("Reversed"),
+        PartName::Credits => out.push_str("Credits"),
     }
 }
 
@@ -359,6 +382,7 @@ fn push_first_heading(out: &mut Draft, name: PartName)
         PartName::JobsByDay => out.push_str("Day"),
         PartName::Late => out.push_str("Day"),
         PartName::Reversed => out.push_str("Day"),
+        PartName::Credits => out.push_str("Reason"),
     }
 }
 
@@ -369,11 +393,13 @@ fn push_other_headings(out: &mut Draft, layout: Layout)
 {
     match layout {
         Layout::Sums => out.push_str(SUMS_HEADINGS),
+        Layout::CreditedSums => out.push_str(CREDITED_HEADINGS),
         Layout::Prices => out.push_str(PRICES_HEADINGS),
         Layout::Percents => out.push_str(PERCENTS_HEADINGS),
         Layout::Work => out.push_str(WORK_HEADINGS),
         Layout::Counts => out.push_str(COUNTS_HEADINGS),
         Layout::Records => out.push_str(RECORDS_HEADINGS),
+        Layout::Credits => out.push_str(CREDITS_HEADINGS),
     }
 }
 
@@ -444,4 +470,5 @@ pub(crate) fn push_parts(out: &mut Draft, period: u16, parts: &CentreParts)
     push_part(out, period, &parts.jobs_by_day);
     push_part(out, period, &parts.late);
     push_part(out, period, &parts.reversed);
+    push_part(out, period, &parts.credits);
 }

@@ -1,8 +1,9 @@
 -- The sheet of a bill: what stands on the bill of a centre, and on that of the office.
-use Rattle.std.specs.Prelude.{ℕ, Bool, true, false, List}
+use Rattle.std.specs.Prelude.{ℕ, nat_lt, Bool, true, false, List, length}
 use Rattle.book_model.specs.Words.{BillSeen}
 use Rattle.report_texts.specs.Charges.{all_charges, each_charges}
 use Rattle.bill_texts.specs.declared.part.PartName.TheVariants as named
+use Rattle.bill_texts.specs.CreditRows.{credits_part}
 use Rattle.bill_texts.specs.RecordRows.{side_part}
 use Rattle.bill_texts.specs.Sheets.{PartSeen, PartsSeen, SheetSeen}
 use Rattle.bill_texts.specs.SumsRows.{centre_sums, office_sums}
@@ -17,17 +18,23 @@ sheet_with sums bill = record {
   percents = percents_part bill.shifts;
 }
 
+-- some credit stands on the bill
+abbrev pub has_credits : BillSeen → Bool
+has_credits bill = nat_lt 0 (length bill.credits)
+
 abbrev pub centre_sheet : List ℕ → BillSeen → SheetSeen
 centre_sheet centre bill =
     sheet_with
-    (centre_sums bill.letterhead.decimals
+    (centre_sums (has_credits bill) bill.letterhead.decimals
     (record { centre = centre; charges = all_charges bill }))
     bill
 
 abbrev pub office_sheet : BillSeen → SheetSeen
 office_sheet bill =
     sheet_with
-    (office_sums bill.letterhead.decimals (each_charges bill) (all_charges bill)) bill
+    (office_sums (has_credits bill) bill.letterhead.decimals (each_charges bill)
+    (all_charges bill))
+    bill
 
 -- what steps cost by shift and by day, and what jobs cost
 abbrev pub step_parts : BillSeen → PartSeen × PartSeen
@@ -58,4 +65,5 @@ centre_parts bill = record {
   jobs_by_day = (job_parts bill).1;
   late = side_of true bill (all_charges bill).late;
   reversed = side_of false bill (all_charges bill).reversed;
+  credits = credits_part bill.credits (all_charges bill);
 }

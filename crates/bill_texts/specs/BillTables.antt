@@ -1,6 +1,6 @@
--- Bills as tables of comma-separated values: of a centre a line for each row and each line, and below
--- them one for each price and percent by which these are worked out; of the office a line for each
--- centre.
+-- Bills as tables of comma-separated values: of a centre a line for each row, each line and each
+-- credit, and below them one for each price and percent by which rows are worked out; of the office a
+-- line for each centre.
 use Rattle.std.specs.Prelude.{ℕ, Bool, true, if◌then◌else◌, List, [], ◌∷◌, ◌++◌, codes, flat_map}
 use Rattle.std.specs.Prelude.{decimal, ℤ}
 use Rattle.book_model.specs.Std.{int_eq}
@@ -11,10 +11,10 @@ use Rattle.book_model.specs.declared.bill.BilledShift.{BilledShift}
 use Rattle.book_model.specs.declared.bill.BilledTariff.{BilledTariff}
 use Rattle.book_model.specs.declared.line.Line.{Line}
 use Rattle.book_model.specs.declared.row.ChargeRow.{ChargeRow}
-use Rattle.book_model.specs.Words.{BillSeen, day_text_of, show_text}
+use Rattle.book_model.specs.Words.{BillSeen, Credit, day_text_of, show_text}
 use Rattle.report_texts.specs.AdjustmentLists.{charged_amount, reversed_amount, signed_text}
 use Rattle.report_texts.specs.AdjustmentLists.{word_of}
-use Rattle.report_texts.specs.Charges.{each_charges, owed_text}
+use Rattle.report_texts.specs.Charges.{credits_text, each_charges, owed_text, plain_credit}
 use Rattle.report_texts.specs.Columns.{amount_text, number_text, seconds_text}
 use Rattle.report_texts.specs.Tables.{fields_line, key_fields}
 use Rattle.report_texts.specs.declared.charges.CentreCharges.{CentreCharges}
@@ -68,6 +68,14 @@ unfoldable pub billed_row : ℕ → BilledLine → List ℕ
 billed_row period billed =
     fields_line (decimal period ∷ key_fields billed.line.priced ++ billed_fields billed)
 
+-- a credit, with its reason where a line has a job: what it takes off is below 0 here
+unfoldable pub credit_row : ℕ → Credit → List ℕ
+credit_row period credit =
+    let plain = plain_credit credit in
+    fields_line (decimal period ∷ [] ∷ credit.centre ∷ [] ∷ codes "CREDIT" ∷ [] ∷ [] ∷ []
+    ∷ signed_text plain.debited plain.credited
+    ∷ [] ∷ [] ∷ credit.reason ∷ [] ∷ [] ∷ [] ∷ [] ∷ [])
+
 -- the prices of a tariff: of a record, of a CPU second and of 1,000 blocks, each where the rows have
 -- what it multiplies. No amount stands there, so all amounts together are what is owed.
 unfoldable pub price_row : ℕ → List ℕ → List ℕ → List ℕ → RatesOf → List ℕ
@@ -98,34 +106,38 @@ tariff_rows period centre shifts tariff =
     ++ price_row period centre (day_text_of tariff.day) (codes "JOB-PRICE") tariff.job
     ++ flat_map (percent_rows period centre tariff.day) shifts
 
--- the names of the columns, the steps, the jobs, the lines, and the tariffs; there is no total
+-- the names of the columns, the steps, the jobs, the lines, the credits, and the tariffs; there is no
+-- total
 abbrev pub bill_table : List ℕ → ℕ → BillSeen → List ℕ
 bill_table centre period bill =
     fields_line bill_heading
     ++ flat_map (work_row period (codes "STEPS") true bill.shifts) bill.steps
     ++ flat_map (work_row period (codes "JOBS") (jobs_have_work bill.tariffs) bill.shifts) bill.jobs
     ++ flat_map (billed_row period) bill.lines
+    ++ flat_map (credit_row period) bill.credits
     ++ flat_map (tariff_rows period centre bill.shifts) bill.tariffs
 
 -- the names of the columns of the office's bill
 abbrev pub office_columns : Fields
 office_columns =
     codes "period" ∷ codes "centre" ∷ codes "steps" ∷ codes "jobs" ∷ codes "late"
-    ∷ codes "reversed" ∷ codes "owed" ∷ codes "booked" ∷ []
+    ∷ codes "reversed" ∷ codes "owed" ∷ codes "booked" ∷ codes "credits" ∷ []
 
--- what a centre is charged, the sum that it owes, and what is booked of that
+-- what a centre is charged, the sum that it owes, what is booked of that, and what is credited
 unfoldable pub charge_fields : ℕ → Charges → Fields
 charge_fields decimals charges =
     amount_text charges.steps ∷ amount_text charges.jobs ∷ amount_text charges.late
     ∷ amount_text charges.reversed ∷ owed_text charges
-    ∷ booked_text decimals (booked (unit_of decimals) (owed_of charges)) ∷ []
+    ∷ booked_text decimals (booked (unit_of decimals) (owed_of charges))
+    ∷ credits_text charges ∷ []
 
 -- its line
 unfoldable pub centre_row : ℕ → ℕ → CentreCharges → List ℕ
 centre_row period decimals own =
     fields_line (decimal period ∷ own.centre ∷ charge_fields decimals own.charges)
 
--- the names of the columns, and a line for each centre that has a row or a line; there is no total
+-- the names of the columns, and a line for each centre that has a row, a line or a credit; there is
+-- no total
 abbrev pub office_bill_table : ℕ → BillSeen → List ℕ
 office_bill_table period bill =
     fields_line office_columns

@@ -4,7 +4,7 @@ use Rattle.std.specs.Prelude.{negsuc, neg_ℤ, ◌+ℤ◌, ◌-ℤ◌, ◌*ℤ�
 use Rattle.std.specs.Prelude.{◌++◌, codes, length, map}
 use Rattle.std.specs.Fmt.{decimal}
 use Rattle.book_model.specs.Words.{BillSeen}
-use Rattle.report_texts.specs.Charges.{each_charges}
+use Rattle.report_texts.specs.Charges.{charged_in, each_charges, taken_in}
 use Rattle.report_texts.specs.Columns.{amount_text}
 use Rattle.report_texts.specs.declared.charges.CentreCharges.{CentreCharges}
 use Rattle.report_texts.specs.declared.charges.Charges.{Charges}
@@ -27,9 +27,9 @@ abbrev pub booked : ℕ → ℤ → ℤ
 booked unit (pos owed) = pos (nearest unit owed)
 booked unit (negsuc less) = neg_ℤ (pos (nearest unit (suc less)))
 
--- what is owed for charges: all that is charged, less what is reversed
+-- what is owed for charges: all that is charged, less what is taken off
 abbrev pub owed_of : Charges → ℤ
-owed_of charges = pos (charges.steps + charges.jobs + charges.late) -ℤ pos charges.reversed
+owed_of charges = pos (charged_in charges) -ℤ pos (taken_in charges)
 
 -- several sums together
 abbrev pub sum_of : List ℤ → ℤ

@@ -7,6 +7,7 @@ pub mod SumsRows
 pub mod TermsRows
 pub mod WorkRows
 pub mod RecordRows
+pub mod CreditRows
 pub mod BillSheets
 pub mod SheetTexts
 pub mod BillTexts

@@ -37,6 +37,9 @@ unfoldable pub heading : Layout → List ℕ
 heading laid.Sums =
     codes "CENTRE                 CHARGED          LATE      REVERSED"
     ++ codes "          OWED        BOOKED\n"
+heading laid.CreditedSums =
+    codes "CENTRE                 CHARGED          LATE      REVERSED"
+    ++ codes "       CREDITS          OWED        BOOKED\n"
 heading laid.Prices =
     codes "TARIFF     OF A                         RECORD             CPU"
     ++ codes "     1000 BLOCKS\n"
@@ -46,6 +49,9 @@ heading laid.Counts = work_heading (codes "                                ")
 heading laid.Records =
     codes "DAY        SHIFT            JOB      PROGRAM  JOBID     STEP PERIOD"
     ++ codes "                           AMOUNT\n"
+heading laid.Credits =
+    codes "REASON                                                            "
+    ++ codes "                            AMOUNT\n"
 
 -- the title of a part, and before the other words above its columns the one that names its days
 unfoldable pub title : PartName → List ℕ
@@ -58,6 +64,7 @@ title named.StepsByDay = codes "STEPS BY DAY\nDAY        "
 title named.JobsByDay = codes "JOBS BY DAY\nDAY        "
 title named.Late = codes "LATE\n"
 title named.Reversed = codes "REVERSED\n"
+title named.Credits = codes "CREDITS\n"
 
 -- the line of sums, where there is one
 unfoldable pub total_text : Layout → Option Fields → List ℕ
@@ -83,4 +90,4 @@ unfoldable pub parts_text : PartsSeen → List ℕ
 parts_text parts =
     part_text parts.steps_by_shift ++ part_text parts.jobs_by_shift
     ++ part_text parts.steps_by_day ++ part_text parts.jobs_by_day
-    ++ part_text parts.late ++ part_text parts.reversed
+    ++ part_text parts.late ++ part_text parts.reversed ++ part_text parts.credits

@@ -24,6 +24,12 @@ abbrev pub sums_columns : List Column
 sums_columns =
     First 0 16 ∷ Figure 1 13 ∷ Figure 2 13 ∷ Figure 3 13 ∷ Figure 4 13 ∷ Figure 5 13 ∷ []
 
+-- with a column of what is credited it is as wide as the others
+abbrev pub credited_columns : List Column
+credited_columns =
+    First 0 16 ∷ Figure 1 13 ∷ Figure 2 13 ∷ Figure 3 13 ∷ Figure 6 13 ∷ Figure 4 13
+    ∷ Figure 5 13 ∷ []
+
 abbrev pub price_columns : List Column
 price_columns = First 0 10 ∷ Word 1 16 ∷ Figure 2 18 ∷ Figure 3 15 ∷ Figure 4 15 ∷ []
 
@@ -40,13 +46,18 @@ record_columns =
     First 0 10 ∷ Word 1 16 ∷ Word 2 8 ∷ Word 3 8 ∷ Word 4 8 ∷ Number 5 5 ∷ Number 6 6
     ∷ Figure 7 32 ∷ Below 8 ∷ []
 
+abbrev pub credit_columns : List Column
+credit_columns = First 0 78 ∷ Figure 1 21 ∷ []
+
 unfoldable pub columns_of : Layout → List Column
 columns_of laid.Sums = sums_columns
+columns_of laid.CreditedSums = credited_columns
 columns_of laid.Prices = price_columns
 columns_of laid.Percents = percent_columns
 columns_of laid.Work = work_columns
 columns_of laid.Counts = work_columns
 columns_of laid.Records = record_columns
+columns_of laid.Credits = credit_columns
 
 -- a part: its rows, and the row of their sums, where there is one
 pub record PartSeen : Type 0 where
@@ -85,6 +96,7 @@ pub record PartsSeen : Type 0 where
   pub jobs_by_day : PartSeen
   pub late : PartSeen
   pub reversed : PartSeen
+  pub credits : PartSeen
 
 abbrev pub parts_shown : CentreParts → PartsSeen
 parts_shown parts = record {
@@ -94,4 +106,5 @@ parts_shown parts = record {
   jobs_by_day = part_shown parts.jobs_by_day;
   late = part_shown parts.late;
   reversed = part_shown parts.reversed;
+  credits = part_shown parts.credits;
 }

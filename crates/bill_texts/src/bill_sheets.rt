@@ -7,6 +7,7 @@ ghost use Rattle.bill_texts.specs.BillSheets as spec;
 ghost use Rattle.bill_texts.specs.ShiftSums.{ShiftsAddUp};
 ghost use Rattle.bill_texts.specs.Sheets.{part_shown, parts_shown, sheet_shown};
 
+use crate::credit_rows::credits_part;
 use crate::part::{CentreParts, Part, PartName, Sheet};
 use crate::record_rows::side_part;
 use crate::sums_rows::{centre_sums, office_sums};
@@ -32,6 +33,13 @@ fn sheet_with(alloc: Global, sums: Part, bill: &Bill) -> Result<Sheet, AllocErro
     })
 }
 
+/// Some credit stands on the bill.
+fn has_credits(bill: &Bill) -> bool
+    ensures { result ≡ spec.has_credits (bill_shown bill.now) }
+{
+    0 < bill.credits.len()
+}
+
 /// The sheet of a centre's bill.
 pub fn centre_sheet(alloc: Global, centre: Name, bill: &Bill) -> Result<Sheet, AllocError>
     requires { IsBill (bill_shown bill.now) }
@@ -40,7 +48,7 @@ pub fn centre_sheet(alloc: Global, centre: Name, bill: &Bill) -> Result<Sheet, A
 {
     let charges = bill_charges(alloc, bill)?;
     let own = CentreCharges { centre, charges };
-    let sums = centre_sums(alloc, bill.letterhead.decimals, &own)?;
+    let sums = centre_sums(alloc, has_credits(bill), bill.letterhead.decimals, &own)?;
     sheet_with(alloc, sums, bill)
 }
 
@@ -51,7 +59,14 @@ pub fn office_sheet(alloc: Global, bill: &Bill) -> Result<Sheet, AllocError>
         sheet_shown sheet ≡ spec.office_sheet (bill_shown bill.now)) }
 {
     let own = office_charges(alloc, bill)?;
-    let sums = office_sums(alloc, bill.letterhead.decimals, &own.each, &own.all)?;
+    let credited = has_credits(bill);
+    let sums = office_sums(
+        alloc,
+        credited,
+        bill.letterhead.decimals,
+        &own.each,
+        &own.all,
+    )?;
     sheet_with(alloc, sums, bill)
 }
 
@@ -123,6 +138,7 @@ fn parts_of(alloc: Global, bill: &Bill) -> Result<CentreParts, AllocError>
     let (jobs_by_shift, jobs_by_day) = job_parts(alloc, bill)?;
     let late = side_of(alloc, true, bill, charges.late)?;
     let reversed = side_of(alloc, false, bill, charges.reversed)?;
+    let credits = credits_part(alloc, &bill.credits, &charges)?;
     Ok(CentreParts {
         steps_by_shift,
         jobs_by_shift,
@@ -130,6 +146,7 @@ fn parts_of(alloc: Global, bill: &Bill) -> Result<CentreParts, AllocError>
         jobs_by_day,
         late,
         reversed,
+        credits,
     })
 }
 

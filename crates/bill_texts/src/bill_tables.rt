@@ -1,17 +1,18 @@
 //! Bills as tables of comma-separated values.
 
-ghost use Rattle.std.specs.Prelude.{◌≡◌, [], ◌∷◌, ◌++◌, All, IfOk, flat_map};
-ghost use Rattle.book_model.specs.Words.{AreRows, IsDay, bill_shown, day_text_of};
+ghost use Rattle.std.specs.Prelude.{◌≡◌, [], ◌∷◌, ◌++◌, All, IfOk, flat_map, map};
+ghost use Rattle.book_model.specs.Words.{AreRows, IsDay, bill_shown, credit_shown, day_text_of};
 ghost use Rattle.report_texts.specs.Charges.{FitCharges, IsBill};
 ghost use Rattle.report_texts.specs.Tables.{fields_line};
 ghost use Rattle.bill_texts.specs.BillTables as spec;
 
 use crate::booking::push_booked_by_centre;
 use crate::work_rows::{add_blocks, add_cpu, jobs_have_work, percent_on};
-use book_model::{Bill, BilledLine, BilledShift, BilledTariff, ChargeRow, Line};
+use book_model::{Bill, BilledLine, BilledShift, BilledTariff, ChargeRow, Credit, Line};
 use report_texts::{
     CentreCharges, Charges, add_amount, add_day, add_key, add_name, add_number, add_number_or_dash,
-    add_row, add_shown, add_signed, office_charges, push_owed, word_of,
+    add_row, add_shown, add_signed, office_charges, plain_credit, push_credits, push_difference,
+    push_owed, word_of,
 };
 use smf_text::Name;
 use std::alloc::{AllocError, Global};
@@ -176,6 +177,41 @@ fn add_lines(table: &mut TableDraft, period: u16, billed: &[BilledLine])
     }
 }
 
+/// Adds the row of a credit.
+#[tactic(auto, unfolding(crate::specs::BillTables::credit_row))]
+fn add_credit(table: &mut TableDraft, period: u16, credit: &Credit)
+    ensures { table.new ≡ table.old ++ spec.credit_row period (credit_shown credit.now) }
+{
+    let plain = plain_credit(credit);
+    let mut amount = Draft::new(table.alloc());
+    push_difference(&mut amount, plain.debited, plain.credited);
+    let mut fields = RowDraft::new(table.alloc());
+    add_number(&mut fields, u64::from(period));
+    fields.add_str("");
+    fields.add_str(credit.centre.text());
+    fields.add_str("");
+    fields.add_str("CREDIT");
+    add_blanks(&mut fields);
+    fields.add_draft(&amount);
+    fields.add_str("");
+    fields.add_str("");
+    fields.add_str(credit.reason.as_str());
+    add_blanks(&mut fields);
+    fields.add_str("");
+    add_row(table, &fields);
+}
+
+/// Adds the rows of credits.
+#[tactic(auto, using(std::proofs::lemmas::List::flat_map_more))]
+fn add_credits(table: &mut TableDraft, period: u16, credits: &[Credit])
+    ensures { table.new
+        ≡ table.old ++ flat_map (spec.credit_row period) (map credit_shown credits.now) }
+{
+    for credit in credits {
+        add_credit(table, period, credit);
+    }
+}
+
 /// Adds the row of some prices.
 #[tactic(auto, unfolding(crate::specs::BillTables::price_row))]
 fn add_prices(table: &mut TableDraft, period: u16, centre: Name, day: i32, kind: &str, rates: Rates)
@@ -288,8 +324,8 @@ fn add_tariffs(
 }
 
 /// The bill of a centre for a period as a table: a heading, a row for each row of steps, each row
-/// of jobs and each line that the centre has in it, and rows for the prices and percents of its
-/// tariffs.
+/// of jobs, each line and each credit that the centre has in it, and rows for the prices and percents
+/// of its tariffs.
 pub fn bill_table(
     alloc: Global,
     centre: Name,
@@ -320,6 +356,7 @@ pub fn bill_table(
         &bill.work.jobs,
     );
     add_lines(&mut table, period, &bill.lines);
+    add_credits(&mut table, period, &bill.credits);
     add_tariffs(&mut table, period, centre, &bill.shifts, &bill.tariffs);
     table.finish()
 }
@@ -328,7 +365,7 @@ pub fn bill_table(
 fn add_office_heading(table: &mut TableDraft)
     ensures { table.new ≡ table.old ++ fields_line spec.office_columns }
 {
-    let names: [&[u8]; 8] = [
+    let names: [&[u8]; 9] = [
         b"period",
         b"centre",
         b"steps",
@@ -337,11 +374,12 @@ fn add_office_heading(table: &mut TableDraft)
         b"reversed",
         b"owed",
         b"booked",
+        b"credits",
     ];
     table.add_texts(&names);
 }
 
-/// Adds what a centre is charged, the sum that it owes, and what is booked of that.
+/// Adds what a centre is charged, the sum that it owes, what is booked of that, and what is credited.
 #[tactic(auto, unfolding(crate::specs::BillTables::charge_fields))]
 fn add_charges(fields: &mut RowDraft, decimals: u8, charges: &Charges)
     requires { FitCharges charges.now }
@@ -351,12 +389,15 @@ fn add_charges(fields: &mut RowDraft, decimals: u8, charges: &Charges)
     push_owed(&mut owed, charges);
     let mut booked = Draft::new(fields.alloc());
     push_booked_by_centre(&mut booked, decimals, charges);
+    let mut credits = Draft::new(fields.alloc());
+    push_credits(&mut credits, charges);
     add_amount(fields, charges.steps);
     add_amount(fields, charges.jobs);
     add_amount(fields, charges.late);
     add_amount(fields, charges.reversed);
     fields.add_draft(&owed);
     fields.add_draft(&booked);
+    fields.add_draft(&credits);
 }
 
 /// Adds the row of a centre.
@@ -384,7 +425,7 @@ fn add_centres(table: &mut TableDraft, period: u16, decimals: u8, each: &[Centre
 }
 
 /// The bill of the office for a period as a table: a heading, and a row for each centre that has a
-/// row or a line in it.
+/// row, a line or a credit in it.
 pub fn office_bill_table(alloc: Global, period: u16, bill: &Bill) -> Result<Vec<u8>, AllocError>
     requires { IsBill (bill_shown bill.now) }
     ensures { IfOk result (λ table.

@@ -5,7 +5,7 @@ ghost use Rattle.report_texts.specs.Charges.{FitCharges};
 ghost use Rattle.bill_texts.specs.Booked as spec;
 ghost use Rattle.bill_texts.specs.Booked.{BookedIsNearest};
 
-use report_texts::{CentreCharges, Charges, push_amount};
+use report_texts::{CentreCharges, Charges, charged_in, push_amount, taken_in};
 use text_drafts::Draft;
 
 /// How many ten-thousandths of the money unit the last of so many decimals stands for.
@@ -36,7 +36,7 @@ fn nearest(unit: u64, amount: u64) -> u128
     (u128::from(amount) + u128::from(unit / 2)) / u128::from(unit)
 }
 
-/// What is booked of what was charged less what was reversed: so many units of the last decimal,
+/// What is booked of what was charged less what was taken off: so many units of the last decimal,
 /// halves away from zero.
 fn booked(unit: u64, charged: u64, reversed: u64) -> i128
     requires { 0 < unit }
@@ -56,8 +56,7 @@ pub fn booked_by_centre(unit: u64, charges: &Charges) -> i128
     ensures value { result ≡ spec.booked unit (spec.owed_of charges.now) }
     ensures nearest { BookedIsNearest }
 {
-    let charged = charges.steps + charges.jobs + charges.late;
-    booked(unit, charged, charges.reversed)
+    booked(unit, charged_in(charges), taken_in(charges))
 }
 
 /// What is booked, with one more centre, if 128 bits hold it.

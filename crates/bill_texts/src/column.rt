@@ -20,12 +20,23 @@ pub enum Column {
     Below(usize),
 }
 
-/// The columns of sums. There is room for one more in a line of 100 characters.
+/// The columns of sums.
 const SUMS: [Column; 6] = [
     Column::First(0, 16),
     Column::Figure(1, 13),
     Column::Figure(2, 13),
     Column::Figure(3, 13),
+    Column::Figure(4, 13),
+    Column::Figure(5, 13),
+];
+
+/// The same with what is credited, before what is owed: a line of 100 characters.
+const CREDITED_SUMS: [Column; 7] = [
+    Column::First(0, 16),
+    Column::Figure(1, 13),
+    Column::Figure(2, 13),
+    Column::Figure(3, 13),
+    Column::Figure(6, 13),
     Column::Figure(4, 13),
     Column::Figure(5, 13),
 ];
@@ -70,6 +81,9 @@ const RECORDS: [Column; 9] = [
     Column::Below(8),
 ];
 
+/// The columns of credits.
+const CREDITS: [Column; 2] = [Column::First(0, 78), Column::Figure(1, 21)];
+
 /// The columns of a layout.
 #[tactic(auto, unfolding(crate::specs::Sheets::columns_of))]
 pub fn columns_of(layout: Layout) -> &'static [Column]
@@ -77,9 +91,11 @@ pub fn columns_of(layout: Layout) -> &'static [Column]
 {
     match layout {
         Layout::Sums => SUMS.as_slice(),
+        Layout::CreditedSums => CREDITED_SUMS.as_slice(),
         Layout::Prices => PRICES.as_slice(),
         Layout::Percents => PERCENTS.as_slice(),
         Layout::Work | Layout::Counts => WORK.as_slice(),
         Layout::Records => RECORDS.as_slice(),
+        Layout::Credits => CREDITS.as_slice(),
     }
 }

@@ -6,6 +6,7 @@ mod bill_tables;
 mod bill_texts;
 mod booking;
 mod column;
+mod credit_rows;
 mod part;
 mod record_rows;
 mod sheet_texts;

@@ -5,8 +5,8 @@ use text_drafts::RowDraft;
 /// A part, by its name.
 #[derive(Clone, Copy)]
 pub enum PartName {
-    /// What is charged, what came late, what was reversed, what is owed and what is booked: of the
-    /// centre, or of each centre and of all.
+    /// What is charged, what came late, what was reversed, what is owed, what is booked and what is
+    /// credited: of the centre, or of each centre and of all.
     Sums,
     /// The prices of the tariffs.
     Prices,
@@ -24,13 +24,17 @@ pub enum PartName {
     Late,
     /// What was reversed.
     Reversed,
+    /// What is credited.
+    Credits,
 }
 
 /// What the rows of a part are, and so which columns they have.
 #[derive(Clone, Copy)]
 pub enum Layout {
-    /// The name of a centre, and its five sums.
+    /// The name of a centre, and its sums but that of its credits.
     Sums,
+    /// The same with what is credited.
+    CreditedSums,
     /// A tariff, what its prices are of, and three prices.
     Prices,
     /// A tariff, a shift and its percent.
@@ -41,6 +45,8 @@ pub enum Layout {
     Counts,
     /// A record: its day, shift, job, program, JES job id, step, period, amount and name.
     Records,
+    /// The reason of a credit, and its amount.
+    Credits,
 }
 
 /// A part: rows of fields, which are all texts.
@@ -70,4 +76,5 @@ pub struct CentreParts {
     pub jobs_by_day: Part,
     pub late: Part,
     pub reversed: Part,
+    pub credits: Part,
 }

@@ -126,6 +126,7 @@ fn push_title(out: &mut Draft, name: PartName)
         PartName::JobsByDay => out.push_str("JOBS BY DAY\nDAY        "),
         PartName::Late => out.push_str("LATE\n"),
         PartName::Reversed => out.push_str("REVERSED\n"),
+        PartName::Credits => out.push_str("CREDITS\n"),
     }
 }
 
@@ -157,6 +158,11 @@ fn push_heading(out: &mut Draft, layout: Layout)
             "CENTRE                 CHARGED          LATE      REVERSED",
             "          OWED        BOOKED\n",
         ),
+        Layout::CreditedSums => push_both(
+            out,
+            "CENTRE                 CHARGED          LATE      REVERSED",
+            "       CREDITS          OWED        BOOKED\n",
+        ),
         Layout::Prices => push_both(
             out,
             "TARIFF     OF A                         RECORD             CPU",
@@ -169,6 +175,11 @@ fn push_heading(out: &mut Draft, layout: Layout)
             out,
             "DAY        SHIFT            JOB      PROGRAM  JOBID     STEP PERIOD",
             "                           AMOUNT\n",
+        ),
+        Layout::Credits => push_both(
+            out,
+            "REASON                                                            ",
+            "                            AMOUNT\n",
         ),
     }
 }
@@ -221,4 +232,5 @@ pub(crate) fn push_parts(out: &mut Draft, parts: &CentreParts)
     push_part(out, &parts.jobs_by_day);
     push_part(out, &parts.late);
     push_part(out, &parts.reversed);
+    push_part(out, &parts.credits);
 }

@@ -8,17 +8,19 @@ ghost use Rattle.bill_texts.specs.SumsRows as spec;
 
 use crate::booking::{push_booked_by_all, push_booked_by_centre};
 use crate::part::{Layout, Part, PartName};
-use report_texts::{CentreCharges, Charges, add_amount, push_owed};
+use report_texts::{CentreCharges, Charges, add_amount, push_credits, push_owed};
 use std::alloc::{AllocError, Global};
 use text_drafts::{Draft, RowDraft};
 
-/// A row of sums, with what is booked.
+/// A row of sums, with what is booked and what is credited.
 fn sums_row(alloc: Global, word: &str, charges: &Charges, booked: &Draft) -> RowDraft
     requires { FitCharges charges.now }
     ensures { result ≡ spec.sums_fields word.now charges.now booked.now }
 {
     let mut owed = Draft::new(alloc);
     push_owed(&mut owed, charges);
+    let mut credits = Draft::new(alloc);
+    push_credits(&mut credits, charges);
     let mut row = RowDraft::new(alloc);
     row.add_str(word);
     add_amount(&mut row, charges.steps + charges.jobs);
@@ -26,6 +28,7 @@ fn sums_row(alloc: Global, word: &str, charges: &Charges, booked: &Draft) -> Row
     add_amount(&mut row, charges.reversed);
     row.add_draft(&owed);
     row.add_draft(booked);
+    row.add_draft(&credits);
     row
 }
 
@@ -68,20 +71,32 @@ fn centre_rows(
     Ok(rows)
 }
 
+/// Where sums have a column of what is credited: where some credit stands on the bill.
+fn sums_layout(credited: bool) -> Layout
+    ensures { result ≡ spec.sums_layout credited }
+{
+    if credited {
+        Layout::CreditedSums
+    } else {
+        Layout::Sums
+    }
+}
+
 /// The sums of a centre's bill.
 pub(crate) fn centre_sums(
     alloc: Global,
+    credited: bool,
     decimals: u8,
     own: &CentreCharges,
 ) -> Result<Part, AllocError>
     requires { FitCharges own.now.charges }
-    ensures { IfOk result (λ part. part_shown part ≡ spec.centre_sums decimals own.now) }
+    ensures { IfOk result (λ part. part_shown part ≡ spec.centre_sums credited decimals own.now) }
 {
     let mut rows = Vec::new(alloc);
     rows.push(centre_row(alloc, decimals, own))?;
     Ok(Part {
         name: PartName::Sums,
-        layout: Layout::Sums,
+        layout: sums_layout(credited),
         rows,
         total: None,
     })
@@ -90,6 +105,7 @@ pub(crate) fn centre_sums(
 /// The sums of the office's bill.
 pub(crate) fn office_sums(
     alloc: Global,
+    credited: bool,
     decimals: u8,
     each: &[CentreCharges],
     all: &Charges,
@@ -97,13 +113,13 @@ pub(crate) fn office_sums(
     requires each { All (λ one. FitCharges one.charges) each.now }
     requires all { FitCharges all.now }
     ensures part { IfOk result (λ part.
-        part_shown part ≡ spec.office_sums decimals each.now all.now) }
+        part_shown part ≡ spec.office_sums credited decimals each.now all.now) }
     ensures together { BookedTogether }
 {
     let rows = centre_rows(alloc, decimals, each)?;
     Ok(Part {
         name: PartName::Sums,
-        layout: Layout::Sums,
+        layout: sums_layout(credited),
         rows,
         total: Some(total_row(alloc, decimals, each, all)),
     })

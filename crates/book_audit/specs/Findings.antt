@@ -26,6 +26,8 @@ tree_name tree.Marks = codes "record_charged"
 tree_name tree.Choices = codes "choice"
 tree_name tree.ChoiceNames = codes "choice_name"
 tree_name tree.Details = codes "detail"
+tree_name tree.Credits = codes "credit"
+tree_name tree.Replaced = codes "replaced"
 
 -- a day as its date, and what is no day that this product knows as its number
 unfoldable pub day_shown : ℤ → List ℕ
@@ -64,6 +66,8 @@ place_text (place.Line period name) =
 place_text (place.Detail spot) =
     codes "detail " ++ key_shown spot.place ++ codes " " ++ time_shown spot.time ++ codes " "
     ++ encode_lower spot.name
+place_text (place.Credit number) = codes "credit " ++ decimal number
+place_text (place.Replaced number) = codes "replaced " ++ decimal number
 
 -- what is wrong there, in words
 unfoldable pub wrong_text : Wrong → List ℕ
@@ -107,6 +111,9 @@ wrong_text wrong.NoRow = codes "there is no row for its records"
 wrong_text wrong.NoDetail = codes "there is no row of detail for it"
 wrong_text wrong.OtherDetail = codes "it is not that of its record"
 wrong_text wrong.NotCounted = codes "no period counts its record"
+wrong_text wrong.Credit = codes "no such credit can be given"
+wrong_text wrong.Begun = codes "its period has not begun"
+wrong_text wrong.Rulings = codes "it has more than 10,000 rows"
 
 -- the line of a finding: its place, and what is wrong there
 unfoldable pub unsound_text : Finding → List ℕ

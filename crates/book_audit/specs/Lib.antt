@@ -15,6 +15,7 @@ pub mod Entries
 pub mod Lines
 pub mod Details
 pub mod ChoiceRows
+pub mod KeptRulings
 pub mod SoundTrees
 pub mod Counts
 pub mod OfBook

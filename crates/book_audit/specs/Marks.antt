@@ -1,10 +1,10 @@
 -- How a record is charged and posted.
 use Rattle.std.specs.Prelude.{◌&&◌, ◌||◌, not, Bool, true, false, Option, Some, None}
 
--- Whether a record is charged, by whether another one has its identity too, and by whether it was
--- chosen last of that identity.
-abbrev pub should_be_charged : Bool → Bool → Bool
-should_be_charged shared chosen = not shared || chosen
+-- Whether a record is charged, by whether its work is withheld, by whether another one has its
+-- identity too, and by whether it was named last of that identity.
+abbrev pub should_be_charged : Bool → Bool → Bool → Bool
+should_be_charged withheld shared chosen = not withheld && (not shared || chosen)
 
 -- Whether a record is posted as the last close charged it, by its two marks, by whether it is dated
 -- on or before that close, and by what the line of the open period says, if there is one: as it is

@@ -7,7 +7,8 @@ use Rattle.tree_tables.specs.Walks.{rows_past}
 use Rattle.book_audit.specs.declared.finding.Tree.{Tree}
 use Rattle.book_audit.specs.declared.finding.Tree.TheVariants.{Book, Tariffs, Closes, Records, Days}
 use Rattle.book_audit.specs.declared.finding.Tree.TheVariants.{Lines, Identities, Marks, Choices}
-use Rattle.book_audit.specs.declared.finding.Tree.TheVariants.{ChoiceNames, Details}
+use Rattle.book_audit.specs.declared.finding.Tree.TheVariants.{ChoiceNames, Credits, Details}
+use Rattle.book_audit.specs.declared.finding.Tree.TheVariants.{Replaced}
 use Rattle.book_audit.specs.declared.walk.Walk.{Walk}
 use Rattle.book_audit.specs.Trees.{tree_number}
 
@@ -21,9 +22,11 @@ width Days = 8
 width Lines = 3
 width Identities = 2
 width Marks = 3
-width Choices = 3
+width Choices = 4
 width ChoiceNames = 2
 width Details = 12
+width Credits = 5
+width Replaced = 4
 
 -- and how many of the first of them are its key
 abbrev pub key_width : Tree → ℕ
@@ -38,6 +41,8 @@ key_width Marks = 3
 key_width Choices = 1
 key_width ChoiceNames = 2
 key_width Details = 5
+key_width Credits = 1
+key_width Replaced = 1
 
 -- the key of a row
 abbrev pub key_in : Tree → Row → Row

@@ -32,6 +32,9 @@ pub enum Tree {
     ChoiceNames,
     /// It shows the records that charge rows count.
     Details,
+    Credits,
+    /// The tariffs that were replaced.
+    Replaced,
 }
 
 impl Tree {
@@ -52,6 +55,8 @@ impl Tree {
             Tree::Choices => 8,
             Tree::ChoiceNames => 9,
             Tree::Details => 10,
+            Tree::Credits => 11,
+            Tree::Replaced => 12,
         }
     }
 
@@ -72,6 +77,8 @@ impl Tree {
             Tree::Choices => "choice",
             Tree::ChoiceNames => "choice_name",
             Tree::Details => "detail",
+            Tree::Credits => "credit",
+            Tree::Replaced => "replaced",
         }
     }
 
@@ -81,6 +88,7 @@ impl Tree {
     {
         match self {
             Tree::Book | Tree::Tariffs | Tree::Closes | Tree::Records | Tree::Choices => 1,
+            Tree::Credits | Tree::Replaced => 1,
             Tree::Lines | Tree::Identities | Tree::ChoiceNames => 2,
             Tree::Marks => 3,
             Tree::Days => 4,
@@ -94,8 +102,9 @@ impl Tree {
     {
         match self {
             Tree::Tariffs | Tree::Closes | Tree::Identities | Tree::ChoiceNames => 2,
-            Tree::Lines | Tree::Marks | Tree::Choices => 3,
-            Tree::Book => 5,
+            Tree::Lines | Tree::Marks => 3,
+            Tree::Choices | Tree::Replaced => 4,
+            Tree::Book | Tree::Credits => 5,
             Tree::Days => 8,
             Tree::Records => 11,
             Tree::Details => 12,
@@ -135,6 +144,10 @@ pub enum Place {
     Line(u16, [u8; 32]),
     /// A row of details.
     Detail(DetailKey),
+    /// The credit of this number, from 1.
+    Credit(u32),
+    /// The replaced tariff of this number, from 1.
+    Replaced(u32),
 }
 
 /// What is wrong there.
@@ -169,7 +182,8 @@ pub enum Wrong {
     ChoicePeriod,
     /// A choice's record is not held.
     NotHeld,
-    /// A choice's record is alone in its identity, and no rule was adopted since.
+    /// A choice's record is alone in its identity, which was never withheld, and no rule was
+    /// adopted since.
     ChosenAlone,
     /// The choice is not found by the record that it names.
     NoChoiceName,
@@ -189,8 +203,8 @@ pub enum Wrong {
     NoIdentity,
     /// The record is not found by its mark.
     NoMark,
-    /// The record is charged and neither alone in its identity nor chosen last of it, or the other
-    /// way round.
+    /// The record is charged and neither alone in its identity nor named last of it, or its work is
+    /// withheld; or the other way round.
     Charged,
     /// The record is not posted as the last close charged it.
     Posted,
@@ -218,6 +232,12 @@ pub enum Wrong {
     OtherDetail,
     /// A row of details is that of a record which no period counts.
     NotCounted,
+    /// No such credit can have been given, or not in a period that has begun.
+    Credit,
+    /// The period has not begun.
+    Begun,
+    /// There are more of these rulings than can be made.
+    Rulings,
 }
 
 /// The first thing that is wrong, and its place.

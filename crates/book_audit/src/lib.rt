@@ -10,6 +10,8 @@ mod details;
 mod entry_counts;
 mod finding;
 mod identity_rule;
+mod kept_credits;
+mod kept_replaced;
 mod keys;
 mod lines;
 mod marks;

@@ -15,11 +15,12 @@ use crate::trees::Trees;
 use sqlite_trees::store::Store;
 use tree_tables::StoredRecord;
 
-/// Whether a record is to be charged: if it is alone in its identity, or was chosen last of it.
-fn should_be_charged(is_shared: bool, is_chosen: bool) -> bool
-    ensures { result ≡ spec.should_be_charged is_shared is_chosen }
+/// Whether a record is to be charged: if its work is not withheld, and it is alone in its identity,
+/// or was named last of it.
+fn should_be_charged(is_withheld: bool, is_shared: bool, is_chosen: bool) -> bool
+    ensures { result ≡ spec.should_be_charged is_withheld is_shared is_chosen }
 {
-    !is_shared || is_chosen
+    !is_withheld && (!is_shared || is_chosen)
 }
 
 /// Whether a record is posted as the last close charged it: as it is charged now, except for what a
@@ -58,7 +59,8 @@ fn wrong_by_trees<S: Store>(
     }
     let is_shared = trees.is_shared(&stored.identity)?;
     let is_chosen = chosen.is_last(&stored.identity, &stored.name);
-    if stored.charged != should_be_charged(is_shared, is_chosen) {
+    let is_withheld = chosen.withholds(&stored.identity);
+    if stored.charged != should_be_charged(is_withheld, is_shared, is_chosen) {
         return Ok(Some(Wrong::Charged));
     }
     Ok(None)

@@ -108,8 +108,8 @@ fn tariff_in(alloc: Global, row: &Row) -> Result<StoredTariff, StoreError>
     })
 }
 
-/// The tariff of a row, which must have the text of a tariff with the row's day.
-fn parsed(alloc: Global, stored: &StoredTariff) -> Result<Tariff, Stop>
+/// The tariff of a row at a place, which must have the text of a tariff with the row's day.
+pub(crate) fn parsed(alloc: Global, place: Place, stored: &StoredTariff) -> Result<Tariff, Stop>
     ensures says { IfOk result (λ tariff. terms_in (string_bytes stored.now.body) ≡ Ok tariff) }
     ensures day { IfOk result (λ tariff. tariff.effective ≡ stored.now.day) }
     ensures valid { IfOk result (λ tariff. IsDay tariff.effective) }
@@ -117,10 +117,10 @@ fn parsed(alloc: Global, stored: &StoredTariff) -> Result<Tariff, Stop>
     let tariff = match Tariff::parse(alloc, &stored.body) {
         Ok(tariff) => tariff,
         Err(TariffFault::Memory) => return Err(Stop::Fault(LedgerFault::Memory)),
-        Err(_) => return Err(unsound(Place::Tariff(stored.day), Wrong::TariffText)),
+        Err(_) => return Err(unsound(place, Wrong::TariffText)),
     };
     if tariff.effective() != stored.day {
-        return Err(unsound(Place::Tariff(stored.day), Wrong::TariffText));
+        return Err(unsound(place, Wrong::TariffText));
     }
     Ok(tariff)
 }
@@ -131,7 +131,7 @@ fn read_tariff(alloc: Global, row: &Row) -> Result<Tariff, Stop>
     ensures { IfOk result (IsTariffIn row.now) }
 {
     match tariff_in(alloc, row) {
-        Ok(stored) => parsed(alloc, &stored),
+        Ok(stored) => parsed(alloc, Place::Tariff(stored.day), &stored),
         Err(error) => Err(met(Tree::Tariffs, error)),
     }
 }

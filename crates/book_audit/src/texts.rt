@@ -60,6 +60,9 @@ fn wrong_text(wrong: Wrong) -> &'static str
         Wrong::NoDetail => "there is no row of detail for it",
         Wrong::OtherDetail => "it is not that of its record",
         Wrong::NotCounted => "no period counts its record",
+        Wrong::Credit => "no such credit can be given",
+        Wrong::Begun => "its period has not begun",
+        Wrong::Rulings => "it has more than 10,000 rows",
     }
 }
 
@@ -192,6 +195,8 @@ fn push_place(alloc: Global, out: &mut String, place: &Place) -> Result<(), Allo
         Place::Day(spot) => push_spot(alloc, out, spot),
         Place::Line(period, name) => push_line(alloc, out, *period, name),
         Place::Detail(spot) => push_detail(alloc, out, spot),
+        Place::Credit(number) => push_number(out, "credit ", *number),
+        Place::Replaced(number) => push_number(out, "replaced ", *number),
     }
 }
 

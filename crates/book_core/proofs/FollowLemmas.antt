@@ -9,18 +9,23 @@ use Rattle.book_model.specs.declared.answer.Ruled.TheVariants.{Done, Already}
 use Rattle.book_model.specs.MadeByCalls.{AreMadeOf}
 use Rattle.book_model.specs.declared.fault.LedgerFault.{LedgerFault}
 use Rattle.book_model.specs.declared.fault.LedgerFault.TheVariants.{Memory, Store, Reopen, OldRule}
+use Rattle.book_model.specs.declared.fault.LedgerFault.TheVariants.{NoSuchRecord}
 use Rattle.book_model.specs.Words.{Terms, terms_in, Naming, Book, new_book, Event, PeriodClosed}
 use Rattle.book_model.specs.Words.{RulingGiven, SecondRuleAdopted, after_all, accept_answer}
 use Rattle.book_model.specs.Words.{tariff_answer, close_answer, Outcome, accept_event, if_done}
 use Rattle.book_model.specs.Words.{ruled_as, rule_outcome, book_after, book_of, IsAnswered}
 use Rattle.book_model.specs.Words.{IsMadeByCalls, choose_answer, record_named, adopt_answer}
 use Rattle.book_model.specs.Words.{rule_by, second_rule, TariffFault, RulingAsked, TariffAsked}
-use Rattle.book_model.specs.Words.{CloseAsked, ChoiceAsked, AdoptionAsked}
-use Rattle.book_model.proofs.Lemmas.{books_follow_history, closed_open}
+use Rattle.book_model.specs.Words.{CloseAsked, ChoiceAsked, AdoptionAsked, CreditAsked, CreditGiven}
+use Rattle.book_model.specs.Words.{ReplacementAsked, WithholdingAsked, credit_answer}
+use Rattle.book_model.specs.Words.{replacing_answer, withhold_answer, withhold_outcome}
+use Rattle.book_model.proofs.Lemmas.{books_follow_history, closed_open, credited_open}
 use Rattle.book_core.specs.Words.{Seen, Transition, NoEvent, Then, IsTransition, Makes, Calls}
-use Rattle.book_core.specs.Words.{listed, MakesAnswered}
+use Rattle.book_core.specs.Words.{TakesWorks, Withholds, first_of, listed, MakesAnswered}
 use Rattle.book_core.specs.Follow.{FollowsHistory}
-use Rattle.book_core.proofs.RulingLemmas.{meant_by, said_by}
+use Rattle.book_core.specs.Withholdings.{told_as}
+use Rattle.book_core.specs.declared.withheld.Withheld.{Withheld}
+use Rattle.book_core.proofs.RulingLemmas.{meant_by, replaced_by, said_by, withheld_by}
 use Rattle.book_core.proofs.NamedLemmas.{its_name}
 use Rattle.book_core.proofs.TransitionLemmas.{after_all-append}
 
@@ -152,6 +157,24 @@ choice_done naming name book (Some bytes) found done =
       subst (λ name. record_named naming book.held name ≡ Some bytes) named found,
     )
 
+-- a tariff in the place of another
+replacement_done : (naming : Naming) (text : List ℕ) (said : Result Terms TariffFault) (book : Book)
+    → replacing_answer book text said ≡ Ok Done
+    → IfSome (replaced_by text said) (λ event. IsAnswered naming event book)
+replacement_done naming text (Ok terms) book done = done
+replacement_done naming text (Err fault) book done = tt
+
+-- the choice of none of the work of a record that is meant
+withholding_done : (naming : Naming) (name : List ℕ) (book : Book) (meant : Option (List ℕ))
+    → record_named naming book.held name ≡ meant → withhold_answer naming book name ≡ Ok Done
+    → IfSome (withheld_by meant) (λ event. IsAnswered naming event book)
+withholding_done naming name book None found done = tt
+withholding_done naming name book (Some bytes) found done =
+    let named = sym (its_name naming book.held name bytes found) in (
+      subst (λ name. withhold_answer naming book name ≡ Ok Done) named done,
+      subst (λ name. record_named naming book.held name ≡ Some bytes) named found,
+    )
+
 -- a rule that is adopted is the second one
 second_done : (rule : ℕ) (book : Book) → adopt_answer book.rulings rule ≡ Ok Done
     → adopt_answer book.rulings second_rule ≡ Ok Done
@@ -186,3 +209,39 @@ ruling_answered naming view (ChoiceAsked name) result =
 ruling_answered naming view (AdoptionAsked rule) result =
     rulings_answered naming view (λ book. Some (RulingGiven SecondRuleAdopted))
     (λ book. adopt_answer book.rulings rule) result (second_done rule)
+ruling_answered naming view (ReplacementAsked text) result =
+    rulings_answered naming view (λ book. replaced_by text (terms_in text))
+    (λ book. replacing_answer book text (terms_in text)) result
+    (replacement_done naming text (terms_in text))
+ruling_answered naming view (WithholdingAsked name) result =
+    rulings_answered naming view (λ book. withheld_by (record_named naming book.held name))
+    (λ book. withhold_answer naming book name) result
+    (λ book. withholding_done naming name book (record_named naming book.held name) refl)
+ruling_answered naming view (CreditAsked number centre amount reason) result =
+    rulings_answered naming view (λ book. Some (RulingGiven (CreditGiven centre amount reason)))
+    (λ book. credit_answer book.rulings number centre amount reason) result (λ book done.
+    subst (λ number. credit_answer book.rulings number centre amount reason ≡ Ok Done)
+    (credited_open book number centre amount reason done) done)
+
+-- so do works that are withheld one after another,
+withholds_answered : (naming : Naming) (names : List (List ℕ)) (answers : List (Option Ruled))
+    → MakesAnswered naming (Withholds naming names answers)
+withholds_answered naming names [] = none_answered naming
+withholds_answered naming [] (answer ∷ later) = λ book was events is never. absurd never
+withholds_answered naming (name ∷ rest) (answer ∷ later) =
+    then_answered naming
+    (Calls (λ (ruled : Ruled). ruled) (withhold_outcome naming name) (told_as answer))
+    (Withholds naming rest later)
+    (ruling_answered naming (λ (ruled : Ruled). ruled) (WithholdingAsked name) (told_as answer))
+    (withholds_answered naming rest later)
+
+-- also several together
+pub works_answered : (naming : Naming) (names : List (List ℕ)) (told : Result Withheld LedgerFault)
+    → MakesAnswered naming (TakesWorks naming names told)
+works_answered naming names (Ok told) = λ book was events is takes.
+    withholds_answered naming names takes.answers book was events is takes.made
+works_answered naming names (Err Store) = λ book was events is keeps.
+    withholds_answered naming names keeps.answers book false events false keeps.kept
+works_answered naming names (Err NoSuchRecord) = λ book was events is never. absurd never
+works_answered naming names (Err fault) =
+    ruling_answered naming (λ (ruled : Ruled). ruled) (WithholdingAsked (first_of names)) (Err fault)

@@ -8,6 +8,7 @@ pub mod InTurnLemmas
 pub mod OpenLemmas
 pub mod NamedLemmas
 pub mod SubmissionLemmas
+pub mod WithholdingLemmas
 pub mod FollowLemmas
 pub mod EntryLemmas
 pub mod IdentityInForce

@@ -2,7 +2,7 @@
 -- books are to be reopened.
 use Rattle.std.proofs.Common.{◌≡◌, ℕ, List, refl, Bool, true, false, not, Option, None, Some}
 use Rattle.std.proofs.Common.{Result, Ok, Err, length, ℤ, ◌==◌, if◌then◌else◌, ok_or, nat_le}
-use Rattle.std.proofs.Common.{nat_lt, sum_by}
+use Rattle.std.proofs.Common.{◌&&◌, ◌||◌, nat_lt, sum_by}
 use Rattle.std.specs.List.{list_any}
 use Rattle.book_model.specs.declared.fault.LedgerFault.{LedgerFault}
 use Rattle.book_model.specs.declared.fault.LedgerFault.TheVariants.{NoSuchPeriod, NoSuchRecord}
@@ -10,11 +10,15 @@ use Rattle.book_model.specs.Words.{TariffFault, Priced, terms_ruled, Book, Namin
 use Rattle.book_model.specs.Words.{Terms, accept_answer, accept_priced, adopt_answer, chosen_answer}
 use Rattle.book_model.specs.Words.{clashes, close_answer, costs_under, has, has_text, is_chosen}
 use Rattle.book_model.specs.Words.{is_closed, is_early, is_effective, is_full, is_later}
-use Rattle.book_model.specs.Words.{is_too_dear, is_unrivalled, last_period, most_choices, most_cost}
+use Rattle.book_model.specs.Words.{is_too_dear, is_unrivalled, last_period, most_cost}
 use Rattle.book_model.specs.Words.{open_by, price_in, rule_by, second_rule, tariff_answer}
 use Rattle.book_model.specs.Words.{what_if_answer, with_tariff, AdoptionAsked, ChoiceAsked}
 use Rattle.book_model.specs.Words.{CloseAsked, RulingAsked, TariffAsked, record_named, rule_outcome}
-use Rattle.book_model.specs.Words.{terms_in}
+use Rattle.book_model.specs.Words.{terms_in, is_withheld, was_withheld, CreditAsked}
+use Rattle.book_model.specs.Words.{ReplacementAsked, WithholdingAsked, credit_ruled, is_after}
+use Rattle.book_model.specs.Words.{has_most_choices, is_credit, is_known_centre, last_close, most_credits}
+use Rattle.book_model.specs.Words.{most_replaced, replace_ruled, replacing_answer, with_replaced}
+use Rattle.book_model.specs.Words.{withheld_answer}
 use Rattle.book_core.specs.Calls.{LeavesOpen, is_reopen, is_store}
 
 -- an answer leaves books open
@@ -91,16 +95,51 @@ close_open rulings number day =
 choose_open : (book : Book) (meant : Option (List ℕ)) → LeavesOpen (chosen_answer book meant)
 choose_open book None = opens refl refl
 choose_open book (Some bytes) =
-    opens_if (is_unrivalled book.rulings book.held bytes) (opens refl refl)
-    (opens_if (is_chosen book.rulings bytes) (opens refl refl)
-    (opens_if (nat_le most_choices (length book.rulings.choices)) (opens refl refl)
-    (opens refl refl)))
+    opens_if (is_unrivalled book.rulings book.held bytes && not (was_withheld book.rulings bytes))
+    (opens refl refl)
+    (opens_if (is_chosen book.rulings bytes && not (is_withheld book.rulings bytes))
+    (opens refl refl)
+    (opens_if (has_most_choices book.rulings) (opens refl refl) (opens refl refl)))
 
 -- a rule of identity
 adopt_open : (rulings : Rulings) (rule : ℕ) → LeavesOpen (adopt_answer rulings rule)
 adopt_open rulings rule =
     opens_if (rule == rule_by rulings) (opens refl refl)
     (opens_if (rule == second_rule) (opens refl refl) (opens refl refl))
+
+-- a tariff in the place of another
+pub replaced_open : (rulings : Rulings) (full : Bool) (text : List ℕ) (terms : Terms)
+    → LeavesOpen (replace_ruled rulings full text terms)
+replaced_open rulings full text terms =
+    opens_if (list_any (has_text text) rulings.tariffs) (opens refl refl)
+    (opens_if (not (list_any (is_effective terms.effective) rulings.tariffs)) (opens refl refl)
+    (opens_if (not (is_after (last_close rulings) terms.effective)) (opens refl refl)
+    (opens_if full (opens refl refl) (opens refl refl))))
+
+replace_open : (book : Book) (text : List ℕ) (said : Result Terms TariffFault)
+    → LeavesOpen (replacing_answer book text said)
+replace_open book text (Err fault) = opens refl refl
+replace_open book text (Ok terms) =
+    replaced_open book.rulings
+    (is_too_dear (with_replaced text terms book.rulings) book.held
+    || nat_le most_replaced (length book.rulings.replaced))
+    text terms
+
+-- the choice of none
+withhold_open : (book : Book) (meant : Option (List ℕ)) → LeavesOpen (withheld_answer book meant)
+withhold_open book None = opens refl refl
+withhold_open book (Some bytes) =
+    opens_if (is_withheld book.rulings bytes) (opens refl refl)
+    (opens_if (has_most_choices book.rulings) (opens refl refl) (opens refl refl))
+
+-- a credit
+pub credit_open : (rulings : Rulings) (given full : Bool) (number : ℕ) (centre : List ℕ)
+    → LeavesOpen (credit_ruled rulings given full number centre)
+credit_open rulings given full number centre =
+    opens_if given (opens refl refl)
+    (opens_if (not (number == open_by rulings)) (opens refl refl)
+    (opens_if (not (is_known_centre rulings centre)) (opens refl refl)
+    (opens_if full (opens refl refl) (opens refl refl))))
 
 -- any of these rulings
 pub ruling_open : (naming : Naming) (book : Book) (ruling : RulingAsked)
@@ -110,3 +149,10 @@ ruling_open naming book (CloseAsked number day) = close_open book.rulings number
 ruling_open naming book (ChoiceAsked name) =
     choose_open book (record_named naming book.held name)
 ruling_open naming book (AdoptionAsked rule) = adopt_open book.rulings rule
+ruling_open naming book (ReplacementAsked text) = replace_open book text (terms_in text)
+ruling_open naming book (WithholdingAsked name) =
+    withhold_open book (record_named naming book.held name)
+ruling_open naming book (CreditAsked number centre amount reason) =
+    credit_open book.rulings
+    (list_any (is_credit number centre amount reason) book.rulings.credits)
+    (nat_le most_credits (length book.rulings.credits)) number centre

@@ -7,7 +7,8 @@ pub use Rattle.book_core.specs.Follow.{MakesAnswered}
 pub use Rattle.book_core.specs.Identities.{identity_in}
 pub use Rattle.book_core.specs.KeyedRows.{keyed_rows, with_price}
 pub use Rattle.book_core.specs.Ledgers.{Books, IsOpenAt, MayHave, Seen, books, in_memory, may_have}
-pub use Rattle.book_core.specs.OfficeRulings.{ruled_in}
+pub use Rattle.book_core.specs.OfficeRulings.{in_its_place, is_last_begun, ruled_in}
 pub use Rattle.book_core.specs.Room.{if_room}
 pub use Rattle.book_core.specs.Submissions.{Accepts, Takes, first_of, records_in}
 pub use Rattle.book_core.specs.Transition.{IsTransition, NoEvent, Then, Transition}
+pub use Rattle.book_core.specs.Withholdings.{TakesWorks, Withholds}

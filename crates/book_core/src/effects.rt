@@ -1,7 +1,7 @@
 //! What a new record, or a choice, changes in kept rows, beside its own row and the row of the
 //! book. It follows from the records that are held of one identity, and from the last close.
 
-ghost use Rattle.std.specs.Prelude.{◌≡◌};
+ghost use Rattle.std.specs.Prelude.{◌≡◌, option_map};
 ghost use Rattle.book_core.specs.Effects.{HasOnly, charge, charge_held, choice_effects, effects_of};
 ghost use Rattle.book_core.specs.Effects.{withdraw};
 
@@ -107,6 +107,17 @@ pub fn plan_choice(through: Option<i32>, current: Option<Member>, chosen: &Membe
     ChoiceEffects {
         withdrawn,
         chosen: plan_charge(through, chosen),
+    }
+}
+
+/// What a choice of none changes, by the record of the identity that is charged until now: that one
+/// is charged no more, where there was one.
+pub fn plan_withheld(through: Option<i32>, current: Option<Member>) -> Option<Effects>
+    ensures effects { result ≡ option_map (withdraw through) current }
+{
+    match &current {
+        Some(standing) => Some(withdrawn(through, standing)),
+        None => None,
     }
 }
 

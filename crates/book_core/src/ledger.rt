@@ -1,21 +1,26 @@
-ghost use Rattle.std.specs.Prelude.{◌<◌, All, IfOk, length, map, option_map};
+ghost use Rattle.std.specs.Prelude.{◌<◌, ◌≤◌, ◌+◌, All, IfOk, length, map, option_map};
 ghost use Rattle.book_model.specs.Words.{IsDay, IsUsageRecord, AreRows, AreLines, AreDisputes};
 ghost use Rattle.book_model.specs.Words.{dispute_shown, accept_outcome, close_outcome};
 ghost use Rattle.book_model.specs.Words.{tariff_outcome, adjustments_outcome, charges_outcome};
 ghost use Rattle.book_model.specs.Words.{choose_outcome, disputes_outcome, periods_outcome};
 ghost use Rattle.book_model.specs.Words.{adopt_outcome, ruling_outcome, ruling_shown, ShowsDays};
-ghost use Rattle.book_model.specs.Words.{HasDay, rule_outcome, ruling_asked};
+ghost use Rattle.book_model.specs.Words.{IsCreditOf, MayBeAsked, rule_outcome, ruling_asked};
+ghost use Rattle.book_model.specs.Words.{credit_outcome, replace_outcome, withhold_outcome};
 ghost use Rattle.book_model.specs.Words.{ShowsDispute, dispute_outcome, what_if_outcome};
 ghost use Rattle.book_model.specs.Words.{ShowsDetail, next_detail_outcome};
 ghost use Rattle.book_model.specs.Words.{IsTrail, trail_outcome, trail_shown};
 ghost use Rattle.book_model.specs.Words.{IsUsage, record_outcome};
+ghost use Rattle.book_model.specs.Words.{credit_given_outcome, credit_shown};
 ghost use Rattle.book_core.specs.Ledgers.{StopIsHarmless, Seen};
 ghost use Rattle.book_core.specs.Calls.{IsCall};
 ghost use Rattle.book_core.specs.Submissions.{Takes, records_in};
 ghost use Rattle.book_core.specs.Transition.{IsTransition};
+ghost use Rattle.book_core.specs.Withholdings.{TakesWorks};
 
+use crate::withheld::{Withheld, with_answer, work_answer};
 use book_model::{
-    Accepted, ChargeRow, Detail, Dispute, LedgerFault, Line, ListedRuling, Ruled, Ruling, Trail,
+    Accepted, ChargeRow, Credit, Detail, Dispute, LedgerFault, Line, ListedRuling, Ruled, Ruling,
+    Trail,
 };
 use smf_text::Name;
 use std::alloc::Global;
@@ -31,7 +36,7 @@ pub trait Ledger {
 
     /// Makes a ruling. The calls below say of each what it does, and what refuses it.
     fn rule(&mut self, ruling: Ruling<'_>) -> Result<Ruled, LedgerFault>
-        requires { HasDay (ruling_asked ruling) }
+        requires { MayBeAsked (ruling_asked ruling) }
         ensures { IsCall (λ ruled. ruled) (seen self.old) (seen self.new) result
             (rule_outcome (seen self.old).naming (ruling_asked ruling.entry)) };
 
@@ -58,8 +63,9 @@ pub trait Ledger {
     }
 
     /// Chooses a record that is held, by its name, among those of its identity: it counts as
-    /// undisputed from now on, the others stay uncharged. The choice that came last counts.
-    /// Refused: `NoSuchRecord`, `NotDisputed`, and `Full` where there is no room for a choice.
+    /// undisputed from now on, the others stay uncharged. The choice that came last counts, also
+    /// where it says that none of them does. Refused: `NoSuchRecord`; `NotDisputed` where it is
+    /// alone and its work was never withheld; and `Full` where there is no room for a choice.
     fn choose(&mut self, name: [u8; 32]) -> Result<Ruled, LedgerFault>
         ensures { IsCall (λ ruled. ruled) (seen self.old) (seen self.new) result
             (choose_outcome (seen self.old).naming name) }
@@ -76,6 +82,73 @@ pub trait Ledger {
             (adopt_outcome rule) }
     {
         self.rule(Ruling::Adopt(rule))
+    }
+
+    /// Puts the tariff of a file in the place of the one that begins on its first day, which is kept
+    /// in the list of rulings. The records that had that tariff are priced anew. Refused:
+    /// `TariffRefused`; `NoSuchTariff` where none begins on that day; `TariffDate` where the day is
+    /// not later than the last close; `Full`.
+    fn replace_tariff(&mut self, text: &str) -> Result<Ruled, LedgerFault>
+        ensures { IsCall (λ ruled. ruled) (seen self.old) (seen self.new) result
+            (replace_outcome text.now) }
+    {
+        self.rule(Ruling::Replace(text))
+    }
+
+    /// Withholds the work of a record that is held, by its name: no record of its identity counts
+    /// from now on, whatever comes, until one of them is chosen. Refused: `NoSuchRecord`, and `Full`
+    /// where there is no room for a choice.
+    fn withhold(&mut self, name: [u8; 32]) -> Result<Ruled, LedgerFault>
+        ensures { IsCall (λ ruled. ruled) (seen self.old) (seen self.new) result
+            (withhold_outcome (seen self.old).naming name) }
+    {
+        self.rule(Ruling::Withhold(name))
+    }
+
+    /// Withholds the works of the records of these names in order, as one change of the books: the
+    /// first, and as many after it as one change takes, up to the next that is refused. Answers how
+    /// many it took, each as `withhold` would, and those that are not held among them; or why the
+    /// first is refused, as `withhold` says it. After `Store` the next open finds the works of some
+    /// first of them withheld, or of none.
+    fn withhold_many(&mut self, names: &[[u8; 32]]) -> Result<Withheld, LedgerFault>
+        requires { 0 < length names.now }
+        ensures takes { IsTransition (seen self.old) (seen self.new)
+            (TakesWorks (seen self.old).naming names.now result) }
+        ensures some { IfOk result (λ told. 0 < told.taken) }
+        ensures few { IfOk result (λ told. told.taken ≤ length names.now) }
+        ensures done { IfOk result (λ told. told.done + told.absent ≤ told.taken) }
+    {
+        let told = self.withhold(names[0]);
+        let answer = work_answer(told)?;
+        let none = Withheld {
+            taken: 0,
+            done: 0,
+            absent: 0,
+        };
+        Ok(with_answer(none, answer))
+    }
+
+    /// Credits a centre with an amount, in ten-thousandths of the money unit, for a reason: the
+    /// centre owes less for the open period, which is to be this one; where the amount is below 0,
+    /// more. The same credit twice is one. Refused: `WrongPeriod` with the open one, `NoSuchCentre`,
+    /// and `Full` where there is no room for a credit.
+    fn credit(
+        &mut self,
+        period: u16,
+        centre: Name,
+        amount: i64,
+        reason: &str,
+    ) -> Result<Ruled, LedgerFault>
+        requires { IsCreditOf centre amount reason.now }
+        ensures { IsCall (λ ruled. ruled) (seen self.old) (seen self.new) result
+            (credit_outcome period centre amount reason.now) }
+    {
+        self.rule(Ruling::Credit {
+            period,
+            centre,
+            amount,
+            reason,
+        })
     }
 
     /// Submits a record, which is held from now on where it is new, a tariff is in force on its
@@ -155,13 +228,21 @@ pub trait Ledger {
         ensures shown { IfOk result (λ days. All IsDay days.items) };
 
     /// The ruling of a number, from 0, in the list of the office's rulings: the tariffs that came
-    /// as texts, the closes, the choices, the adoption of the second rule of identity. `None` where
-    /// there are no more. Never refused.
+    /// as texts, the closes, the choices, the adoption of the second rule of identity, the tariffs
+    /// that were replaced, the credits. `None` where there are no more. Never refused.
     fn ruling(&mut self, number: u64) -> Result<Option<ListedRuling>, LedgerFault>
         ensures ruling { IsCall (λ found. option_map ruling_shown found)
             (seen self.old) (seen self.new) result
             (ruling_outcome (seen self.old).naming number) }
         ensures shown { IfOk result ShowsDays };
+
+    /// The credit of a number, from 0, in the order in which they were given; `None` where there
+    /// are no more. In the list of rulings they stand behind all others, however many there are.
+    /// Never refused.
+    fn credit_given(&mut self, number: u64) -> Result<Option<Credit>, LedgerFault>
+        ensures { IsCall (λ found. option_map credit_shown found)
+            (seen self.old) (seen self.new) result
+            (credit_given_outcome number) };
 
     /// The record that is held under a name, and nothing else of it: one look where its trail
     /// takes many. Refused: `NoSuchRecord`.

@@ -1,10 +1,10 @@
-//! The list of the office's rulings: the tariffs that came as texts, the closes, the choices, and
-//! the adoption of the second rule of identity.
+//! The list of the office's rulings: the tariffs that came as texts, the closes, the choices, the
+//! adoption of the second rule of identity, the tariffs that were replaced, and the credits.
 
-ghost use Rattle.std.specs.Prelude.{◌≡◌, ◌<◌, All, IfOk, length, option_map, slice_get};
-ghost use Rattle.book_model.specs.Words.{IsDay, ShowsDays, adoption_seen, closes_seen, last_period};
-ghost use Rattle.book_model.specs.Words.{ruling_shown, tariffs_seen};
-ghost use Rattle.book_core.specs.ListedRulings.{LeadsInto};
+ghost use Rattle.std.specs.Prelude.{ℕ, ◌<◌, All, IfOk, length};
+ghost use Rattle.book_model.specs.Words.{IsDay, ShowsDays, closes_seen, last_period, tariffs_seen};
+ghost use Rattle.book_core.specs.ListedRulings.{IsShownAt, LeadsInto, StandsIn, adoption_part};
+ghost use Rattle.book_core.specs.ListedRulings.{choices_part, last_part};
 
 use crate::accepted_tariff::AcceptedTariff;
 use crate::rulings::Rulings;
@@ -16,8 +16,21 @@ use std::alloc::{AllocError, Global};
 pub enum ListedAt {
     /// A choice: its place among the choices, from 0.
     Choice(u32),
+    /// A tariff that was replaced: its place among those of them that came as texts, from 0.
+    Replaced(u32),
+    /// A credit: its place among the credits, from 0.
+    Credit(u32),
     /// Another ruling, or none where there are no more.
     Other(Option<ListedRuling>),
+}
+
+/// How many rulings a ledger keeps beside its tariffs and closes.
+#[derive(Clone, Copy)]
+pub struct RulingCounts {
+    pub choices: u32,
+    /// The tariffs that were replaced, but for those that came without a text.
+    pub replaced: u32,
+    pub credits: u32,
 }
 
 /// The tariff at a number among those that came as texts, or by how much the number is past them.
@@ -58,18 +71,65 @@ fn close_at(closes: &[i32], number: u64) -> Result<Option<ListedRuling>, u64>
     }))
 }
 
-/// The adoption, if there was one and the number is 0.
-fn adoption_at(adopted: Option<u16>, number: u64) -> Option<ListedRuling>
-    ensures listed { option_map ruling_shown result ≡ slice_get (adoption_seen adopted) number }
-    ensures days { ShowsDays result }
+/// What stands at a number among the tariffs that were replaced, and the credits behind them.
+fn listed_last(replaced: u32, credits: u32, number: u64) -> ListedAt
+    ensures stands { (choices : ℕ) → StandsIn last_part
+        (record { choices = choices; replaced = replaced; credits = credits }) number result }
+    ensures days { IsShownAt result }
 {
-    if number != 0 {
-        return None;
+    let those = u64::from(replaced);
+    if number < those {
+        return ListedAt::Replaced(number as u32);
     }
+    let rest = number - those;
+    let count = u64::from(credits);
+    if rest < count {
+        return ListedAt::Credit(rest as u32);
+    }
+    ListedAt::Other(None)
+}
+
+/// The same, with an adoption before them.
+fn listed_from_adoption(period: u16, replaced: u32, credits: u32, number: u64) -> ListedAt
+    ensures stands { (choices : ℕ) → StandsIn (adoption_part (Some period))
+        (record { choices = choices; replaced = replaced; credits = credits }) number result }
+    ensures days { IsShownAt result }
+{
+    if number == 0 {
+        return ListedAt::Other(Some(ListedRuling::Adoption { period }));
+    }
+    listed_last(replaced, credits, number - 1)
+}
+
+/// The same behind the choices: the adoption comes first, if there was one.
+fn listed_behind_choices(adopted: Option<u16>, replaced: u32, credits: u32, number: u64) -> ListedAt
+    ensures stands { (choices : ℕ) → StandsIn (adoption_part adopted)
+        (record { choices = choices; replaced = replaced; credits = credits }) number result }
+    ensures days { IsShownAt result }
+{
     match adopted {
-        Some(period) => Some(ListedRuling::Adoption { period }),
-        None => None,
+        Some(period) => listed_from_adoption(period, replaced, credits, number),
+        None => listed_last(replaced, credits, number),
     }
+}
+
+/// The same behind the closes: the choices come first.
+fn listed_behind_closes(
+    adopted: Option<u16>,
+    choices: u32,
+    replaced: u32,
+    credits: u32,
+    number: u64,
+) -> ListedAt
+    ensures stands { StandsIn (choices_part adopted)
+        (record { choices = choices; replaced = replaced; credits = credits }) number result }
+    ensures days { IsShownAt result }
+{
+    let count = u64::from(choices);
+    if number < count {
+        return ListedAt::Choice(number as u32);
+    }
+    listed_behind_choices(adopted, replaced, credits, number - count)
 }
 
 impl Rulings {
@@ -77,14 +137,14 @@ impl Rulings {
     ghost use Rattle.book_core.specs.ListedRulings.{IsShownAt, StandsAt};
     ghost use Rattle.book_core.specs.OfficeRulings.{ruled_in};
 
-    /// What stands at a number of the list, from 0, where so many choices were made.
+    /// What stands at a number of the list, from 0, where so many rulings are kept beside these.
     pub fn listed_at(
         &self,
         alloc: Global,
-        choices: u32,
+        counts: &RulingCounts,
         number: u64,
     ) -> Result<ListedAt, AllocError>
-        ensures stands { IfOk result (StandsAt (ruled_in self.now) choices number) }
+        ensures stands { IfOk result (StandsAt (ruled_in self.now) counts.now number) }
         ensures days { IfOk result IsShownAt }
     {
         let rest = match tariff_at(alloc, self.tariffs(), number)? {
@@ -95,10 +155,12 @@ impl Rulings {
             Ok(found) => return Ok(ListedAt::Other(found)),
             Err(rest) => rest,
         };
-        let count = u64::from(choices);
-        if rest < count {
-            return Ok(ListedAt::Choice(rest as u32));
-        }
-        Ok(ListedAt::Other(adoption_at(self.adopted(), rest - count)))
+        Ok(listed_behind_closes(
+            self.adopted(),
+            counts.choices,
+            counts.replaced,
+            counts.credits,
+            rest,
+        ))
     }
 }

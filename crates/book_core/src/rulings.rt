@@ -1,17 +1,20 @@
-//! The rulings of an office, and what is answered by them to a tariff, a close and a rule of
-//! identity.
+//! The rulings of an office, and what is answered by them to a tariff, a close, a credit and a rule
+//! of identity.
 
 ghost use Rattle.std.specs.Prelude.{◌≡◌, ◌≢◌, ◌≤◌, ◌<◌, All, Ok, false, filter, int_lt, length};
 ghost use Rattle.std.specs.Prelude.{true};
 ghost use Rattle.book_model.specs.Words.{IsDay, are_rising, last_period};
 ghost use Rattle.book_model.specs.RulingAnswers as spec;
 
-use crate::accepted_tariff::{AcceptedTariff, are_before, has_day_of, has_text};
+use crate::accepted_tariff::{
+    AcceptedTariff, are_before, has_centre, has_day_of, has_text, place_of, put_in_place,
+};
 use crate::close_days::is_after;
 use crate::limits::LAST_PERIOD;
 use book_model::{LedgerFault, Ruled};
+use smf_text::Name;
 use std::alloc::{AllocError, Global};
-use tariff_rules::Tariff;
+use tariff_rules::{Tariff, is_unassigned};
 
 /// The rule of identity under which books begin.
 const FIRST_RULE: u8 = 1;
@@ -38,8 +41,8 @@ fn closes_before(closes: &[i32], day: &i32) -> usize
     closes.iter().filter(|close| **close < *day).count()
 }
 
-/// The rulings of the office: its tariffs, its closes and its rule of identity. Its choices are
-/// kept beside them.
+/// The rulings of the office: its tariffs, its closes and its rule of identity. Its choices, the
+/// tariffs that were replaced and its credits are kept beside them.
 #[derive(Drop)]
 pub struct Rulings {
     /// In the order of their first days.
@@ -54,12 +57,14 @@ pub struct Rulings {
 }
 
 impl Rulings {
-    ghost use Rattle.std.specs.Prelude.{◌≡◌, ◌≤◌, ◌<◌, All, OnOk, Some, length};
+    ghost use Rattle.std.specs.Prelude.{◌≡◌, ◌≤◌, ◌<◌, [], ◌∷◌, All, OnOk, Some, filter, length};
     ghost use Rattle.std.specs.Prelude.{string_bytes, true};
+    ghost use Rattle.std.specs.List.{list_any};
     ghost use Rattle.book_model.specs.Words.{IsDay, are_rising, last_period, no_rulings, open_by};
     ghost use Rattle.book_model.specs.Words.{period_on, with_close, with_second_rule, with_tariff};
     ghost use Rattle.book_model.specs.Rulings as ruling;
-    ghost use Rattle.book_core.specs.OfficeRulings.{HasCloseRoom, HasTariffRoom, ruled_in};
+    ghost use Rattle.book_core.specs.OfficeRulings.{HasCloseRoom, HasTariffRoom, in_its_place};
+    ghost use Rattle.book_core.specs.OfficeRulings.{ruled_in};
 
     /// No ruling yet.
     pub fn new(alloc: Global) -> Rulings
@@ -170,6 +175,56 @@ impl Rulings {
         Ok(Ruled::Done)
     }
 
+    /// What is answered to a tariff in the place of the one that begins on its first day. Whether the
+    /// books have room for it is not asked here.
+    pub fn replacing_answer(&self, text: &str, tariff: &Tariff) -> Result<Ruled, LedgerFault>
+        ensures { result ≡ spec.replace_ruled (ruled_in self.now) false text.now tariff.now }
+    {
+        if has_text(&self.tariffs, text) {
+            return Ok(Ruled::Already);
+        }
+        if !has_day_of(&self.tariffs, tariff) {
+            return Err(LedgerFault::NoSuchTariff);
+        }
+        if self.is_early(tariff.effective()) {
+            return Err(LedgerFault::TariffDate);
+        }
+        Ok(Ruled::Done)
+    }
+
+    /// A tariff has a rule for the centre, or it is that of the records without one.
+    fn is_known_centre(&self, centre: Name) -> bool
+        ensures { result ≡ spec.is_known_centre (ruled_in self.now) centre }
+    {
+        is_unassigned(&centre) || has_centre(&self.tariffs, centre)
+    }
+
+    /// What is answered to a credit of a period to a centre, where it was given and where it was
+    /// not, and where there is no room for one more and where there is.
+    pub fn credit_answer(
+        &self,
+        period: u16,
+        centre: Name,
+        given: bool,
+        full: bool,
+    ) -> Result<Ruled, LedgerFault>
+        ensures { result ≡ spec.credit_ruled (ruled_in self.now) given full period centre }
+    {
+        if given {
+            return Ok(Ruled::Already);
+        }
+        if self.open_number() != period {
+            return Err(LedgerFault::WrongPeriod(self.open_number()));
+        }
+        if !self.is_known_centre(centre) {
+            return Err(LedgerFault::NoSuchCentre);
+        }
+        if full {
+            return Err(LedgerFault::Full);
+        }
+        Ok(Ruled::Done)
+    }
+
     /// A period was closed through this day.
     fn is_closed(&self, period: u16, day: i32) -> bool
         ensures { result ≡ spec.is_closed period day (ruled_in self.now) }
@@ -250,6 +305,25 @@ impl Rulings {
             text: Some(text),
             tariff,
         });
+    }
+
+    /// Puts a text in the place of the tariff that begins on its first day, and gives that back.
+    /// There is room for one more.
+    pub fn put_replacement(&mut self, text: String, tariff: Tariff) -> AcceptedTariff
+        requires room { HasTariffRoom self.old }
+        requires there { list_any (ruling.is_effective tariff.effective)
+            (ruled_in self.old).tariffs ≡ true }
+        ensures put { ruled_in self.new ≡ in_its_place
+            (record { text = Some (string_bytes text); terms = tariff }) (ruled_in self.old) }
+        ensures was { filter (ruling.is_effective tariff.effective) (ruled_in self.old).tariffs
+            ≡ result ∷ [] }
+    {
+        let place = place_of(&self.tariffs, &tariff);
+        let accepted = AcceptedTariff {
+            text: Some(text),
+            tariff,
+        };
+        put_in_place(&mut self.tariffs, place, accepted)
     }
 
     /// Makes room for one more close.

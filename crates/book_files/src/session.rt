@@ -9,13 +9,13 @@ ghost use Rattle.book_sessions.specs.Sessions.{AreOpened, KeepsLog, OpenOnly, Tr
 ghost use Rattle.book_sessions.specs.Upgrades.{AreUpgraded, TellsThisForm};
 ghost use Rattle.book_sessions.specs.Visits.{AreVisited};
 ghost use Rattle.book_restarts.specs.FileBooks.{file_names};
-ghost use Rattle.book_trees.specs.LedgerFiles.{HoldsBooks, HoldsFirstBooks, HoldsNothing};
+ghost use Rattle.book_trees.specs.LedgerFiles.{HoldsBooks, HoldsOldBooks, HoldsNothing};
 ghost use Rattle.book_trees.specs.StoreView.{ListsBooks};
 
 use crate::kept_pages::pages_for;
 use book_audit::{Audited, Watch};
 use book_sessions::Ended;
-use book_trees::{CACHE_PAGES, LeftByLedger, create_at, look_through_at, open_at, open_first_at};
+use book_trees::{CACHE_PAGES, LeftByLedger, create_at, look_through_at, open_at, open_old_at};
 use named_books::{RepositoryFault, Upgraded, Visit};
 use sqlite_disk::{Disk, Start};
 use synced_disk::BookFile;
@@ -100,10 +100,10 @@ pub fn upgrade_at<S: Start>(
 ) -> (Result<Upgraded, RepositoryFault>, Ended<BookFile<S>>)
     ensures upgraded { AreUpgraded ⟦<BookFile<S> as Disk>⟧ (image_at S.Start) result.0 result.1 }
     ensures moves { TriesToMoveLog result.1 }
-    ensures only { OpenOnly ⟦<BookFile<S> as Disk>⟧ (HoldsFirstBooks (image_at S.Start))
+    ensures only { OpenOnly ⟦<BookFile<S> as Disk>⟧ (HoldsOldBooks (image_at S.Start))
         result.1 }
     ensures told { IfOk result.0 TellsThisForm }
 {
-    let opened = open_first_at(rt, path, seed, start);
+    let opened = open_old_at(rt, path, seed, start);
     book_sessions::upgrade(rt.alloc(), opened)
 }

@@ -5,7 +5,7 @@ ghost use Rattle.book_http.specs.Numbers as spec;
 
 /// The number that a text of one to a given number of digits writes. It has no sign and no blank.
 #[tactic(auto, unfolding(crate::specs::Numbers::decimal_value))]
-pub(crate) fn decimal_value(most: usize, text: &[u8]) -> Option<u64>
+pub fn decimal_value(most: usize, text: &[u8]) -> Option<u64>
     requires { most ≤ 19 }
     ensures value { result ≡ spec.decimal_value most text.now }
     ensures bound { IfSome result (λ decimal_value. decimal_value < 10 ^ most) }

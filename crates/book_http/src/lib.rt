@@ -25,6 +25,7 @@ mod status;
 
 pub use answer::Answer;
 pub use asked::Asked;
+pub use decimal_value::decimal_value;
 pub use laws::{
     answers_are_one, request_twice_is_once, requests_are_mended, requests_make_history,
 };

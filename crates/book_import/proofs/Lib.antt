@@ -8,6 +8,7 @@ pub mod PieceLemmas
 pub mod FeedLemmas
 pub mod PartLemmas
 pub mod GatheringLemmas
+pub mod NameLemmas
 pub mod GroupLemmas
 pub mod GroupWork
 pub mod PieceGroupLemmas

@@ -15,10 +15,12 @@ use Rattle.book_model.proofs.Lemmas.{filter-agree, filter-filter, filter-map, li
 use Rattle.book_model.proofs.Lemmas.{sum_by-plus, length-sum_by}
 use Rattle.book_model.proofs.RecordSets.{tests_swap}
 use Rattle.report_texts.specs.AdjustmentLists.{charged_amount, reversed_amount}
-use Rattle.report_texts.specs.Centres.{lines_of_centre}
-use Rattle.report_texts.specs.Charges.{all_charges, centres_of, charges_of, charges_of_centre}
-use Rattle.report_texts.specs.Charges.{plain_lines}
+use Rattle.report_texts.specs.Centres.{credits_of_centre, lines_of_centre}
+use Rattle.report_texts.specs.Charges.{all_charges, centres_of, centres_on, charged_in, charges_of}
+use Rattle.report_texts.specs.Charges.{charges_of_centre, charges_on, plain_credit, plain_credits}
+use Rattle.report_texts.specs.Charges.{plain_lines, taken_in}
 use Rattle.report_texts.specs.declared.charges.Charges.{Charges}
+use Rattle.report_texts.specs.declared.charges.CreditAmount.{CreditAmount}
 use Rattle.book_laws.specs.BillLaws.{AddUpTo, BillsAddUp, BillsSplitStatements, Splits, lines_asked}
 use Rattle.book_laws.specs.BillLaws.{owed_for, owed_for_all, rows_asked}
 use Rattle.book_laws.specs.DetailLaws.{AddUp}
@@ -155,33 +157,36 @@ pub one_more_owed : (p q x y : ℕ)
     → (pos p -ℤ pos q) +ℤ (pos x -ℤ pos y) ≡ pos (p + x) -ℤ pos (q + y)
 one_more_owed p q x y = omega (arith, ints)
 
-abbrev charged : Charges → ℕ
-charged charges = charges.steps + charges.jobs + charges.late
-
-abbrev reversed : Charges → ℕ
-reversed charges = charges.reversed
-
 owed_by_sums : (shares : List Charges)
-    → owed_for_all shares ≡ pos (sum_by charged shares) -ℤ pos (sum_by reversed shares)
+    → owed_for_all shares ≡ pos (sum_by charged_in shares) -ℤ pos (sum_by taken_in shares)
 owed_by_sums [] = refl
 owed_by_sums (share ∷ shares) =
     ap (λ rest. owed_for share +ℤ rest) (owed_by_sums shares)
-    ∙ one_more_owed (charged share) (reversed share) (sum_by charged shares)
-    (sum_by reversed shares)
-    ∙ (λ i. pos (sym (sum_by-cons charged share shares) i)
-    -ℤ pos (sym (sum_by-cons reversed share shares) i))
+    ∙ one_more_owed (charged_in share) (taken_in share) (sum_by charged_in shares)
+    (sum_by taken_in shares)
+    ∙ (λ i. pos (sym (sum_by-cons charged_in share shares) i)
+    -ℤ pos (sym (sum_by-cons taken_in share shares) i))
 
-charged_in_three : (shares : List Charges)
-    → sum_by charged shares
+charged_in_four : (shares : List Charges)
+    → sum_by charged_in shares
     ≡ sum_by (λ share. share.steps) shares + sum_by (λ share. share.jobs) shares
-    + sum_by (λ share. share.late) shares
-charged_in_three shares =
-    sum_by-plus (λ (share : Charges). share.steps + share.jobs) (λ (share : Charges). share.late)
-    shares
-    ∙ ap (λ n. n + sum_by (λ (share : Charges). share.late) shares)
-    (sum_by-plus (λ (share : Charges). share.steps) (λ (share : Charges). share.jobs) shares)
+    + sum_by (λ share. share.late) shares + sum_by (λ share. share.debited) shares
+charged_in_four shares =
+    let late : Charges → ℕ = λ share. share.late in
+    let debited : Charges → ℕ = λ share. share.debited in
+    sum_by-plus (λ (share : Charges). share.steps + share.jobs + share.late) debited shares
+    ∙ ap (λ n. n + sum_by debited shares)
+    (sum_by-plus (λ (share : Charges). share.steps + share.jobs) late shares
+    ∙ ap (λ n. n + sum_by late shares)
+    (sum_by-plus (λ (share : Charges). share.steps) (λ (share : Charges). share.jobs) shares))
 
-module _ (steps jobs : List ChargeRow) (lines : List Line) where
+taken_in_two : (shares : List Charges)
+    → sum_by taken_in shares
+    ≡ sum_by (λ share. share.reversed) shares + sum_by (λ share. share.credited) shares
+taken_in_two shares =
+    sum_by-plus (λ (share : Charges). share.reversed) (λ (share : Charges). share.credited) shares
+
+module _ (steps jobs : List ChargeRow) (lines : List Line) (credits : List CreditAmount) where
   abbrev of_steps : List (List ℕ)
   of_steps = map (λ (row : ChargeRow). row.centre) steps
 
@@ -191,58 +196,85 @@ module _ (steps jobs : List ChargeRow) (lines : List Line) where
   abbrev of_lines : List (List ℕ)
   of_lines = map (λ (line : Line). line.priced.centre) lines
 
+  abbrev of_credits : List (List ℕ)
+  of_credits = map (λ (credit : CreditAmount). credit.centre) credits
+
+  -- the names of the centres, as the rows, the lines and the credits have them
+  abbrev names : List (List ℕ)
+  names = of_steps ++ of_jobs ++ of_lines ++ of_credits
+
   abbrev share_of : List ℕ → Charges
-  share_of centre = charges_of_centre centre steps jobs lines
+  share_of centre = charges_of_centre centre steps jobs lines credits
 
   abbrev shares_of : List Charges
-  shares_of = map share_of (centres_of steps jobs lines)
+  shares_of = map share_of (centres_of steps jobs lines credits)
 
   -- a sum over the shares is one over the centres
   over_centres : (g : Charges → ℕ)
-      → sum_by g shares_of ≡ sum_by (λ centre. g (share_of centre)) (centres_of steps jobs lines)
-  over_centres g = fold-map (λ n share. n + g share) share_of 0 (centres_of steps jobs lines)
+      → sum_by g shares_of
+      ≡ sum_by (λ centre. g (share_of centre)) (centres_of steps jobs lines credits)
+  over_centres g =
+      fold-map (λ n share. n + g share) share_of 0 (centres_of steps jobs lines credits)
 
   all_steps : sum_by (λ share. share.steps) shares_of ≡ sum_by (λ row. row.amount) steps
   all_steps =
       over_centres (λ (share : Charges). share.steps)
-      ∙ by_centres (of_steps ++ of_jobs ++ of_lines) (λ (row : ChargeRow). row.centre)
-      (λ row. row.amount) steps (λ row among.
-      in_first (same_bytes row.centre) (of_steps ++ of_jobs) of_lines
+      ∙ by_centres names (λ (row : ChargeRow). row.centre) (λ row. row.amount) steps (λ row among.
+      in_first (same_bytes row.centre) (of_steps ++ of_jobs ++ of_lines) of_credits
+      (in_first (same_bytes row.centre) (of_steps ++ of_jobs) of_lines
       (in_first (same_bytes row.centre) of_steps of_jobs
-      (list_any-map (same_bytes row.centre) (λ (row : ChargeRow). row.centre) steps ∙ among)))
+      (list_any-map (same_bytes row.centre) (λ (row : ChargeRow). row.centre) steps ∙ among))))
 
   all_jobs : sum_by (λ share. share.jobs) shares_of ≡ sum_by (λ row. row.amount) jobs
   all_jobs =
       over_centres (λ (share : Charges). share.jobs)
-      ∙ by_centres (of_steps ++ of_jobs ++ of_lines) (λ (row : ChargeRow). row.centre)
-      (λ row. row.amount) jobs (λ row among.
-      in_first (same_bytes row.centre) (of_steps ++ of_jobs) of_lines
+      ∙ by_centres names (λ (row : ChargeRow). row.centre) (λ row. row.amount) jobs (λ row among.
+      in_first (same_bytes row.centre) (of_steps ++ of_jobs ++ of_lines) of_credits
+      (in_first (same_bytes row.centre) (of_steps ++ of_jobs) of_lines
       (in_second (same_bytes row.centre) of_steps of_jobs
-      (list_any-map (same_bytes row.centre) (λ (row : ChargeRow). row.centre) jobs ∙ among)))
+      (list_any-map (same_bytes row.centre) (λ (row : ChargeRow). row.centre) jobs ∙ among))))
 
   all_lines : (g : Line → ℕ)
-      → sum_by (λ centre. sum_by g (lines_of_centre centre lines)) (centres_of steps jobs lines)
+      → sum_by (λ centre. sum_by g (lines_of_centre centre lines))
+      (centres_of steps jobs lines credits)
       ≡ sum_by g lines
   all_lines g =
-      by_centres (of_steps ++ of_jobs ++ of_lines) (λ (line : Line). line.priced.centre) g lines
-      (λ line among.
-      in_second (same_bytes line.priced.centre) (of_steps ++ of_jobs) of_lines
+      by_centres names (λ (line : Line). line.priced.centre) g lines (λ line among.
+      in_first (same_bytes line.priced.centre) (of_steps ++ of_jobs ++ of_lines) of_credits
+      (in_second (same_bytes line.priced.centre) (of_steps ++ of_jobs) of_lines
       (list_any-map (same_bytes line.priced.centre) (λ (line : Line). line.priced.centre) lines
+      ∙ among)))
+
+  all_credits : (g : CreditAmount → ℕ)
+      → sum_by (λ centre. sum_by g (credits_of_centre centre credits))
+      (centres_of steps jobs lines credits)
+      ≡ sum_by g credits
+  all_credits g =
+      by_centres names (λ (credit : CreditAmount). credit.centre) g credits (λ credit among.
+      in_second (same_bytes credit.centre) (of_steps ++ of_jobs ++ of_lines) of_credits
+      (list_any-map (same_bytes credit.centre) (λ (credit : CreditAmount). credit.centre) credits
       ∙ among))
 
-  shares_add_up : AddUpTo shares_of (charges_of steps jobs lines)
+  shares_add_up : AddUpTo shares_of (charges_of steps jobs lines credits)
   shares_add_up =
       let late = over_centres (λ (share : Charges). share.late) ∙ all_lines charged_amount in
       let back = over_centres (λ (share : Charges). share.reversed) ∙ all_lines reversed_amount in
+      let credited = over_centres (λ (share : Charges). share.credited)
+      ∙ all_credits (λ credit. credit.credited) in
+      let debited = over_centres (λ (share : Charges). share.debited)
+      ∙ all_credits (λ credit. credit.debited) in
       record {
         steps = all_steps;
         jobs = all_jobs;
         late = late;
         reversed = back;
+        credited = credited;
+        debited = debited;
         owed =
             owed_by_sums shares_of
-            ∙ (λ i. pos (charged_in_three shares_of i) -ℤ pos (sum_by reversed shares_of))
-            ∙ (λ i. pos (all_steps i + all_jobs i + late i) -ℤ pos (back i));
+            ∙ (λ i. pos (charged_in_four shares_of i) -ℤ pos (taken_in_two shares_of i))
+            ∙ (λ i. pos (all_steps i + all_jobs i + late i + debited i)
+            -ℤ pos (back i + credited i));
       }
 
 -- the law
@@ -254,24 +286,30 @@ bills_add_up naming book number period =
     let bill_for : List ℕ → BillSeen =
     λ centre. bill_of naming book number (Some centre) period in
     let each : (centre : List ℕ) → all_charges (bill_for centre)
-    ≡ charges_of_centre centre office.steps office.jobs (plain_lines office.lines) =
+    ≡ (charges_on office centre).charges =
     λ centre.
     let own : plain_lines (bill_for centre).lines ≡ lines_of_centre centre (plain_lines office.lines) =
     lines_billed naming book number (Some centre) lines
     ∙ ap (lines_of_centre centre) (sym (lines_billed naming book number None lines)) in
     let steps = rows_there is_step centre details in
     let jobs = rows_there (λ detail. not (is_step detail)) centre details in
+    let credits : plain_credits (bill_for centre).credits
+    ≡ credits_of_centre centre (plain_credits office.credits) =
+    sym (filter-map (λ (credit : CreditAmount). same_bytes credit.centre centre) plain_credit
+    office.credits) in
     λ i. record {
       steps = steps i;
       jobs = jobs i;
       late = sum_by charged_amount (own i);
       reversed = sum_by reversed_amount (own i);
+      credited = sum_by (λ credit. credit.credited) (credits i);
+      debited = sum_by (λ credit. credit.debited) (credits i);
     } in
     record {
       each = each;
       all =
           subst (λ shares. AddUpTo shares (all_charges office))
-          (λ i. map (λ (centre : List ℕ). sym (each centre) i)
-          (centres_of office.steps office.jobs (plain_lines office.lines)))
-          (shares_add_up office.steps office.jobs (plain_lines office.lines));
+          (λ i. map (λ (centre : List ℕ). sym (each centre) i) (centres_on office))
+          (shares_add_up office.steps office.jobs (plain_lines office.lines)
+          (plain_credits office.credits));
     }

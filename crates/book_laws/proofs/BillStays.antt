@@ -2,7 +2,7 @@
 use Rattle.std.proofs.Common.{◌≡◌, ℕ, zero, suc, ◌<◌, List, [], ◌∷◌, length, refl, sym, ap, ◌∙◌}
 use Rattle.std.proofs.Common.{true, false, true≢false, Bool, ◌||◌, Option, Some, None, is_some}
 use Rattle.std.proofs.Common.{arith, All, ℤ, pos, if◌then◌else◌, filter_map, ok_or, option_and_then}
-use Rattle.std.proofs.Common.{flat_map, option_map, int_cmp}
+use Rattle.std.proofs.Common.{flat_map, option_map, int_cmp, length-append, ◌+◌, ◌++◌}
 use Rattle.std.proofs.lemmas.List.Sorted.{All-permutation}
 use Rattle.book_model.proofs.Std.{IsStrictlySortedBy, cons_option, list_any, result_ok, All-append}
 use Rattle.book_model.proofs.Std.{All-cons, All-filter, All-nil, IsPermutation-sym}
@@ -19,7 +19,9 @@ use Rattle.book_model.specs.Words.{held_back_of, in_force, is_dated_after, jobs_
 use Rattle.book_model.specs.Words.{letterhead_among, life_of, lines_for, lines_of, members, name_of}
 use Rattle.book_model.specs.Words.{no_event, period_by_trail, period_of_line, period_on, price_by}
 use Rattle.book_model.specs.Words.{price_in, reckoning_by, record_named, same_bytes, steps_of}
-use Rattle.book_model.specs.Words.{trail_by, trail_of, work_rows}
+use Rattle.book_model.specs.Words.{trail_by, trail_of, work_rows, CreditGiven, PeriodClosed}
+use Rattle.book_model.specs.Words.{RulingGiven, credits_asked, credits_in, open_by}
+use Rattle.book_model.proofs.CreditLemmas.{credit_late}
 use Rattle.book_model.proofs.Lemmas.{line_by, line_of, map-agree, is, is_first}
 use Rattle.book_model.proofs.SamePriceLemmas.{same_lines}
 use Rattle.report_texts.specs.Centres.{lines_of_centre}
@@ -137,6 +139,29 @@ none_held_back naming book k centre within =
     let held : HeldBack = held_back_in centre (disputes_in naming book.rulings book.held) in
     ap (λ (through : Option ℤ). if is_some through then None else Some held) closed
 
+-- no event adds a credit to a closed period, or takes one from it
+keeps_credits : (later : List Event) (old : Book) (number : ℕ) → number < open_by old.rulings
+    → (number < open_by (after_all later old).rulings)
+    × (credits_in number (after_all later old).rulings ≡ credits_in number old.rulings)
+keeps_credits [] old number closed = (closed, refl)
+keeps_credits (PeriodClosed day ∷ later) old number closed =
+    let before = keeps_credits later old number closed in
+    let more = length-append (after_all later old).rulings.closes (day ∷ []) in
+    let was = before.0 in
+    (omega (arith, more, was), before.1)
+keeps_credits (RulingGiven (CreditGiven centre amount reason) ∷ later) old number closed =
+    let before = keeps_credits later old number closed in
+    let book : Book = after_all later old in (
+      before.0,
+      credit_late book.rulings.credits (record {
+        centre = centre;
+        amount = amount;
+        reason = reason;
+        period = open_by book.rulings;
+      }) number before.0 ∙ before.1,
+    )
+keeps_credits (event ∷ later) old number closed = keeps_credits later old number closed
+
 -- the bill of a closed period stays, where a sound book has its closes in order
 bill_stays : (naming : Naming) (later : List Event) (old : Book) (number : ℕ)
     (centre : Option (List ℕ)) → IsSound naming old
@@ -185,6 +210,7 @@ bill_stays naming later old (suc k) centre was_sound rising made closed =
     (kept.dated.taken bytes there) priced) in
     let billed = ap (billed_lines naming new (suc k) centre) lines
     ∙ billed_alike naming new old (suc k) centre (lines_of naming old.rulings period) each in
+    let credits = (keeps_credits later old (suc k) past).1 in
     let tariffs = tariffs_stay naming later old k rising made within in
     let before = before_same naming later old k rising made within in
     let still = (keeps_tariffs naming later old k rising made within).within in
@@ -195,6 +221,7 @@ bill_stays naming later old (suc k) centre was_sound rising made closed =
       steps = work_rows (steps_of (details_asked centre (kept.details i)));
       jobs = work_rows (jobs_of (details_asked centre (kept.details i)));
       lines = billed i;
+      credits = credits_asked centre (credits i);
       held_back = none i;
       before = before i;
       tariffs = filter_map billed_tariff (tariffs i);

@@ -1,7 +1,7 @@
 -- What the office books is what its centres' bills book.
 use Rattle.std.proofs.Common.{◌≡◌, ◌∙◌, ℕ, List, [], ◌∷◌, None, ap, map, refl, sym}
 use Rattle.book_model.specs.Words.{BillSeen, bill_of}
-use Rattle.report_texts.specs.Charges.{centre_charges, centres_of, plain_lines}
+use Rattle.report_texts.specs.Charges.{centres_on, charges_on}
 use Rattle.report_texts.specs.declared.charges.CentreCharges.{CentreCharges}
 use Rattle.bill_texts.specs.Booked.{booked_of_all, owed_by, owed_of}
 use Rattle.book_laws.specs.BookedLaws.{BookedAddUp}
@@ -19,8 +19,7 @@ pub booked_add_up : BookedAddUp
 booked_add_up naming book number period unit =
     let shares = bills_add_up naming book number period in
     let office : BillSeen = bill_of naming book number None period in
-    let centres : List (List ℕ) = centres_of office.steps office.jobs (plain_lines office.lines) in
-    ap (booked_of_all unit)
-    (owed_each (centre_charges office.steps office.jobs (plain_lines office.lines)) centres)
+    let centres : List (List ℕ) = centres_on office in
+    ap (booked_of_all unit) (owed_each (charges_on office) centres)
     ∙ (λ i. booked_of_all unit
     (map (λ (centre : List ℕ). owed_of (sym (shares.each centre) i)) centres))

@@ -1,5 +1,5 @@
 -- Calls on one ledger, one after another: their work, and the events that they make.
-use Rattle.std.proofs.Common.{false, ℕ, List, [], ◌∷◌, ◌++◌, Result, Ok, Err, map, refl, sym, subst}
+use Rattle.std.proofs.Common.{false, ℕ, List, [], ◌∷◌, Result, Ok, Err, map, refl, sym, subst}
 use Rattle.std.proofs.Common.{Vec, Global, option_map}
 use Rattle.book_model.specs.declared.answer.Accepted.{Accepted}
 use Rattle.book_model.specs.MadeByCalls.{AreMadeOf}
@@ -8,12 +8,12 @@ use Rattle.book_model.specs.Words.{accept_answer, Book, new_book, dispute_shown}
 use Rattle.book_model.specs.Words.{book_after, Outcome, accept_outcome, charges_outcome}
 use Rattle.book_model.specs.Words.{adjustments_outcome, disputes_outcome, periods_outcome, Naming}
 use Rattle.book_model.specs.Words.{dispute_outcome, next_detail_outcome, record_outcome}
-use Rattle.book_model.specs.Words.{ruling_outcome}
+use Rattle.book_model.specs.Words.{credit_given_outcome, credit_shown, ruling_outcome}
 use Rattle.book_model.specs.Words.{ruling_shown, trail_outcome, trail_shown, what_if_outcome}
 use Rattle.book_core.specs.Words.{Calls, listed, Seen, IsOpenAt, Accepts, Takes, first_of}
 use Rattle.book_core.specs.Words.{IsTransition, MakesAnswered}
 use Rattle.book_core.proofs.FollowLemmas.{then_answered, calls_answered, none_answered}
-use Rattle.book_core.proofs.FollowLemmas.{accept_event-answered, ruling_answered}
+use Rattle.book_core.proofs.FollowLemmas.{accept_event-answered, ruling_answered, works_answered}
 use Rattle.book_core.proofs.TransitionLemmas.{no_work, work_then}
 use Rattle.book_lists.proofs.ReadingLemmas.{IsReading}
 use Rattle.office.specs.Laws.{IsStillOpen}
@@ -21,12 +21,13 @@ use Rattle.office.proofs.ChoiceLemmas.{choices_answered}
 use Rattle.office.proofs.LawLemmas.{asks_answered}
 use Rattle.office.proofs.LeavingLemmas.{Leaves}
 use Rattle.office.proofs.RunLemmas.{runs_answered}
+use Rattle.office.proofs.WithholdingLemmas.{so_answered}
 use Rattle.book_core.proofs.FollowLemmas.{history_goes_on}
 use Rattle.book_http.proofs.LawLemmas.{request_answered}
 use Rattle.book_laws.specs.CallLaws.{CallsFollowHistory}
 use Rattle.book_laws.specs.Calls.{Call, Request, RunRequests, AcceptRecord, ReadCharges}
 use Rattle.book_laws.specs.Calls.{AcceptRecords, ChooseEach, MakeRuling, HttpDetails, HttpRequest}
-use Rattle.book_laws.specs.Calls.{ReadAdjustments}
+use Rattle.book_laws.specs.Calls.{ReadAdjustments, ReadCredit, WithholdEach, WithholdWorks}
 use Rattle.book_laws.specs.Calls.{ReadDisputes, ReadPeriods, ReadChargesUnder, ReadDetail}
 use Rattle.book_laws.specs.Calls.{ReadDispute, ReadRecord, ReadRuling, ReadTrail, Step, AreDone}
 use Rattle.book_laws.specs.Calls.{calls_of, ledger_after_calls, work_of, works_of}
@@ -72,8 +73,8 @@ takes_answered naming records (Err fault) = record_answered naming (first_of rec
 call_answered : (naming : Naming) (call : Call) → MakesAnswered naming (work_of naming call)
 call_answered naming (Request asked dump told) = asks_answered naming asked dump told
 call_answered naming (RunRequests requests answers) = runs_answered naming requests answers
-call_answered naming (ChooseEach names answers refusal) =
-    choices_answered naming names answers refusal
+call_answered naming (ChooseEach withheld names answers refusal) =
+    choices_answered withheld naming names answers refusal
 call_answered naming (HttpRequest bytes reply) = request_answered naming bytes reply
 call_answered naming (HttpDetails bytes held holds served) = λ book was events is made.
     request_answered naming bytes made.reply book was events was made.answer.0
@@ -81,6 +82,9 @@ call_answered naming (MakeRuling ruling answer) =
     ruling_answered naming (λ ruled. ruled) ruling answer
 call_answered naming (AcceptRecord bytes answer) = record_answered naming bytes answer
 call_answered naming (AcceptRecords records answers) = takes_answered naming records answers
+call_answered naming (WithholdWorks names told) = works_answered naming names told
+call_answered naming (WithholdEach names counts refusal) =
+    so_answered naming names counts refusal
 call_answered naming (ReadCharges period answer) =
     readings_answered naming (λ rows. rows.items) (charges_outcome period) answer (λ book. refl)
 call_answered naming (ReadChargesUnder period terms answer) =
@@ -102,6 +106,9 @@ call_answered naming (ReadPeriods answer) =
     readings_answered naming (λ days. days.items) periods_outcome answer (λ book. refl)
 call_answered naming (ReadRuling number answer) =
     readings_answered naming (λ found. option_map ruling_shown found) (ruling_outcome naming number)
+    answer (λ book. refl)
+call_answered naming (ReadCredit number answer) =
+    readings_answered naming (λ found. option_map credit_shown found) (credit_given_outcome number)
     answer (λ book. refl)
 call_answered naming (ReadRecord name answer) =
     readings_answered naming (λ bytes. bytes.items) (record_outcome naming name) answer

@@ -3,7 +3,8 @@ use Rattle.std.proofs.Common.{List, [], ◌∷◌, ◌++◌, sym, subst, Some, N
 use Rattle.std.specs.List.Sorted.{IsStrictlySortedBy}
 use Rattle.book_model.specs.Words.{Book, Event, IsAnswered, IsMadeByCalls, IsSound, Naming}
 use Rattle.book_model.specs.Words.{PeriodClosed, RecordChosen, RecordKept, RulingGiven}
-use Rattle.book_model.specs.Words.{SecondRuleAdopted, TariffAccepted, after, after_all, book_after}
+use Rattle.book_model.specs.Words.{CreditGiven, SecondRuleAdopted, TariffAccepted, TariffReplaced}
+use Rattle.book_model.specs.Words.{WorkWithheld, after, after_all, book_after}
 use Rattle.book_model.specs.Words.{give, name_of, new_book, open_number}
 use Rattle.book_model.proofs.Lemmas.{calls_go_forward, sound_after, steps_stay_sound}
 use Rattle.table_model.proofs.CloseOrder.{rise_behind}
@@ -26,6 +27,12 @@ event_sound naming (RulingGiven (RecordChosen bytes)) book answered sound =
     steps_stay_sound.choose naming book (name_of naming bytes) bytes sound answered.1
 event_sound naming (RulingGiven SecondRuleAdopted) book answered sound =
     steps_stay_sound.adopt naming book sound
+event_sound naming (RulingGiven (TariffReplaced text terms)) book answered sound =
+    steps_stay_sound.replace naming book text terms sound
+event_sound naming (RulingGiven (WorkWithheld bytes)) book answered sound =
+    steps_stay_sound.withhold naming book (name_of naming bytes) bytes sound answered.1
+event_sound naming (RulingGiven (CreditGiven centre amount reason)) book answered sound =
+    steps_stay_sound.credit naming book centre amount reason sound
 
 -- and after all that calls make of it
 pub sound_later : (naming : Naming) (later : List Event) (book : Book) → IsSound naming book

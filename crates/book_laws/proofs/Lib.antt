@@ -49,6 +49,9 @@ pub mod InForceLemmas
 pub mod ShiftRows
 pub mod BillChecks
 pub mod TariffTexts
+pub mod CreditSums
+pub mod RulingLemmas
+pub mod ReplacedStays
 pub mod PageLemmas
 pub mod OtherPriceLemmas
 pub mod OtherWorkLemmas

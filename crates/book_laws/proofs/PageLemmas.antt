@@ -5,7 +5,8 @@ use Rattle.std.proofs.Common.{None, Ok, ap, arith, refl, sym, lt-ltb, ok_or, opt
 use Rattle.std.proofs.Common.{flat_map, map, slice_get, sum_by}
 use Rattle.std.proofs.lemmas.List.FromFn.{get_or-map-range_with_len, length-map-range_with_len}
 use Rattle.book_model.proofs.Std.{nat_tests, option_map_or}
-use Rattle.book_model.specs.Words.{Book, Naming, Period, details_of, disputes_in, lines_of, open_by}
+use Rattle.book_model.specs.Words.{Book, Credit, Naming, Period, credits_in, details_of, disputes_in}
+use Rattle.book_model.specs.Words.{lines_of, open_by}
 use Rattle.book_model.specs.Words.{open_period, close_of, last_period, period_of, rows_for}
 use Rattle.report_texts.specs.AdjustmentLists.{adjustment_line, adjustment_list_text, sum_line}
 use Rattle.report_texts.specs.Figures.{dispute_count, period_open}
@@ -75,8 +76,11 @@ module _ (naming : Naming) (book : Book) (number : ℕ) (period : Period)
     abbrev its_lines : List Line
     its_lines = lines_of naming book.rulings period
 
+    abbrev its_credits : List Credit
+    its_credits = credits_in number book.rulings
+
     abbrev its_figures : FiguresSeen
-    its_figures = figures_of its_rows its_lines
+    its_figures = figures_of its_rows its_lines its_credits
 
     abbrev its_coverage : List CoverageRow
     its_coverage = coverage_in naming book number period
@@ -129,12 +133,12 @@ module _ (naming : Naming) (book : Book) (number : ℕ) (period : Period)
         let disputes = disputes_in naming book.rulings book.held in (
           page_start (period_title number),
           currency_figure letterhead.currency ++ gaps_figure its_coverage ++ day_part its_rows
-              ++ centre_part its_rows its_lines ++ statement_part its_rows ++ adjustment_part its_lines
-              ++ dispute_part (close_of (number - 1) closes) (close_of number closes) disputes
+              ++ centre_part its_rows its_lines its_credits ++ statement_part its_rows
+              ++ adjustment_part its_lines ++ dispute_part (close_of (number - 1) closes) (close_of number closes) disputes
               ++ period_foot number,
           (λ i. shown_by (λ coverage. period_page_text number letterhead closes
               (option_map_or (λ (period : Period). rows_for book.rulings period.counted) (is i) [])
-              (option_map_or (lines_of naming book.rulings) (is i) []) disputes coverage)
+              (option_map_or (lines_of naming book.rulings) (is i) []) its_credits disputes coverage)
               (shown_by (rows_by (closes_around number book)) (shown_by (map (on_system naming book))
               (ok_or (option_map (λ (period : Period). details_of naming book.rulings period) (is i))
               NoSuchPeriod))))
@@ -142,7 +146,8 @@ module _ (naming : Naming) (book : Book) (number : ℕ) (period : Period)
               (period_head letterhead.office (period_title number) (close_of number closes)
               its_figures)
               (currency_figure letterhead.currency) (gaps_figure its_coverage) (day_part its_rows)
-              (centre_part its_rows its_lines) (statement_part its_rows) (adjustment_part its_lines)
+              (centre_part its_rows its_lines its_credits) (statement_part its_rows)
+              (adjustment_part its_lines)
               (dispute_part (close_of (number - 1) closes) (close_of number closes) disputes)
               (period_foot number)),
         )
@@ -167,7 +172,7 @@ module _ (naming : Naming) (book : Book) (number : ℕ) (period : Period)
         get_or-map-range_with_len figures_at 1 count place number its_figures inside (omega (arith, counts))
         ∙ (λ i. figures_of
         (option_map_or (λ (period : Period). rows_for book.rulings period.counted) (is i) [])
-        (option_map_or (lines_of naming book.rulings) (is i) [])) in
+        (option_map_or (lines_of naming book.rulings) (is i) []) its_credits) in
         let start = page_start (codes "Office")
         ++ office_head (letterhead_of_period count book) (dispute_count naming book) in
         let costs = cost_part periods in

@@ -5,6 +5,7 @@ use Rattle.std.proofs.Common.{ℤ, int_lt, filter, ok_or, option_map}
 use Rattle.book_model.proofs.Std.{IsStrictlySortedBy, filter-append}
 use Rattle.book_model.specs.Words.{day_of, AreAllDatedThrough, Book, Event, IsSound, Naming}
 use Rattle.book_model.specs.Words.{Period, PeriodClosed, RulingGiven, Rulings, TariffAccepted}
+use Rattle.book_model.specs.Words.{TariffReplaced}
 use Rattle.book_model.specs.Words.{book_after, is_dated_after, last_close, members, no_event}
 use Rattle.book_model.specs.Words.{open_number, period_of, period_on, price_in, set_of, by_detail}
 use Rattle.book_model.specs.Words.{after_all, detail_by, detail_of, details_asked, details_for}
@@ -13,6 +14,7 @@ use Rattle.book_model.proofs.Lemmas.{calls_go_forward, closed_prices_stay, last_
 use Rattle.book_model.proofs.Lemmas.{pick-agree}
 use Rattle.book_model.proofs.DetailLemmas.{asked_rise, details_rise}
 use Rattle.book_model.proofs.DetailOrder.{next_in}
+use Rattle.book_model.proofs.ReplacedLemmas.{replaced_prices_stay}
 use Rattle.book_model.proofs.SoundLemmas.{later_still}
 use Rattle.book_laws.proofs.ClosedLemmas.{found_past, past_period, stays_alike}
 use Rattle.book_laws.proofs.LaterLemmas.{made_later, of_history, sound_before}
@@ -65,6 +67,13 @@ keeps naming (RulingGiven (TariffAccepted None terms) ∷ later) start bytes mad
     subst (λ (book : Book). is_dated_after (last_close book.rulings) bytes ≡ false) made.0
     before.early in
     absurd (true≢false never)
+keeps naming (RulingGiven (TariffReplaced text terms) ∷ later) start bytes made early =
+    let before = keeps naming later start bytes made.1 early in record {
+      early = before.early;
+      price = replaced_prices_stay (after_all later start) text terms bytes made.0 before.early
+          ∙ before.price;
+      place = before.place;
+    }
 keeps naming (event ∷ later) start bytes made early =
     let before = keeps naming later start bytes made.1 early in
     record { early = before.early; price = before.price; place = before.place }

@@ -2,17 +2,21 @@
 use Rattle.std.proofs.Common.{◌≡◌, ℕ, zero, suc, ◌-◌, ◌<◌, List, [], ◌∷◌, ◌++◌, length, get_or}
 use Rattle.std.proofs.Common.{refl, sym, ap, ◌∙◌, subst, true, false, cond, not, Option, Some, None}
 use Rattle.std.proofs.Common.{append-nil, arith, ℤ, pos, ◌+ℤ◌, ◌<ℤ◌, int_lt, filter, slice_get}
-use Rattle.std.proofs.Common.{MatchOption, if◌then◌else◌, option_map, int_cmp, length-append}
+use Rattle.std.proofs.Common.{MatchOption, if◌then◌else◌, option_map, int_cmp, length-append, map}
+use Rattle.std.proofs.Common.{Bool, ◌||◌, true≢false}
+use Rattle.std.proofs.lemmas.Bool.Decides.{Decides-int_eq}
 use Rattle.std.specs.List.Sorted.{IsStrictlySortedBy}
 use Rattle.std.proofs.lemmas.Map.Keys.{Less-from_sorted}
-use Rattle.book_model.proofs.Std.{last_or, ints, filter-append, filter_map-append}
+use Rattle.book_model.proofs.Std.{cons_option, false_from_ne_true, last_or, list_any, ints}
+use Rattle.book_model.proofs.Std.{filter-append, filter_map-append}
 use Rattle.book_model.proofs.Std.{get_or_from_slice_get, slice_get-get_or, slice_get_within}
 use Rattle.book_model.specs.Words.{AcceptedTerms, Book, Event, Naming, PeriodClosed, after_all}
 use Rattle.book_model.specs.Words.{RulingGiven, Rulings, RulingSeen, TariffAccepted, TariffSeen}
 use Rattle.book_model.specs.Words.{Terms, begins_by, begun_in, in_force_from, tariff_seen}
 use Rattle.book_model.specs.Words.{tariffs_from, tariffs_in, tariffs_seen, tariffs_through}
 use Rattle.book_model.specs.Words.{through_of}
-use Rattle.book_model.proofs.Lemmas.{calls_go_forward, close_at, slice_get-front}
+use Rattle.book_model.specs.Words.{TariffReplaced, is_after, is_effective, last_close, or_new}
+use Rattle.book_model.proofs.Lemmas.{calls_go_forward, close_at, replace_passes, slice_get-front}
 use Rattle.book_model.proofs.CountedDays.{through_at}
 use Rattle.table_model.proofs.CloseOrder.{earlier as is_earlier, first_earlier}
 use Rattle.book_reports.proofs.KeptTariffLemmas.{in_force_push}
@@ -30,7 +34,7 @@ rise_at days j k one other rising before first second =
     is_earlier one other ((λ i. int_cmp (sym first_is i) (sym second_is i)) ∙ less)
 
 -- what is later than the last of them is later than each
-after_each : (days : List ℤ) (k : ℕ) (one day : ℤ) → IsStrictlySortedBy int_cmp days
+pub after_each : (days : List ℤ) (k : ℕ) (one day : ℤ) → IsStrictlySortedBy int_cmp days
     → slice_get days k ≡ Some one
     → MatchOption (last_or None days) (Unit {0}) (λ last. last <ℤ day) → one <ℤ day
 unfolding IsStrictlySortedBy
@@ -172,6 +176,178 @@ tariff_comes_late closes tariffs text terms k rising within later =
     (filter_map-append tariff_seen tariffs (accepted ∷ []))
     ∙ late_through (slice_get closes k) last terms.effective text (tariffs_seen tariffs) there after
 
+-- ---- nor does a tariff in the place of another, which begins after its last
+
+-- what has begun on a day has begun on a later one
+begun_later : (at last : ℤ) → int_lt last at ≡ false → (ruling : RulingSeen)
+    → begins_by at ruling ≡ true → begins_by last ruling ≡ true
+begun_later at last early (TariffSeen day text) begun = grind (arith, ints)
+begun_later at last early other begun = absurd (true≢false (sym begun))
+
+-- where none has, all are in force from the day on
+none_begun : (at : ℤ) (list : List RulingSeen) → list_any (begins_by at) list ≡ false
+    → in_force_from at list ≡ list
+none_begun at [] none = refl
+none_begun at (ruling ∷ list) none =
+    ap (λ b. if b then in_force_from at list else ruling ∷ list)
+    (no_others (begins_by at ruling) (list_any (begins_by at) list) none)
+  where
+    no_others : (a b : Bool) → (a || b) ≡ false → b ≡ false
+    no_others true b none = absurd (true≢false none)
+    no_others false b none = none
+
+-- whether some have hangs on those alone that have on a later day
+any_begun : (at last : ℤ) → int_lt last at ≡ false → (list : List RulingSeen)
+    → list_any (begins_by at) (filter (begins_by last) list) ≡ list_any (begins_by at) list
+any_begun at last early [] = refl
+any_begun at last early (ruling ∷ list) =
+    let rest = any_begun at last early list in
+    let kept : List RulingSeen = filter (begins_by last) list in
+    elim (begins_by last ruling) as (λ b. begins_by last ruling ≡ b
+    → list_any (begins_by at) (cond b (ruling ∷ kept) kept)
+    ≡ (begins_by at ruling || list_any (begins_by at) list)) [
+      | true ↦ λ begun. ap (λ b. begins_by at ruling || b) rest
+      | false ↦ λ late.
+          let not_yet : begins_by at ruling ≡ false =
+          false_from_ne_true (begins_by at ruling) (λ begun.
+          true≢false (sym (begun_later at last early ruling begun) ∙ late)) in
+          rest ∙ ap (λ b. b || list_any (begins_by at) list) (sym not_yet)
+    ] refl
+
+-- and so does what is in force from the day on
+force_of_begun : (at last : ℤ) → int_lt last at ≡ false → (list : List RulingSeen)
+    → filter (begins_by last) (in_force_from at list)
+    ≡ in_force_from at (filter (begins_by last) list)
+force_of_begun at last early [] = refl
+force_of_begun at last early (ruling ∷ list) =
+    let kept : List RulingSeen = filter (begins_by last) list in
+    let any = any_begun at last early list in
+    elim (list_any (begins_by at) list) as (λ some. list_any (begins_by at) list ≡ some
+    → filter (begins_by last) (if some then in_force_from at list else ruling ∷ list)
+    ≡ in_force_from at (cond (begins_by last ruling) (ruling ∷ kept) kept)) [
+      | true ↦ λ some.
+          force_of_begun at last early list
+          ∙ elim (begins_by last ruling) as (λ b.
+          in_force_from at kept ≡ in_force_from at (cond b (ruling ∷ kept) kept)) [
+            | true ↦ sym (ap (λ b. if b then in_force_from at kept else ruling ∷ kept) (any ∙ some))
+            | false ↦ refl
+          ]
+      | false ↦ λ none.
+          elim (begins_by last ruling) as (λ b.
+          cond b (ruling ∷ kept) kept ≡ in_force_from at (cond b (ruling ∷ kept) kept)) [
+            | true ↦ sym (ap (λ b. if b then in_force_from at kept else ruling ∷ kept) (any ∙ none))
+            | false ↦ sym (none_begun at kept (any ∙ none))
+          ]
+    ] refl
+
+-- a tariff that begins later is none of those that have begun
+late_seen : (last : ℤ) (tariff : AcceptedTerms) → int_lt last tariff.terms.effective ≡ true
+    → (list : List RulingSeen)
+    → filter (begins_by last) (cons_option (tariff_seen tariff) list)
+    ≡ filter (begins_by last) list
+late_seen last tariff late list =
+    let day : ℤ = tariff.terms.effective in
+    let kept : List RulingSeen = filter (begins_by last) list in
+    elim tariff.text as (λ text.
+    filter (begins_by last) (cons_option (option_map (TariffSeen day) text) list) ≡ kept) [
+      | None ↦ refl
+      | Some own ↦ ap (λ b. cond (not b) (TariffSeen day own ∷ kept) kept) late
+    ]
+
+-- so these stay where it takes the place of another
+same_begun : (last : ℤ) (new : AcceptedTerms) → int_lt last new.terms.effective ≡ true
+    → (tariffs : List AcceptedTerms)
+    → filter (begins_by last) (tariffs_seen (map (or_new new) tariffs))
+    ≡ filter (begins_by last) (tariffs_seen tariffs)
+same_begun last new late [] = refl
+same_begun last new late (tariff ∷ tariffs) =
+    let rest = same_begun last new late tariffs in
+    let now : List RulingSeen = tariffs_seen (map (or_new new) tariffs) in
+    let was : List RulingSeen = tariffs_seen tariffs in
+    elim (is_effective new.terms.effective tariff) as (λ b.
+    is_effective new.terms.effective tariff ≡ b
+    → filter (begins_by last) (cons_option (tariff_seen (cond b new tariff)) now)
+    ≡ filter (begins_by last) (cons_option (tariff_seen tariff) was)) [
+      | true ↦ λ same.
+          let at = (Decides-int_eq new.terms.effective tariff.terms.effective).0 same in
+          late_seen last new late now
+          ∙ rest
+          ∙ sym (late_seen last tariff (ap (int_lt last) (sym at) ∙ late) was)
+      | false ↦ λ other.
+          elim (tariff_seen tariff) as (λ seen.
+          filter (begins_by last) (cons_option seen now)
+          ≡ filter (begins_by last) (cons_option seen was)) [
+            | None ↦ rest
+            | Some ruling ↦ λ i. cond (begins_by last ruling) (ruling ∷ rest i) (rest i)
+          ]
+    ] refl
+
+-- the day after a close is not after the next one
+not_after : (close last : ℤ) → close <ℤ last → int_lt last (close +ℤ pos 1) ≡ false
+not_after close last before = grind (arith, ints)
+
+-- so the tariffs of a period hang on those alone that have begun on its last day
+begun_first : (closes : List ℤ) (k : ℕ) (last : ℤ) → IsStrictlySortedBy int_cmp closes
+    → slice_get closes k ≡ Some last → (one other : List RulingSeen)
+    → filter (begins_by last) one ≡ filter (begins_by last) other
+    → filter (begins_by last) (tariffs_from (option_map day_after (close_at closes k)) one)
+    ≡ filter (begins_by last) (tariffs_from (option_map day_after (close_at closes k)) other)
+begun_first closes zero last rising there one other same = same
+begun_first closes (suc k) last rising there one other same =
+    let within = slice_get_within closes (suc k) last there in
+    let close : ℤ = get_or closes k (pos 0) in
+    let at : slice_get closes k ≡ Some close = slice_get-get_or closes k (pos 0) (omega arith) in
+    let before = rise_at closes k (suc k) close last rising (omega arith) at there in
+    let early = not_after close last before in
+    ap (λ close. filter (begins_by last) (tariffs_from (option_map day_after close) one)) at
+    ∙ force_of_begun (day_after close) last early one
+    ∙ ap (in_force_from (day_after close)) same
+    ∙ sym (force_of_begun (day_after close) last early other)
+    ∙ sym (ap (λ close. filter (begins_by last) (tariffs_from (option_map day_after close) other))
+    at)
+
+replaced_leaves : (closes : List ℤ) (tariffs : List AcceptedTerms) (text : List ℕ) (terms : Terms)
+    (k : ℕ) → IsStrictlySortedBy int_cmp closes → k < length closes
+    → MatchOption (last_or None closes) (Unit {0}) (λ close. close <ℤ terms.effective)
+    → tariffs_at k closes (map (or_new (record { text = Some text; terms = terms })) tariffs)
+    ≡ tariffs_at k closes tariffs
+replaced_leaves closes tariffs text terms k rising within later =
+    let new : AcceptedTerms = record { text = Some text; terms = terms } in
+    let last : ℤ = get_or closes k (pos 0) in
+    let there : slice_get closes k ≡ Some last = slice_get-get_or closes k (pos 0) within in
+    let after = after_each closes k last terms.effective rising there later in
+    let now : List RulingSeen = tariffs_seen (map (or_new new) tariffs) in
+    let was : List RulingSeen = tariffs_seen tariffs in
+    ap (λ through. tariffs_through through
+    (tariffs_from (option_map day_after (close_at closes k)) now)) there
+    ∙ begun_first closes k last rising there now was
+    (same_begun last new (is_under last terms.effective after) tariffs)
+    ∙ sym (ap (λ through. tariffs_through through
+    (tariffs_from (option_map day_after (close_at closes k)) was)) there)
+
+-- and those that begin by its last day
+replaced_comes_late : (closes : List ℤ) (tariffs : List AcceptedTerms) (text : List ℕ)
+    (terms : Terms) (k : ℕ) → IsStrictlySortedBy int_cmp closes → k < length closes
+    → MatchOption (last_or None closes) (Unit {0}) (λ close. close <ℤ terms.effective)
+    → begun_at k closes (map (or_new (record { text = Some text; terms = terms })) tariffs)
+    ≡ begun_at k closes tariffs
+replaced_comes_late closes tariffs text terms k rising within later =
+    let new : AcceptedTerms = record { text = Some text; terms = terms } in
+    let last : ℤ = get_or closes k (pos 0) in
+    let there : slice_get closes k ≡ Some last = slice_get-get_or closes k (pos 0) within in
+    let after = after_each closes k last terms.effective rising there later in
+    let now : List RulingSeen = tariffs_seen (map (or_new new) tariffs) in
+    let was : List RulingSeen = tariffs_seen tariffs in
+    ap (λ through. tariffs_through through now) there
+    ∙ same_begun last new (is_under last terms.effective after) tariffs
+    ∙ sym (ap (λ through. tariffs_through through was) there)
+
+-- a day after the last close, if there was one
+pub later_than : (last : Option ℤ) (day : ℤ) → is_after last day ≡ true
+    → MatchOption last (Unit {0}) (λ close. close <ℤ day)
+later_than None day is = tt
+later_than (Some close) day is = grind (arith, ints)
+
 -- So the tariffs of a closed period stay, those that begin by its last day, and the close before it,
 -- whatever calls follow.
 pub record KeepsTariffs (k : ℕ) (old new : Book) : Type 0 where
@@ -222,6 +398,23 @@ keeps_tariffs naming (RulingGiven (TariffAccepted None terms) ∷ later) start k
     let before = keeps_tariffs naming later start k rising made.1 within in
     let never = subst (λ (book : Book). k < length book.rulings.closes) made.0 before.within in
     absurd (omega arith)
+keeps_tariffs naming (RulingGiven (TariffReplaced text terms) ∷ later) start k rising made within =
+    let before = keeps_tariffs naming later start k rising made.1 within in
+    let book : Book = after_all later start in
+    let rise = rise_later naming later start rising made.1 in
+    let forward = later_than (last_close book.rulings) terms.effective
+    (replace_passes book text terms made.0).later in record {
+      within = before.within;
+      same =
+          replaced_leaves book.rulings.closes book.rulings.tariffs text terms k rise before.within
+          forward
+          ∙ before.same;
+      begun =
+          replaced_comes_late book.rulings.closes book.rulings.tariffs text terms k rise
+          before.within forward
+          ∙ before.begun;
+      before = before.before;
+    }
 keeps_tariffs naming (event ∷ later) start k rising made within =
     let before = keeps_tariffs naming later start k rising made.1 within in
     record {

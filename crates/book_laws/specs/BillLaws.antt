@@ -14,7 +14,8 @@ use Rattle.book_model.specs.Words.{Period, Rulings, Terms, after_all, amount_for
 use Rattle.book_model.specs.Words.{bill_outcome, book_after, day_of, has, held_back_in, in_force}
 use Rattle.book_model.specs.Words.{is_day_of, lines_of, period_of, rows_for, tariff_by}
 use Rattle.report_texts.specs.Centres.{lines_of_centre, rows_of_centre}
-use Rattle.report_texts.specs.Charges.{all_charges, centres_of, charges_of_centre, plain_lines}
+use Rattle.report_texts.specs.Charges.{all_charges, centres_on, charged_in, charges_on, plain_lines}
+use Rattle.report_texts.specs.Charges.{taken_in}
 use Rattle.report_texts.specs.declared.charges.Charges.{Charges}
 use Rattle.table_model.specs.Readable.{IsReadable}
 use Rattle.book_laws.specs.ClosedPeriods.{IsClosed}
@@ -56,7 +57,7 @@ BillsSplitStatements =
 
 -- what is owed for charges, and for several together
 abbrev pub owed_for : Charges → ℤ
-owed_for charges = pos (charges.steps + charges.jobs + charges.late) -ℤ pos charges.reversed
+owed_for charges = pos (charged_in charges) -ℤ pos (taken_in charges)
 
 abbrev pub owed_for_all : List Charges → ℤ
 owed_for_all [] = pos 0
@@ -68,17 +69,16 @@ pub record AddUpTo (shares : List Charges) (all : Charges) : Type 0 where
   pub jobs : sum_by (λ share. share.jobs) shares ≡ all.jobs
   pub late : sum_by (λ share. share.late) shares ≡ all.late
   pub reversed : sum_by (λ share. share.reversed) shares ≡ all.reversed
+  pub credited : sum_by (λ share. share.credited) shares ≡ all.credited
+  pub debited : sum_by (λ share. share.debited) shares ≡ all.debited
   pub owed : owed_for_all shares ≡ owed_for all
 
--- The bill of each centre charges what the bill of the office, with these rows and lines, says that
--- the centre is charged; and over the centres that the office's bill names, these add up to what it
--- charges.
+-- The bill of each centre charges what the bill of the office, with its rows, lines and credits, says
+-- that the centre is charged; and over the centres that the office's bill names, these add up to what
+-- it charges.
 pub record AreSharesOf (of_centre : List ℕ → BillSeen) (office : BillSeen) : Type 0 where
-  pub each : (centre : List ℕ) → all_charges (of_centre centre)
-      ≡ charges_of_centre centre office.steps office.jobs (plain_lines office.lines)
-  pub all : AddUpTo
-      (map (λ centre. all_charges (of_centre centre))
-      (centres_of office.steps office.jobs (plain_lines office.lines)))
+  pub each : (centre : List ℕ) → all_charges (of_centre centre) ≡ (charges_on office centre).charges
+  pub all : AddUpTo (map (λ centre. all_charges (of_centre centre)) (centres_on office))
       (all_charges office)
 
 -- So it is with the bills of each period.

@@ -4,7 +4,7 @@ use Rattle.std.specs.Prelude.{◌≡◌, ℕ, true, false, List, filter, map, su
 use Rattle.book_model.specs.declared.line.Line.{Line}
 use Rattle.book_model.specs.Words.{Book, Naming, Period, bill_of}
 use Rattle.report_texts.specs.AdjustmentLists.{charged_amount, reversed_amount}
-use Rattle.report_texts.specs.Charges.{all_charges, centres_of, plain_lines}
+use Rattle.report_texts.specs.Charges.{all_charges, centres_on}
 use Rattle.bill_texts.specs.Booked.{booked_by_office, booked_of_all, owed_of}
 use Rattle.bill_texts.specs.RecordRows.{is_side}
 
@@ -16,7 +16,7 @@ BookedAddUp =
     booked_by_office unit office
     ≡ booked_of_all unit
     (map (λ centre. owed_of (all_charges (bill_of naming book number (Some centre) period)))
-    (centres_of office.steps office.jobs (plain_lines office.lines)))
+    (centres_on office))
 
 -- the sums that a bill has of what came late and of what was reversed are those of its two parts
 pub record LinesAddUp : Type 0 where

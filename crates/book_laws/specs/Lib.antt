@@ -4,7 +4,8 @@
 -- one work. Runs: what a run is, and on which books; the statement of a period; and the laws. Then
 -- calls one after another and what they leave, the lists of all periods, how wide the lines of a
 -- statement are, the reports on single centres, details, what is kept of them and that they stay,
--- coverage, bills, a table of cost and usage, tariff files, pages, a period's rows by another tariff,
+-- coverage, bills, what credits come to, a table of cost and usage, tariff files, and works that are
+-- withheld, credits and tariffs in the place of others; pages, a period's rows by another tariff,
 -- and the texts about a closed period that stay. Single records: their lives, and how their prices
 -- came about. Single answers: to calls, reports, imports, and lists of requests.
 pub mod NetCounts
@@ -29,8 +30,10 @@ pub mod CoverageLaws
 pub mod BillLaws
 pub mod BookedLaws
 pub mod CheckLaws
+pub mod CreditAmounts
 pub mod FocusLaws
 pub mod TariffLaws
+pub mod RulingLaws
 pub mod PageLaws
 pub mod OtherPriceLaws
 pub mod ClosedTexts

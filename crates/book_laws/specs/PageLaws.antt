@@ -2,8 +2,8 @@
 -- the one that the books have open.
 use Rattle.std.specs.Prelude.{◌≡◌, ℕ, ◌≤◌, List, [], ◌++◌, codes, Some, None, Result, Ok}
 use Rattle.book_model.specs.declared.fault.LedgerFault.{LedgerFault}
-use Rattle.book_model.specs.Words.{Book, Naming, Period, close_of, lines_of, open_number, period_of}
-use Rattle.book_model.specs.Words.{rows_for}
+use Rattle.book_model.specs.Words.{Book, Naming, Period, close_of, credits_in, lines_of, open_number}
+use Rattle.book_model.specs.Words.{period_of, rows_for}
 use Rattle.report_texts.specs.AdjustmentLists.{action_columns, signed_column}
 use Rattle.report_texts.specs.Columns.{newline}
 use Rattle.report_texts.specs.Figures.{period_open}
@@ -53,14 +53,15 @@ pub record AreShown (naming : Naming) (book : Book) (number : ℕ) (figures : Fi
         → HasPart (office_row number (close_of number book.rulings.closes) figures)
         (report_answer naming OfficePage book)
 
--- In books that have a period the pages and the reports show the same sums of it: those of its charge rows
--- and of its adjustment lines.
+-- In books that have a period the pages and the reports show the same sums of it: those of its charge rows,
+-- of its adjustment lines and of its credits.
 abbrev pub PageTotalsAreTheReports : Type 0
 PageTotalsAreTheReports =
     (naming : Naming) (book : Book) (number : ℕ) (period : Period)
     → period_of book number ≡ Some period
     → AreShown naming book number
-    (figures_of (rows_for book.rulings period.counted) (lines_of naming book.rulings period))
+    (figures_of (rows_for book.rulings period.counted) (lines_of naming book.rulings period)
+    (credits_in number book.rulings))
 
 -- In books that can be read back the number of the open period, as dry runs and the page of the office
 -- have it, is that of the books: there is no period above the last one.

@@ -12,6 +12,7 @@ mod histories;
 mod other_prices;
 mod pages;
 mod records;
+mod rulings;
 mod runs;
 mod tariffs;
 mod works;
@@ -41,6 +42,10 @@ pub use other_prices::{what_if, what_ifs_are_aligned};
 pub use pages::{open_is_open, page_totals_are_the_reports};
 pub use records::{
     lives_net, lives_take_turns, prices_are_reckoned, rates_say_what_is_charged, trails_net,
+};
+pub use rulings::{
+    closed_credits_stay, closed_tariffs_stay, credits_add_up, credits_are_taken_off,
+    credits_change_bills_alone, unused_changes_nothing, withheld_nets_to_nothing,
 };
 pub use runs::{
     calls_follow_history, closed_statements_stay, lists_conserve, open_statement_is_first,

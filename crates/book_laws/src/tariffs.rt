@@ -3,7 +3,8 @@
 
 ghost use Rattle.book_laws.specs.TariffLaws.{TariffTextsStay};
 
-/// The text of a tariff that was accepted is the one of its first day, whatever follows.
+/// The text of a tariff that was accepted is the one of its first day, whatever follows, unless a
+/// text takes its place, and then it is that one.
 pub fn tariff_texts_stay()
     ensures { TariffTextsStay }
 {}

@@ -1,6 +1,7 @@
 -- Lists that are read one item at a time: all calls show one book.
 use Rattle.std.proofs.Common.{◌≡◌, ◌∙◌, ℕ, ◌+◌, List, [], ◌∷◌, ◌++◌, map, take, refl, sym, ap}
 use Rattle.std.proofs.Common.{subst, Option, Some, None, Result, Ok, Err, option_map, slice_get}
+use Rattle.std.proofs.Common.{IfOk, IfSome}
 use Rattle.book_model.specs.Words.{Book, Naming, Outcome, no_event}
 use Rattle.book_core.specs.Words.{Seen, IsCall}
 use Rattle.book_lists.proofs.Words.{LedgerFault, Memory, IsNext, shown_by}
@@ -219,6 +220,14 @@ folded {result = Ok state} show sum it makes =
 folded {S = S} {view = view} {result = Err fault} show sum it makes =
     read_as (λ book. refl) (λ book. refl) (fault_alike fault)
     (λ book. fault_tells (λ (state : S). map view it.items) show fault (ap (shown_by sum))) it.read
+
+-- ---- items of which nothing has to be known
+
+pub nothing_known : {I : Type 0} (result : Result (Option I) LedgerFault)
+    → IfOk result (λ found. IfSome found (λ item. Unit {0}))
+nothing_known (Ok None) = tt
+nothing_known (Ok (Some item)) = tt
+nothing_known (Err fault) = tt
 
 -- ---- items that the definitions see as they are
 

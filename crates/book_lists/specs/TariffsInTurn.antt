@@ -1,11 +1,12 @@
 -- The tariffs of a ledger come in turn: in the list of its rulings they stand before all others.
 use Rattle.std.proofs.Common.{◌≡◌, ◌∙◌, ℕ, zero, suc, ℤ, List, [], ◌∷◌, ◌++◌, refl, ap}
-use Rattle.std.proofs.Common.{Option, Some, None, Ok}
+use Rattle.std.proofs.Common.{Option, Some, None, Ok, Bool, true, false, if◌then◌else◌}
 use Rattle.std.specs.Prelude.{option_map, slice_get, string_bytes}
 use Rattle.std.specs.List.{cons_option}
 use Rattle.book_model.specs.Words.{AcceptedTerms, Book, Choice, Naming, Outcome, RulingSeen}
 use Rattle.book_model.specs.Words.{TariffSeen, adoption_seen, choices_seen, closes_seen, no_event}
-use Rattle.book_model.specs.Words.{rulings_listed, tariffs_seen}
+use Rattle.book_model.specs.Words.{rulings_listed, tariffs_seen, ChoiceSeen, Credit, ReplacedSeen}
+use Rattle.book_model.specs.Words.{Replaced, WithheldSeen, all_replaced_seen, credits_seen, name_of}
 use Rattle.book_model.proofs.ListedLemmas.{in_turn}
 use Rattle.book_lists.specs.declared.tariff_cursors.ListedTariff.{ListedTariff}
 use Rattle.book_lists.specs.Cursors.{IsNext}
@@ -56,11 +57,34 @@ none_in_closes period (through ∷ later) = (refl, none_in_closes (suc period) l
 none_in_choices : (naming : Naming) (number : ℕ) (choices : List Choice)
     → HasNoTariffs (choices_seen naming number choices)
 none_in_choices naming number [] = tt
-none_in_choices naming number (choice ∷ later) = (refl, none_in_choices naming (suc number) later)
+none_in_choices naming number (choice ∷ later) =
+    (by choice.counts, none_in_choices naming (suc number) later)
+  where
+    by : (counts : Bool)
+        → tariff_among (Some (if counts then ChoiceSeen number choice.period
+        (name_of naming choice.chosen)
+        else WithheldSeen number choice.period (name_of naming choice.chosen))) ≡ None
+    by true = refl
+    by false = refl
 
 none_in_adoption : (adopted : Option ℕ) → HasNoTariffs (adoption_seen adopted)
 none_in_adoption None = tt
 none_in_adoption (Some period) = (refl, tt)
+
+none_in_replaced : (replaced : List Replaced) → HasNoTariffs (all_replaced_seen replaced)
+none_in_replaced [] = tt
+none_in_replaced (one ∷ later) = by one.tariff.text (none_in_replaced later)
+  where
+    by : (text : Option (List ℕ)) → HasNoTariffs (all_replaced_seen later)
+        → HasNoTariffs (cons_option
+        (option_map (ReplacedSeen one.tariff.terms.effective one.period) text)
+        (all_replaced_seen later))
+    by None none = none
+    by (Some text) none = (refl, none)
+
+none_in_credits : (number : ℕ) (credits : List Credit) → HasNoTariffs (credits_seen number credits)
+none_in_credits number [] = tt
+none_in_credits number (credit ∷ later) = (refl, none_in_credits (suc number) later)
 
 none_at : (rulings : List RulingSeen) (count : ℕ) → HasNoTariffs rulings
     → tariff_among (slice_get rulings count) ≡ None
@@ -84,10 +108,17 @@ tariffs_in_turn naming book count last known =
     let closes = closes_seen 1 rulings.closes in
     let choices = choices_seen naming 1 rulings.choices in
     let adoption = adoption_seen rulings.adopted in
+    let replaced = all_replaced_seen rulings.replaced in
+    let credits = credits_seen 1 rulings.credits in
+    let last = none_append replaced credits (none_in_replaced rulings.replaced)
+    (none_in_credits 1 rulings.credits) in
+    let after = none_append adoption (replaced ++ credits) (none_in_adoption rulings.adopted) last in
+    let none = none_append closes (choices ++ (adoption ++ (replaced ++ credits)))
+    (none_in_closes 1 rulings.closes)
+    (none_append choices (adoption ++ (replaced ++ credits))
+    (none_in_choices naming 1 rulings.choices) after) in
     ap Ok
     (ap (λ all. tariff_among (slice_get all count)) (in_turn naming rulings)
-    ∙ found_at (tariffs_seen rulings.tariffs) (closes ++ (choices ++ adoption)) count
-    (are_tariffs rulings.tariffs)
-    (none_append closes (choices ++ adoption) (none_in_closes 1 rulings.closes)
-    (none_append choices adoption (none_in_choices naming 1 rulings.choices)
-    (none_in_adoption rulings.adopted))))
+    ∙ found_at (tariffs_seen rulings.tariffs)
+    (closes ++ (choices ++ (adoption ++ (replaced ++ credits)))) count
+    (are_tariffs rulings.tariffs) none)

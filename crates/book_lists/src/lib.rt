@@ -2,6 +2,7 @@
 //! written while they are read.
 #![tactic(auto)]
 
+mod credit_cursors;
 mod cursors;
 mod detail_cursors;
 mod dispute_cursors;
@@ -13,6 +14,7 @@ mod tariff_cursors;
 mod waiting;
 mod written_lists;
 
+pub use credit_cursors::CreditCursor;
 pub use cursors::Cursor;
 pub use detail_cursors::DetailCursor;
 pub use dispute_cursors::DisputeCursor;

@@ -4,7 +4,7 @@ use Rattle.std.proofs.Common.{subst, true, false, arith, All, nat_le, leb-true, 
 use Rattle.std.proofs.lemmas.List.Elements.{All-nil}
 use Rattle.book_model.specs.Words.{IsMadeByCalls, Book, Event, RulingGiven, rulings, closes}
 use Rattle.book_model.specs.Words.{held_before, Records, Naming, Rulings, Choice, RecordChosen}
-use Rattle.book_model.specs.Words.{rulings_before, IsChoiceOf}
+use Rattle.book_model.specs.Words.{rulings_before, IsChoiceOf, WorkWithheld}
 use Rattle.book_model.specs.Laws.{ChosenWereHeld}
 use Rattle.book_model.proofs.MadeByCallsLemmas.{sound_after}
 use Rattle.book_model.proofs.HistoryLemmas.{choices_all, held_all, held_stays, ruled_stays}
@@ -34,6 +34,9 @@ same_choices : (k : ℕ) (event : Event) (older : List Event) → k < length (cl
 same_choices k (RulingGiven (RecordChosen bytes)) older came =
     ap (λ (ruled : Rulings). ruled.choices)
     (ruled_stays k (RulingGiven (RecordChosen bytes)) older came)
+same_choices k (RulingGiven (WorkWithheld bytes)) older came =
+    ap (λ (ruled : Rulings). ruled.choices)
+    (ruled_stays k (RulingGiven (WorkWithheld bytes)) older came)
 same_choices k event older came = refl
 
 -- the law of it

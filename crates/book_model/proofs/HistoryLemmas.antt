@@ -1,7 +1,8 @@
 -- The closes of a history: their days, the history and the rulings before each of them, and what
 -- each of them charged.
 use Rattle.std.proofs.Common.{◌≡◌, ℕ, zero, suc, ◌≤◌, ◌<◌, List, [], ◌∷◌, length, Option, Some}
-use Rattle.std.proofs.Common.{None, refl, ap, sym, ◌∙◌, arith, Bool, ◌++◌, cond, ℤ, slice_get}
+use Rattle.std.proofs.Common.{None, refl, ap, sym, ◌∙◌, arith, Bool, true, false, ◌++◌, cond, ℤ}
+use Rattle.std.proofs.Common.{slice_get}
 use Rattle.std.proofs.Common.{filter, nat_le, unwrap_or, option_and_then, lt-ltb, le-ltb, le-leb}
 use Rattle.std.proofs.Common.{length-append, append-nil}
 use Rattle.std.proofs.lemmas.Bool.{lt-leb}
@@ -9,9 +10,10 @@ use Rattle.std.proofs.Math.Seq.{take-length, take-append_seam}
 use Rattle.book_model.proofs.Std.{last_or, take-append-le, filter-append, slice_get_past}
 use Rattle.book_model.specs.Words.{charged_now, charged_by, Event, PeriodClosed, RulingGiven}
 use Rattle.book_model.specs.Words.{rulings, closes, day_of_close, held_before, charged_in, Records}
-use Rattle.book_model.specs.Words.{by_bytes, Rulings, AcceptedTerms, Choice, rulings_before}
+use Rattle.book_model.specs.Words.{by_bytes, Rulings, Choice, rulings_before, RecordKept}
 use Rattle.book_model.specs.Words.{RecordChosen, SecondRuleAdopted, last_close, open_by}
-use Rattle.book_model.specs.Words.{with_choice, set_of}
+use Rattle.book_model.specs.Words.{CreditGiven, TariffAccepted, TariffReplaced, WorkWithheld}
+use Rattle.book_model.specs.Words.{with_named, set_of}
 use Rattle.book_model.specs.History.{kept, before_close}
 use Rattle.book_model.specs.Rulings.{if_before}
 use Rattle.book_model.proofs.ListLemmas.{slice_get-front, slice_get-behind, last_or-is}
@@ -42,22 +44,24 @@ abbrev pub made_before : ℕ → Choice → Bool
 made_before others choice = nat_le choice.period (suc others)
 
 -- a choice that is made then comes after the others before a close to come
-chosen_last : (others : ℕ) (bytes : List ℕ) (ruled : Rulings) → length ruled.closes ≤ others
-    → filter (made_before others) (with_choice bytes ruled).choices
+chosen_last : (others : ℕ) (counts : Bool) (bytes : List ℕ) (ruled : Rulings)
+    → length ruled.closes ≤ others
+    → filter (made_before others) (with_named counts bytes ruled).choices
     ≡ filter (made_before others) ruled.choices
-    ++ record { chosen = bytes; period = open_by ruled } ∷ []
-chosen_last others bytes ruled to_come =
-    let choice : Choice = record { chosen = bytes; period = open_by ruled } in
+    ++ record { chosen = bytes; counts = counts; period = open_by ruled } ∷ []
+chosen_last others counts bytes ruled to_come =
+    let choice : Choice = record { chosen = bytes; counts = counts; period = open_by ruled } in
     filter-append (made_before others) ruled.choices (choice ∷ [])
     ∙ ap (λ b. filter (made_before others) ruled.choices ++ cond b (choice ∷ []) [])
     (le-leb (open_by ruled) (suc others) (omega arith))
 
 -- and is not among those before a close that came
-chosen_late : (others : ℕ) (bytes : List ℕ) (ruled : Rulings) → others < length ruled.closes
-    → filter (made_before others) (with_choice bytes ruled).choices
+chosen_late : (others : ℕ) (counts : Bool) (bytes : List ℕ) (ruled : Rulings)
+    → others < length ruled.closes
+    → filter (made_before others) (with_named counts bytes ruled).choices
     ≡ filter (made_before others) ruled.choices
-chosen_late others bytes ruled came =
-    let choice : Choice = record { chosen = bytes; period = open_by ruled } in
+chosen_late others counts bytes ruled came =
+    let choice : Choice = record { chosen = bytes; counts = counts; period = open_by ruled } in
     filter-append (made_before others) ruled.choices (choice ∷ [])
     ∙ ap (λ b. filter (made_before others) ruled.choices ++ cond b (choice ∷ []) [])
     (lt-leb (open_by ruled) (suc others) (omega arith))
@@ -71,8 +75,14 @@ choices_all others (PeriodClosed day ∷ older) to_come =
     let more = length-append (closes older) (day ∷ []) in
     choices_all others older (omega arith)
 choices_all others (RulingGiven (RecordChosen bytes) ∷ older) to_come =
-    chosen_last others bytes (rulings older) to_come
-    ∙ ap (λ earlier. earlier ++ record { chosen = bytes; period = open_by (rulings older) } ∷ [])
+    chosen_last others true bytes (rulings older) to_come
+    ∙ ap (λ earlier. earlier
+    ++ record { chosen = bytes; counts = true; period = open_by (rulings older) } ∷ [])
+    (choices_all others older to_come)
+choices_all others (RulingGiven (WorkWithheld bytes) ∷ older) to_come =
+    chosen_last others false bytes (rulings older) to_come
+    ∙ ap (λ earlier. earlier
+    ++ record { chosen = bytes; counts = false; period = open_by (rulings older) } ∷ [])
     (choices_all others older to_come)
 choices_all others (event ∷ older) to_come = choices_all others older to_come
 
@@ -117,6 +127,8 @@ rulings_all history =
       closes = days i;
       choices = chosen i;
       adopted = rule i;
+      replaced = (rulings history).replaced;
+      credits = (rulings history).credits;
     }
 
 -- what is charged at the end of the open period is what is charged now
@@ -187,26 +199,40 @@ pub held_stays : (k : ℕ) (event : Event) (older : List Event) → k ≤ length
 held_stays k event older came =
     ap (λ before. set_of by_bytes (kept before)) (before_stays k event older came)
 
--- who is charged does not hang on the tariffs
-charged_by-tariffs : (ruled : Rulings) (other : List AcceptedTerms) (day : Option ℤ) (held : Records)
-    → charged_by (record ruled { tariffs = other }) day held ≡ charged_by ruled day held
+-- who is charged does not hang on the tariffs and the credits
+charged_by-tariffs : (ruled other : Rulings) (day : Option ℤ) (held : Records)
+    → charged_by (record ruled {
+      tariffs = other.tariffs;
+      replaced = other.replaced;
+      credits = other.credits;
+    }) day held ≡ charged_by ruled day held
 charged_by-tariffs ruled other None held = refl
 charged_by-tariffs ruled other (Some day) held = refl
 
--- an event changes of the rulings before a close that came the tariffs alone
+-- an event changes of the rulings before a close that came the tariffs and the credits alone
 pub ruled_stays : (k : ℕ) (event : Event) (older : List Event) → k < length (closes older)
     → rulings_before k (rulings (event ∷ older))
-    ≡ record (rulings_before k (rulings older)) { tariffs = (rulings (event ∷ older)).tariffs }
+    ≡ record (rulings_before k (rulings older)) {
+      tariffs = (rulings (event ∷ older)).tariffs;
+      replaced = (rulings (event ∷ older)).replaced;
+      credits = (rulings (event ∷ older)).credits;
+    }
 ruled_stays k (PeriodClosed day) older came =
     ap (λ days. record (rulings_before k (rulings older)) { closes = days })
     (take-append-le k (closes older) (day ∷ []) (omega arith))
 ruled_stays k (RulingGiven (RecordChosen bytes)) older came =
     ap (λ chosen. record (rulings_before k (rulings older)) { choices = chosen })
-    (chosen_late k bytes (rulings older) came)
+    (chosen_late k true bytes (rulings older) came)
+ruled_stays k (RulingGiven (WorkWithheld bytes)) older came =
+    ap (λ chosen. record (rulings_before k (rulings older)) { choices = chosen })
+    (chosen_late k false bytes (rulings older) came)
 ruled_stays k (RulingGiven SecondRuleAdopted) older came =
     ap (λ rule. record (rulings_before k (rulings older)) { adopted = rule })
     (adopted_late k (open_by (rulings older)) (rulings older).adopted (omega arith))
-ruled_stays k event older came = refl
+ruled_stays k (RecordKept bytes) older came = refl
+ruled_stays k (RulingGiven (TariffAccepted text terms)) older came = refl
+ruled_stays k (RulingGiven (TariffReplaced text terms)) older came = refl
+ruled_stays k (RulingGiven (CreditGiven centre amount reason)) older came = refl
 
 -- so an event does not change who was charged at the end of a period before it
 pub charged_stays : (k : ℕ) (event : Event) (older : List Event) → k ≤ length (closes older)
@@ -218,7 +244,7 @@ charged_stays (suc k) event older came =
     let day = day_stays (suc k) event older came in
     let held = held_stays (suc k) event older (omega arith) in
     (λ i. charged_by (ruled i) (day i) (held i))
-    ∙ charged_by-tariffs (rulings_before k (rulings older)) (rulings (event ∷ older)).tariffs
+    ∙ charged_by-tariffs (rulings_before k (rulings older)) (rulings (event ∷ older))
     (day_of_close (suc k) older) (held_before (suc k) older)
 
 -- the rulings before a close are all that there were when it came
@@ -234,4 +260,6 @@ rulings_closed day older =
       closes = days i;
       choices = chosen i;
       adopted = rule i;
+      replaced = (rulings older).replaced;
+      credits = (rulings older).credits;
     }

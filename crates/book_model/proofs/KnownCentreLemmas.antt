@@ -13,7 +13,8 @@ use Rattle.book_model.specs.Words.{begins_by, begun_in, day_of, has_begun, is_ce
 use Rattle.book_model.specs.Words.{latest, names_centre, price_by, same_bytes, tariffs_seen}
 use Rattle.book_model.specs.Words.{tariffs_through, through_of}
 use Rattle.book_model.specs.Rulings.{later_of}
-use Rattle.book_model.specs.KnownCentres.{PricedCentresAreThere, SaysTerms}
+use Rattle.book_model.specs.KnownCentres.{KnownCentresAgree, PricedCentresAreThere, SaysTerms}
+use Rattle.book_model.specs.RulingAnswers.{has_centre as has_rule}
 use Rattle.book_model.proofs.LatestLemmas.{latest-own}
 
 -- ---- the rule that is found
@@ -195,3 +196,25 @@ priced_centres_are_there rulings bytes priced number said is early =
         (force_named centre (through_of number rulings) begun rulings.tariffs found said at
         (begun_through (through_of number rulings) (day_of bytes) terms.effective early
         (latest-own begun rulings.tariffs found at))))
+
+-- ---- the centres of accepted tariffs, and those of their texts
+
+rules_agree : (centre : List ℕ) (tariffs : List AcceptedTerms) → All SaysTerms tariffs
+    → list_any (has_rule centre) tariffs ≡ list_any (names_centre centre) (tariffs_seen tariffs)
+rules_agree centre [] said = refl
+rules_agree centre (tariff ∷ later) said =
+    let says = All-head SaysTerms tariff later said in
+    let rest = rules_agree centre later (All-tail SaysTerms tariff later said) in
+    let day : ℤ = tariff.terms.effective in
+    let own : names_centre centre (TariffSeen day says.text) ≡ has_rule centre tariff =
+    ap (λ said. option_map_or (λ (terms : Terms). has_centre centre terms.centres) (result_ok said)
+    false)
+    says.said in
+    (λ i. sym own i || rest i)
+    ∙ ap (λ text. list_any (names_centre centre)
+    (cons_option (option_map (TariffSeen day) text) (tariffs_seen later)))
+    (sym says.is)
+
+pub known_centres_agree : KnownCentresAgree
+known_centres_agree rulings centre said =
+    ap (λ b. same_bytes unassigned centre || b) (rules_agree centre rulings.tariffs said)

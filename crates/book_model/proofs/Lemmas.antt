@@ -37,4 +37,5 @@ pub use Rattle.book_model.proofs.SumLemmas.{sum_by-plus}
 pub use Rattle.book_model.proofs.SumsAlike.{SumsAlike, filter-alike, filter_map-alike, length-alike}
 pub use Rattle.book_model.proofs.SumsAlike.{length-sum_by, list_any-count_by, map-alike}
 pub use Rattle.book_model.proofs.SumsAlike.{sum_by-filter, sum_by-filter_map}
-pub use Rattle.book_model.proofs.TestLemmas.{closed_open, kept_passes, tariff_passes}
+pub use Rattle.book_model.proofs.TestLemmas.{closed_open, credit_passes, credited_open}
+pub use Rattle.book_model.proofs.TestLemmas.{kept_passes, replace_passes, tariff_passes}

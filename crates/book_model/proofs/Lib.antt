@@ -27,6 +27,7 @@ pub mod LatestLemmas
 pub mod AnswerLemmas
 pub mod TestLemmas
 pub mod CallLemmas
+pub mod ReplacedLemmas
 pub mod ListedLemmas
 pub mod SoundLemmas
 pub mod SamePriceLemmas
@@ -37,6 +38,7 @@ pub mod StepLemmas
 pub mod ChosenHeld
 pub mod AdoptedLemmas
 pub mod DisputeLemmas
+pub mod CreditLemmas
 pub mod FromLemmas
 pub mod OrderLemmas
 pub mod DetailOrder

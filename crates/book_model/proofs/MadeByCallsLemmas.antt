@@ -6,10 +6,11 @@ use Rattle.book_model.specs.Words.{IsMadeByCalls, Book, open_number, Event, Reco
 use Rattle.book_model.specs.Words.{PeriodClosed, RulingGiven, give, rulings, book_after, Naming}
 use Rattle.book_model.specs.Words.{name_of, Rulings, AcceptedTerms, are_rising, with_tariff}
 use Rattle.book_model.specs.Words.{with_close, TariffAccepted, RecordChosen, SecondRuleAdopted}
-use Rattle.book_model.specs.Words.{with_ruling, IsSound}
+use Rattle.book_model.specs.Words.{with_ruling, IsSound, CreditGiven, TariffReplaced, WorkWithheld}
 use Rattle.book_model.specs.Laws.{LatestIsLast}
 use Rattle.book_model.proofs.TestLemmas.{tariff_passes}
 use Rattle.book_model.proofs.LatestLemmas.{rising-behind, begun-last, later-before}
+use Rattle.book_model.proofs.ReplacedLemmas.{replaced_rising}
 use Rattle.book_model.proofs.SoundLemmas.{steps_stay_sound}
 
 -- the rulings of the book are those of the history
@@ -40,6 +41,15 @@ sound_after naming (RulingGiven (RecordChosen bytes) ∷ older) answered =
     (sound_after naming older answered.1) answered.0.1
 sound_after naming (RulingGiven SecondRuleAdopted ∷ older) answered =
     steps_stay_sound.adopt naming (book_after older) (sound_after naming older answered.1)
+sound_after naming (RulingGiven (TariffReplaced text terms) ∷ older) answered =
+    steps_stay_sound.replace naming (book_after older) text terms
+    (sound_after naming older answered.1)
+sound_after naming (RulingGiven (WorkWithheld bytes) ∷ older) answered =
+    steps_stay_sound.withhold naming (book_after older) (name_of naming bytes) bytes
+    (sound_after naming older answered.1) answered.0.1
+sound_after naming (RulingGiven (CreditGiven centre amount reason) ∷ older) answered =
+    steps_stay_sound.credit naming (book_after older) centre amount reason
+    (sound_after naming older answered.1)
 
 -- a tariff that comes into force begins later than every other one: so the tariffs rise
 rising : (naming : Naming) (history : List Event) → IsMadeByCalls naming history
@@ -56,6 +66,9 @@ rising naming (RulingGiven (TariffAccepted (Some text) terms) ∷ older) answere
 rising naming (RulingGiven (TariffAccepted None terms) ∷ older) answered =
     ap (λ (ruled : Rulings). are_rising (with_tariff None terms ruled).tariffs)
     (sym (rulings_are older) ∙ ap (λ (before : Book). before.rulings) answered.0)
+rising naming (RulingGiven (TariffReplaced text terms) ∷ older) answered =
+    replaced_rising (record { text = Some text; terms = terms }) (rulings older).tariffs
+    (rising naming older answered.1)
 rising naming (event ∷ older) answered = rising naming older answered.1
 
 -- the law of it

@@ -12,7 +12,7 @@ use Rattle.book_model.specs.declared.fault.LedgerFault.TheVariants.{NoSuchCentre
 use Rattle.book_model.specs.Records.{same_bytes}
 use Rattle.book_model.specs.CloseDays.{is_through}
 use Rattle.book_model.specs.Rulings.{AcceptedTerms, Rulings, price_in}
-use Rattle.book_model.specs.RulingAnswers.{through_of}
+use Rattle.book_model.specs.RulingAnswers.{is_known_centre, through_of}
 use Rattle.book_model.specs.RulingLists.{RulingSeen, TariffSeen, tariffs_seen}
 use Rattle.book_model.specs.Bills.{tariffs_through}
 
@@ -57,3 +57,9 @@ PricedCentresAreThere =
     → price_in rulings bytes ≡ Some priced
     → is_through (through_of number rulings) (day_of bytes) ≡ true
     → is_centre (begun_in number rulings) priced.centre ≡ true
+
+-- There, too, a centre that may be credited is one that is there in the open period, whose tariffs are all.
+abbrev pub KnownCentresAgree : Type 0
+KnownCentresAgree =
+    (rulings : Rulings) (centre : List ℕ) → All SaysTerms rulings.tariffs
+    → is_known_centre rulings centre ≡ is_centre (tariffs_seen rulings.tariffs) centre

@@ -3,16 +3,18 @@ use Rattle.std.specs.Prelude.{◌≡◌, List, [], ◌∷◌, Some, None, Ok}
 use Rattle.book_model.specs.declared.answer.Accepted.TheVariants.{Kept}
 use Rattle.book_model.specs.declared.answer.Ruled.TheVariants.{Done}
 use Rattle.book_model.specs.Records.{Naming, name_of}
-use Rattle.book_model.specs.Rulings.{TariffAccepted, RecordChosen, SecondRuleAdopted}
+use Rattle.book_model.specs.Rulings.{TariffAccepted, TariffReplaced, RecordChosen, WorkWithheld}
+use Rattle.book_model.specs.Rulings.{SecondRuleAdopted, CreditGiven}
 use Rattle.book_model.specs.Books.{Book, new_book, open_number}
 use Rattle.book_model.specs.Events.{Event, RecordKept, PeriodClosed, RulingGiven, after_all}
 use Rattle.book_model.specs.Accept.{accept_answer}
 use Rattle.book_model.specs.RulingAnswers.{terms_answer, close_answer, record_named, choose_answer}
-use Rattle.book_model.specs.RulingAnswers.{adopt_answer, second_rule}
+use Rattle.book_model.specs.RulingAnswers.{adopt_answer, second_rule, replace_answer}
+use Rattle.book_model.specs.RulingAnswers.{withhold_answer, credit_answer}
 use Rattle.book_model.specs.History.{book_after}
 
 -- The book answers the event Kept or Done. A tariff without a text is the one that new books begin
--- with; a record that is chosen is the one that is held under its name.
+-- with; a record that is chosen, or whose work is withheld, is the one that is held under its name.
 abbrev pub IsAnswered : Naming → Event → Book → Type 0
 IsAnswered naming (RecordKept bytes) book = accept_answer naming book bytes ≡ Ok Kept
 IsAnswered naming (PeriodClosed day) book =
@@ -25,6 +27,13 @@ IsAnswered naming (RulingGiven (RecordChosen bytes)) book =
     × (record_named naming book.held (name_of naming bytes) ≡ Some bytes)
 IsAnswered naming (RulingGiven SecondRuleAdopted) book =
     adopt_answer book.rulings second_rule ≡ Ok Done
+IsAnswered naming (RulingGiven (TariffReplaced text terms)) book =
+    replace_answer book text terms ≡ Ok Done
+IsAnswered naming (RulingGiven (WorkWithheld bytes)) book =
+    (withhold_answer naming book (name_of naming bytes) ≡ Ok Done)
+    × (record_named naming book.held (name_of naming bytes) ≡ Some bytes)
+IsAnswered naming (RulingGiven (CreditGiven centre amount reason)) book =
+    credit_answer book.rulings (open_number book) centre amount reason ≡ Ok Done
 
 -- so each event of a history is, by the book that the events before it leave
 abbrev pub IsMadeByCalls : Naming → List Event → Type 0

@@ -1,9 +1,10 @@
--- What the office ruled: its tariffs, its closes, its choices among disputed records and its rule
--- of identity; what a record costs by them, and which work it measures.
-use Rattle.std.specs.Prelude.{ℕ, suc, ◌+◌, nat_le, Bool, true, not, ◌&&◌, if◌then◌else◌, List, []}
-use Rattle.std.specs.Prelude.{◌∷◌, ◌++◌, filter, length, take, Option, Some, None, unwrap_or, ℤ}
-use Rattle.std.specs.Prelude.{int_lt, option_map, option_and_then, filter_map}
-use Rattle.book_model.specs.Std.{option_map_or, last_or, list_all}
+-- What the office ruled: its tariffs, and which of them it replaced; its closes; its choices among
+-- the records of one work, or that none of them counts; its rule of identity; and its credits. What a
+-- record costs by them, and which work it measures.
+use Rattle.std.specs.Prelude.{ℕ, suc, ◌+◌, nat_le, Bool, true, false, not, ◌&&◌, if◌then◌else◌, List}
+use Rattle.std.specs.Prelude.{[], ◌∷◌, ◌++◌, filter, map, length, take, Option, Some, None}
+use Rattle.std.specs.Prelude.{unwrap_or, ℤ, int_lt, option_map, option_and_then, filter_map}
+use Rattle.book_model.specs.Std.{int_eq, option_map_or, last_or, list_all}
 use Rattle.tariff_rules.specs.Terms.{Terms}
 use Rattle.tariff_rules.specs.Price.{price_by}
 use Rattle.tariff_rules.specs.declared.priced.Priced.{Priced}
@@ -17,28 +18,57 @@ pub record AcceptedTerms : Type 0 where
   pub terms : Terms
 
 -- A ruling that closes no period: a tariff comes into force, with its text where it came as one; a
--- record is chosen; the second rule of identity is adopted.
+-- text takes the place of the tariff that begins on its first day; a record is chosen; the work of a
+-- record is withheld; the second rule of identity is adopted; a centre is credited with an amount, in
+-- ten-thousandths of the money unit, for a reason.
 pub data Ruling : Type 0 where
   TariffAccepted : Option (List ℕ) → Terms → Ruling
+  TariffReplaced : List ℕ → Terms → Ruling
   RecordChosen : List ℕ → Ruling
+  WorkWithheld : List ℕ → Ruling
   SecondRuleAdopted : Ruling
+  CreditGiven : List ℕ → ℤ → List ℕ → Ruling
 
--- A record that an operator chose among those of its identity, and the period that was open then.
+-- A record that an operator named among those of its identity, whether it counts from then on or none
+-- of them does, and the period that was open then.
 pub record Choice : Type 0 where
   pub chosen : List ℕ
+  pub counts : Bool
   pub period : ℕ
 
--- The tariffs, the days of the closes and the choices, each in the order in which they came; and
--- the period that was open when the second rule of identity was adopted, if it was.
+-- A tariff that another text took the place of, and the period that was open then.
+pub record Replaced : Type 0 where
+  pub tariff : AcceptedTerms
+  pub period : ℕ
+
+-- A credit, and the period that was open then: a positive amount lowers what the centre owes.
+pub record Credit : Type 0 where
+  pub centre : List ℕ
+  pub amount : ℤ
+  pub reason : List ℕ
+  pub period : ℕ
+
+-- The tariffs that are in force and those that were replaced, the days of the closes, the choices and
+-- the credits, each in the order in which they came; and the period that was open when the second
+-- rule of identity was adopted, if it was.
 pub record Rulings : Type 0 where
   pub tariffs : List AcceptedTerms
   pub closes : List ℤ
   pub choices : List Choice
   pub adopted : Option ℕ
+  pub replaced : List Replaced
+  pub credits : List Credit
 
 -- nothing was ruled: the first rule of identity is in force
 abbrev pub no_rulings : Rulings
-no_rulings = record { tariffs = []; closes = []; choices = []; adopted = None }
+no_rulings = record {
+  tariffs = [];
+  closes = [];
+  choices = [];
+  adopted = None;
+  replaced = [];
+  credits = [];
+}
 
 -- the number of the period that is open by them
 abbrev pub open_by : Rulings → ℕ
@@ -53,11 +83,18 @@ with_tariff text terms rulings =
 abbrev pub with_close : ℤ → Rulings → Rulings
 with_close day rulings = record rulings { closes = rulings.closes ++ day ∷ [] }
 
--- the rulings with one more choice
-abbrev pub with_choice : List ℕ → Rulings → Rulings
-with_choice bytes rulings = record rulings {
-  choices = rulings.choices ++ record { chosen = bytes; period = open_by rulings } ∷ [];
+-- the rulings with one more choice, which says that the record counts, or that none of its work does
+abbrev pub with_named : Bool → List ℕ → Rulings → Rulings
+with_named counts bytes rulings = record rulings {
+  choices = rulings.choices
+      ++ record { chosen = bytes; counts = counts; period = open_by rulings } ∷ [];
 }
+
+abbrev pub with_choice : List ℕ → Rulings → Rulings
+with_choice bytes rulings = with_named true bytes rulings
+
+abbrev pub with_withheld : List ℕ → Rulings → Rulings
+with_withheld bytes rulings = with_named false bytes rulings
 
 -- The rulings with the second rule of identity. It is adopted once: a period in which it was
 -- adopted stays.
@@ -65,11 +102,48 @@ abbrev pub with_second_rule : Rulings → Rulings
 with_second_rule rulings =
     record rulings { adopted = Some (unwrap_or rulings.adopted (open_by rulings)) }
 
+-- the tariff begins on the day
+abbrev pub is_effective : ℤ → AcceptedTerms → Bool
+is_effective day tariff = int_eq day tariff.terms.effective
+
+-- a tariff, or, where it begins on the day of the new one, the new one
+abbrev pub or_new : AcceptedTerms → AcceptedTerms → AcceptedTerms
+or_new new tariff = if is_effective new.terms.effective tariff then new else tariff
+
+-- a tariff that is replaced, with the period
+abbrev pub replaced_in : ℕ → AcceptedTerms → Replaced
+replaced_in period tariff = record { tariff = tariff; period = period }
+
+-- The rulings with a text in the place of the tariff that begins on its first day. What it replaces is
+-- kept beside the tariffs that are in force.
+abbrev pub with_replaced : List ℕ → Terms → Rulings → Rulings
+with_replaced text terms rulings = record rulings {
+  tariffs = map (or_new (record { text = Some text; terms = terms })) rulings.tariffs;
+  replaced = rulings.replaced
+      ++ map (replaced_in (open_by rulings))
+      (filter (is_effective terms.effective) rulings.tariffs);
+}
+
+-- the rulings with one more credit
+abbrev pub with_credit : List ℕ → ℤ → List ℕ → Rulings → Rulings
+with_credit centre amount reason rulings = record rulings {
+  credits = rulings.credits
+      ++ record {
+        centre = centre;
+        amount = amount;
+        reason = reason;
+        period = open_by rulings;
+      } ∷ [];
+}
+
 -- what a ruling that closes no period makes of them,
 abbrev pub ruled_more : Ruling → Rulings → Rulings
 ruled_more (TariffAccepted text terms) rulings = with_tariff text terms rulings
+ruled_more (TariffReplaced text terms) rulings = with_replaced text terms rulings
 ruled_more (RecordChosen bytes) rulings = with_choice bytes rulings
+ruled_more (WorkWithheld bytes) rulings = with_withheld bytes rulings
 ruled_more SecondRuleAdopted rulings = with_second_rule rulings
+ruled_more (CreditGiven centre amount reason) rulings = with_credit centre amount reason rulings
 
 -- whichever it is: the closes stay
 abbrev pub with_ruling : Ruling → Rulings → Rulings
@@ -79,9 +153,10 @@ with_ruling ruling rulings = record (ruled_more ruling rulings) { closes = rulin
 abbrev pub if_before : ℕ → ℕ → Option ℕ
 if_before others period = if nat_le period (suc others) then Some period else None
 
--- The rulings before the close that came after the given number of others: what was ruled while a
--- period was open is before the close of that period. A tariff that came later stays among them: it
--- changes no price of a record that is dated no later than that close.
+-- The rulings before the close that came after the given number of others, as far as they say what is
+-- charged: what was ruled while a period was open is before the close of that period. A tariff that
+-- came later stays among them: it changes no price of a record that is dated no later than that close.
+-- So do the credits, which charge no record.
 abbrev pub rulings_before : ℕ → Rulings → Rulings
 rulings_before others rulings = record rulings {
   closes = take others rulings.closes;
@@ -113,6 +188,11 @@ has_begun day tariff = not (int_lt day tariff.terms.effective)
 abbrev pub in_force : ℤ → List AcceptedTerms → Option Terms
 in_force day tariffs =
     option_map (λ tariff. tariff.terms) (latest (filter (has_begun day) tariffs))
+
+-- of some tariffs the one that begins on the first day of these terms is in force on a day
+abbrev pub is_under : List AcceptedTerms → Terms → ℤ → Bool
+is_under tariffs terms day =
+    option_map_or (λ (own : Terms). int_eq terms.effective own.effective) (in_force day tariffs) false
 
 -- what a record costs by the tariff in force on its day, if there is one
 abbrev pub price_under : List AcceptedTerms → List ℕ → Option Priced

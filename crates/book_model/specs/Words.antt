@@ -38,17 +38,23 @@ pub use Rattle.tariff_rules.specs.declared.reckoning.Reckoning.{Reckoning}
 pub use Rattle.book_model.specs.Sets.{Set, has, members, set_of, those, with, without}
 pub use Rattle.book_model.specs.Records.{IsUsageRecord, Naming, Records, by_bytes, name_of}
 pub use Rattle.book_model.specs.Records.{same_bytes}
-pub use Rattle.book_model.specs.Limits.{last_period, most_choices, most_cost, most_held}
+pub use Rattle.book_model.specs.Limits.{credit_end, last_period, most_choices, most_cost}
+pub use Rattle.book_model.specs.Limits.{most_credits, most_held, most_reason, most_replaced}
 pub use Rattle.book_model.specs.CloseDays.{close_of, is_after, is_between, is_through}
-pub use Rattle.book_model.specs.Rulings.{Ruling, TariffAccepted, RecordChosen, SecondRuleAdopted}
-pub use Rattle.book_model.specs.Rulings.{Choice, Rulings, AcceptedTerms, are_rising, has_begun}
-pub use Rattle.book_model.specs.Rulings.{identity_by, in_force, last_close, latest, no_rulings}
-pub use Rattle.book_model.specs.Rulings.{open_by, price_in, price_under, prices, rulings_before}
+pub use Rattle.book_model.specs.Rulings.{Ruling, TariffAccepted, TariffReplaced, RecordChosen}
+pub use Rattle.book_model.specs.Rulings.{WorkWithheld, SecondRuleAdopted, CreditGiven}
+pub use Rattle.book_model.specs.Rulings.{Choice, Credit, Replaced, Rulings, AcceptedTerms}
+pub use Rattle.book_model.specs.Rulings.{are_rising, has_begun, is_effective, or_new, replaced_in}
+pub use Rattle.book_model.specs.Rulings.{with_credit, with_named, with_replaced, with_withheld}
+pub use Rattle.book_model.specs.Rulings.{identity_by, in_force, is_under, last_close, latest}
+pub use Rattle.book_model.specs.Rulings.{no_rulings, open_by, price_in, price_under, prices}
+pub use Rattle.book_model.specs.Rulings.{rulings_before}
 pub use Rattle.book_model.specs.Rulings.{with_choice, with_close, with_ruling, with_second_rule}
 pub use Rattle.book_model.specs.Rulings.{with_tariff}
 pub use Rattle.book_model.specs.Charged.{charged_by, charged_now, charged_through, conflict}
 pub use Rattle.book_model.specs.Charged.{is_chosen, is_dated_after, is_dated_through, is_undisputed}
-pub use Rattle.book_model.specs.Charged.{is_unrivalled, last_chosen, share_identity}
+pub use Rattle.book_model.specs.Charged.{is_preferred, is_unrivalled, is_withheld, last_choice}
+pub use Rattle.book_model.specs.Charged.{last_chosen, share_identity}
 pub use Rattle.book_model.specs.Periods.{Period, period_by}
 pub use Rattle.book_model.specs.Rows.{AreRows, FitSums, by_key, charged_at, key_of, keys_of, row_at}
 pub use Rattle.book_model.specs.Rows.{row_key, rows_for, rows_of, same_key}
@@ -65,23 +71,34 @@ pub use Rattle.book_model.specs.Events.{after_all, after_any, close, give, keep}
 pub use Rattle.book_model.specs.Accept.{accept_answer, accept_priced, clashes, is_full, total_of}
 pub use Rattle.book_model.specs.RulingAnswers.{adopt_answer, choose_answer, chosen_answer}
 pub use Rattle.book_model.specs.RulingAnswers.{close_answer, first_rule, has_text, is_closed}
-pub use Rattle.book_model.specs.RulingAnswers.{is_early, is_effective, is_later, is_too_dear}
+pub use Rattle.book_model.specs.RulingAnswers.{credit_answer, credit_ruled, has_centre}
+pub use Rattle.book_model.specs.RulingAnswers.{has_most_choices}
+pub use Rattle.book_model.specs.RulingAnswers.{is_credit, is_known_centre, replace_answer}
+pub use Rattle.book_model.specs.RulingAnswers.{replace_ruled, replacing_answer, was_withheld}
+pub use Rattle.book_model.specs.RulingAnswers.{withheld_answer, withhold_answer}
+pub use Rattle.book_model.specs.RulingAnswers.{is_early, is_later, is_too_dear}
 pub use Rattle.book_model.specs.RulingAnswers.{record_named, rule_by, second_rule, tariff_answer}
 pub use Rattle.book_model.specs.RulingAnswers.{IsRule, terms_answer, terms_ruled, through_of}
 pub use Rattle.book_model.specs.RulingLists.{HasDays, RulingSeen, TariffSeen, CloseSeen, ChoiceSeen}
 pub use Rattle.book_model.specs.RulingLists.{AdoptionSeen, ShowsDays, ruling_shown, rulings_listed}
+pub use Rattle.book_model.specs.RulingLists.{WithheldSeen, ReplacedSeen, CreditSeen}
+pub use Rattle.book_model.specs.RulingLists.{all_replaced_seen, credit_seen, credits_seen}
+pub use Rattle.book_model.specs.RulingLists.{replaced_seen}
 pub use Rattle.book_model.specs.RulingLists.{adoption_seen, choice_seen, choices_seen, closes_seen}
 pub use Rattle.book_model.specs.RulingLists.{tariff_seen, tariff_text_on, tariffs_seen, text_on}
 pub use Rattle.book_model.specs.RulingsAsked.{RulingAsked, TariffAsked, CloseAsked, ChoiceAsked}
-pub use Rattle.book_model.specs.RulingsAsked.{AdoptionAsked, HasDay, ruling_asked}
+pub use Rattle.book_model.specs.RulingsAsked.{AdoptionAsked, CreditAsked, IsCreditOf, MayBeAsked}
+pub use Rattle.book_model.specs.RulingsAsked.{ReplacementAsked, WithholdingAsked, is_credit_amount}
+pub use Rattle.book_model.specs.RulingsAsked.{is_reason, is_reason_character, ruling_asked}
 pub use Rattle.book_model.specs.Outcomes.{Outcome, accept_event, accept_outcome}
 pub use Rattle.book_model.specs.Outcomes.{adjustments_outcome, adopt_outcome}
 pub use Rattle.book_model.specs.Outcomes.{charges_outcome, choose_outcome}
-pub use Rattle.book_model.specs.Outcomes.{close_outcome, dispute_outcome}
+pub use Rattle.book_model.specs.Outcomes.{close_outcome, credit_given_outcome, dispute_outcome}
 pub use Rattle.book_model.specs.Outcomes.{disputes_outcome, if_done}
 pub use Rattle.book_model.specs.Outcomes.{periods_outcome, no_event, record_outcome, ruled_as}
-pub use Rattle.book_model.specs.Outcomes.{rule_outcome, ruling_outcome, tariff_outcome}
-pub use Rattle.book_model.specs.Outcomes.{what_if_outcome}
+pub use Rattle.book_model.specs.Outcomes.{credit_outcome, replace_outcome, rule_outcome}
+pub use Rattle.book_model.specs.Outcomes.{ruling_outcome, tariff_outcome, what_if_outcome}
+pub use Rattle.book_model.specs.Outcomes.{withhold_outcome}
 pub use Rattle.book_model.specs.OtherPrices.{costs_under, rows_if_room, what_if_answer}
 pub use Rattle.book_model.specs.Details.{by_detail, comes_after, detail_by, detail_of, detail_with}
 pub use Rattle.book_model.specs.Details.{details_asked, is_asked}
@@ -99,7 +116,7 @@ pub use Rattle.book_model.specs.Bills.{billed_shifts, billed_tariff, by_shift, s
 pub use Rattle.book_model.specs.Bills.{charged_before, disputes_for, first_day_of, greatest_for}
 pub use Rattle.book_model.specs.Bills.{held_back_in, held_back_of, in_force_from, is_paid_by}
 pub use Rattle.book_model.specs.Bills.{is_step, jobs_of, least_for, letterhead_among, letterhead_by}
-pub use Rattle.book_model.specs.Bills.{line_alone}
+pub use Rattle.book_model.specs.Bills.{credit_shown, credits_asked, credits_in, line_alone}
 pub use Rattle.book_model.specs.Bills.{period_by_trail, period_of_line, steps_of, tariff_by}
 pub use Rattle.book_model.specs.Bills.{tariffs_from, tariffs_in, tariffs_through, work_rows}
 pub use Rattle.book_model.specs.KnownCentres.{begun_in, is_centre, names_centre, of_centre}

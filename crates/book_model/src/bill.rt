@@ -52,12 +52,25 @@ pub struct BilledShift {
     pub percent: u16,
 }
 
+/// A credit that the office gave a centre while a period was open.
+#[derive(Drop)]
+pub struct Credit {
+    pub period: u16,
+    pub centre: Name,
+    /// In ten-thousandths of the money unit. It is taken from what the centre owes; one below 0 is
+    /// added to it.
+    pub amount: i64,
+    pub reason: String,
+}
+
 /// The bill of a period, for a centre or for the whole office.
 #[derive(Drop)]
 pub struct Bill {
     pub work: WorkRows,
     /// What came late, and what was reversed.
     pub lines: Vec<BilledLine>,
+    /// The credits of the period, in the order in which they were given.
+    pub credits: Vec<Credit>,
     /// A closed period holds nothing back: what is decided later comes late in the period that is
     /// open then.
     pub held_back: Option<HeldBack>,

@@ -17,8 +17,8 @@ pub enum LedgerFault {
     /// An earlier call was answered `Store`: the books are to be opened again.
     #[error("the books have to be opened again")]
     Reopen,
-    /// The books have no room: for a record, its amount, a period, a choice, or what records would
-    /// cost under a tariff.
+    /// The books have no room: for a record, its amount, a period, a choice, a credit, or what
+    /// records would cost under a tariff.
     #[error("the books are full")]
     Full,
     /// A record that is held has the name of this one, and other bytes.
@@ -46,7 +46,7 @@ pub enum LedgerFault {
     /// No record of that name is held.
     #[error("no such record")]
     NoSuchRecord,
-    /// The record is alone in its identity.
+    /// The record is alone in its identity, and its work was never withheld.
     #[error("the record is not disputed")]
     NotDisputed,
     /// A later rule of identity is in force.
@@ -67,7 +67,7 @@ pub enum LedgerFault {
     /// No tariff that came as a text begins on that day.
     #[error("no tariff begins on that day")]
     NoSuchTariff,
-    /// No tariff has a rule for the centre.
+    /// No tariff has a rule for that centre.
     #[error("no such centre")]
     NoSuchCentre,
 }

@@ -19,11 +19,13 @@ pub struct Turn {
     pub deed: Deed,
 }
 
-/// A choice: the period that was open then, and the name of the record that was chosen.
+/// A choice: the period that was open then, the name of the record that was named, and whether it
+/// counts from then on, or no record of its work does.
 #[derive(Clone, Copy)]
 pub struct NamedChoice {
     pub period: u16,
     pub name: [u8; 32],
+    pub counts: bool,
 }
 
 /// What stands behind the price of a record that is held, and what became of the record.

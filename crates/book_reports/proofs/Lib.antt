@@ -8,7 +8,9 @@ pub mod DisputeLemmas
 pub mod DetailLemmas
 pub mod DetailLengths
 pub mod TariffLemmas
+pub mod ReplacedTextLemmas
 pub mod WhatIfLemmas
+pub mod NextTariffLemmas
 pub mod FigureLemmas
 pub mod RecordNameLemmas
 pub mod DetailSums
@@ -17,6 +19,7 @@ pub mod BillLineLemmas
 pub mod ShiftLemmas
 pub mod KeptTariffLemmas
 pub mod KnownCentreLemmas
+pub mod BillCreditLemmas
 pub mod BillLemmas
 pub mod FocusLemmas
 pub mod SystemLemmas

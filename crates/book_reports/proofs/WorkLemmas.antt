@@ -74,7 +74,7 @@ module _ (work : WorkSums) (details : List Detail) (are : AreSumsOf work details
 
   -- and what steps and jobs cost together fits
   small_amount : sum_by (λ row. row.amount) (work_rows (steps_of details))
-      + sum_by (λ row. row.amount) (work_rows (jobs_of details)) < 2 ^ 63
+      + sum_by (λ row. row.amount) (work_rows (jobs_of details)) < 2 ^ 62
   small_amount =
       let amount = ap (λ sums. sums.amount) are.all in
       let steps = sum_by-rows_of_le (λ row. row.amount) (λ one. one.amount)

@@ -9,11 +9,12 @@ use Rattle.book_lists.specs.Shown.{shown_by}
 use Rattle.book_reports.specs.declared.bill_work.PeriodWork.{PeriodWork}
 use Rattle.book_reports.specs.Shown.{closed_through}
 
--- rows of steps and of jobs that a bill can show: with what lines charge, 64 bits hold what they cost
+-- rows of steps and of jobs that a bill can show: with what lines charge and credits add, 64 bits hold
+-- what they cost
 pub record AreWork (steps jobs : List ChargeRow) : Type 0 where
   pub step_rows : AreRows steps
   pub job_rows : AreRows jobs
-  pub amount : sum_by (λ row. row.amount) steps + sum_by (λ row. row.amount) jobs < 2 ^ 63
+  pub amount : sum_by (λ row. row.amount) steps + sum_by (λ row. row.amount) jobs < 2 ^ 62
 
 -- they are the rows of these details
 pub record IsWorkOf (details : List Detail) (rows : WorkRows) : Type 0 where

@@ -33,12 +33,13 @@ use Rattle.book_reports.specs.declared.report.Report.TheVariants.{DisputeList}
 use Rattle.book_reports.specs.declared.report.Report.TheVariants.{DisputeTable, Focus, OfPeriod}
 use Rattle.book_reports.specs.declared.report.Report.TheVariants.{OfficePage, PeriodList}
 use Rattle.book_reports.specs.declared.report.Report.TheVariants.{PeriodPage, Record, RulingList}
-use Rattle.book_reports.specs.declared.report.Report.TheVariants.{TariffText}
+use Rattle.book_reports.specs.declared.report.Report.TheVariants.{ReplacedText, TariffText}
 use Rattle.book_reports.specs.BillPages.{bill_page_answer}
 use Rattle.book_reports.specs.Bills.{bill_answer}
 use Rattle.book_reports.specs.Coverage.{coverage_answer}
 use Rattle.book_reports.specs.FocusReports.{focus_answer}
 use Rattle.book_reports.specs.Pages.{office_page_answer, period_page_answer}
+use Rattle.book_reports.specs.ReplacedTexts.{replaced_text_on}
 pub use Rattle.book_lists.specs.Shown.{shown_by}
 pub use Rattle.book_reports.specs.Shown.{closed_through, closed_through_outcome}
 
@@ -103,6 +104,8 @@ report_answer naming DisputeTable book =
 report_answer naming PeriodList book = shown_by period_list_text (periods_outcome book).answer
 report_answer naming RulingList book = Ok (ruling_text naming book)
 report_answer naming (TariffText day) book = ok_or (tariff_text_on day book.rulings) NoSuchTariff
+report_answer naming (ReplacedText day digest) book =
+    ok_or (replaced_text_on naming day digest book) NoSuchTariff
 report_answer naming (Record name) book =
     shown_by (record_text name) (trail_outcome naming name book).answer
 report_answer naming (Bill form period centre) book =

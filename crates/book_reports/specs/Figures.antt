@@ -5,9 +5,9 @@ use Rattle.book_model.specs.declared.fault.LedgerFault.{LedgerFault}
 use Rattle.book_model.specs.declared.fault.LedgerFault.TheVariants.{NoSuchPeriod}
 use Rattle.book_model.specs.declared.line.Line.{Line}
 use Rattle.book_model.specs.declared.row.ChargeRow.{ChargeRow}
-use Rattle.book_model.specs.Words.{Book, Naming, Outcome, no_event}
-use Rattle.report_texts.specs.Figures.{figures, figures_with, lines_in, number_after, record_count}
-use Rattle.report_texts.specs.Figures.{rows_in}
+use Rattle.book_model.specs.Words.{Book, Naming, Outcome, credits_in, no_event, tariffs_seen}
+use Rattle.report_texts.specs.Figures.{figures, figures_with, lines_in, next_begin, number_after}
+use Rattle.report_texts.specs.Figures.{record_count, record_count_under, rows_in}
 use Rattle.report_texts.specs.declared.dry_runs.TriedRuling.{TriedRuling}
 use Rattle.report_texts.specs.declared.figures.Figures.{Figures}
 use Rattle.book_reports.specs.declared.figures.OpenPeriod.{OpenPeriod}
@@ -40,6 +40,15 @@ lines_outcome naming period book = no_event (Ok (lines_in naming period book))
 -- how many records a period counts
 abbrev pub count_outcome : ℕ → Book → Outcome ℕ
 count_outcome period book = no_event (Ok (record_count (rows_in period book)))
+
+-- how many records of some rows a tariff with this first day prices
+abbrev pub priced_outcome : ℤ → List ChargeRow → Book → Outcome ℕ
+priced_outcome first rows book =
+    no_event (Ok (record_count_under first (next_begin first (tariffs_seen book.rulings.tariffs)) rows))
+
+-- how many credits a period has
+abbrev pub credit_count_outcome : ℕ → Book → Outcome ℕ
+credit_count_outcome period book = no_event (Ok (length (credits_in period book.rulings)))
 
 -- the figures of a period whose charge rows these are
 abbrev pub figures_with_outcome :

@@ -1,4 +1,4 @@
--- The line that says what became of a dump.
+-- The line that says what became of a dump, or of the works of its records.
 use Rattle.std.specs.Prelude.{ℕ, List, ◌++◌, codes, decimal}
 use Rattle.book_model.specs.Words.{frame_number, ledger_number}
 use Rattle.book_import.specs.declared.receipt.Receipt.{Receipt}
@@ -44,3 +44,9 @@ abbrev pub receipt_line_text : Receipt → List ℕ
 receipt_line_text receipt =
     usage_counts receipt ++ other_counts receipt
     ++ codes "STOP " ++ stop_text receipt.stop ++ newline
+
+-- the same of works that were to be withheld
+abbrev pub withheld_line_text : ℕ → ℕ → ℕ → Stop → List ℕ
+withheld_line_text withheld already not_held stop =
+    count_text (codes "WITHHELD") withheld ++ count_text (codes "ALREADY") already
+    ++ count_text (codes "NOT HELD") not_held ++ codes "STOP " ++ stop_text stop ++ newline

@@ -17,12 +17,12 @@ Prices = List Priced
 abbrev pub prices_of : List Detail → List Priced
 prices_of details = map (λ detail. detail.priced) details
 
--- 64 bits hold the sums, and signed ones the amount
+-- 64 bits hold the sums, and 62 bits the amount
 pub record SumsFit (sums : Sums) : Type 0 where
   pub count : sums.count < 2 ^ 64
   pub cpu : sums.cpu < 2 ^ 64
   pub blocks : sums.blocks < 2 ^ 64
-  pub amount : sums.amount < 2 ^ 63
+  pub amount : sums.amount < 2 ^ 62
 
 -- the sums are those of these details, of which each is dated on a day
 pub record AreSumsOf (work : WorkSums) (details : List Detail) : Type 0 where

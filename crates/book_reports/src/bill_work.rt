@@ -22,8 +22,9 @@ use std::alloc::{AllocError, Global};
 use std::collections::BTreeMap;
 use tariff_rules::Priced;
 
-/// The first number that signed 64-bit integers do not hold.
-const SIGNED_END: u64 = 1 << 63;
+/// The first number that 62 bits do not hold. No books hold records that cost so much: so 64 bits hold
+/// what a bill charges with its lines and its credits.
+const AMOUNT_END: u64 = 1 << 62;
 
 /// What was worked in a period.
 #[derive(Drop)]
@@ -73,7 +74,7 @@ fn fitting_sums(sums: Sums, detail: &Detail) -> Option<Sums>
         return None;
     };
     let amount = more.amount;
-    if amount >= SIGNED_END {
+    if amount >= AMOUNT_END {
         return None;
     }
     Some(more)

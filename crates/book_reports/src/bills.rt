@@ -9,6 +9,7 @@ ghost use Rattle.report_texts.specs.Charges.{IsBill};
 ghost use Rattle.book_reports.specs.Bills as spec;
 ghost use Rattle.book_reports.specs.BookTexts.{report_outcome};
 
+use crate::bill_credits::shown_credits;
 use crate::bill_lines::billed_lines;
 use crate::bill_tariffs::billed_tariffs;
 use crate::bill_work::period_work;
@@ -49,11 +50,13 @@ pub(crate) fn gathered<L: Ledger>(
     let held = held_back(alloc, ledger, period, centre)?;
     let days = period_days(ledger, period)?;
     let kept = billed_tariffs(alloc, ledger, period)?;
+    let credits = shown_credits(alloc, ledger, period, centre)?;
     Ok(PeriodBill {
         through: work.through,
         bill: Bill {
             work: work.rows,
             lines,
+            credits,
             held_back: held,
             before: days.before,
             tariffs: kept.tariffs,

@@ -13,6 +13,7 @@ use crate::coverage::coverage_report;
 use crate::focus_reports::focus_report;
 use crate::known_centres::known_centre;
 use crate::pages::{office_page_report, period_page_report};
+use crate::replaced_texts::replaced_text;
 use crate::report::{PeriodReport, Report};
 use crate::ruling_texts::{ruling_list, tariff_text};
 use book_core::{ChargeRow, Ledger, LedgerFault, Line};
@@ -224,6 +225,7 @@ pub fn report_text<L: Ledger>(
         ),
         Report::RulingList => ruling_list(alloc, ledger),
         Report::TariffText(day) => tariff_text(ledger, day),
+        Report::ReplacedText { day, digest } => replaced_text(alloc, ledger, day, digest),
         Report::Record(name) => made_of(
             ledger.trail_of(alloc, &name),
             |trail| Ok(record_text(alloc, &name, trail)?.into_bytes()),

@@ -9,9 +9,13 @@ ghost use Rattle.report_texts.specs.Figures as figures;
 ghost use Rattle.book_reports.specs.BookTexts.{shown_by};
 ghost use Rattle.book_reports.specs.Figures as spec;
 
+use crate::bill_credits::billed_credits;
+use crate::next_tariffs::next_tariff;
 use crate::streamed_disputes::count_disputes;
 use book_core::{ChargeRow, LAST_PERIOD, Ledger, LedgerFault, Line};
-use report_texts::{Figures, TriedRuling, figures_of, record_count, record_count_from};
+use report_texts::{
+    Figures, TriedRuling, figures_of, record_count, record_count_from, record_count_under,
+};
 use std::alloc::Global;
 
 /// The period of books that is open.
@@ -114,6 +118,30 @@ fn count_of_period<L: Ledger>(
     Ok(record_count(&rows))
 }
 
+/// How many records of some rows a tariff with this first day prices.
+fn count_priced<L: Ledger>(
+    alloc: Global,
+    ledger: &mut L,
+    first: i32,
+    rows: &[ChargeRow],
+) -> Result<u64, LedgerFault>
+    requires { AreRows rows.now }
+    ensures { IsCall (λ count. count) (L.seen ledger.old) (L.seen ledger.new) result
+        (spec.priced_outcome first rows.now) }
+{
+    let next = next_tariff(alloc, ledger, first)?;
+    Ok(record_count_under(rows, first, next))
+}
+
+/// How many credits a period has.
+fn count_credits<L: Ledger>(alloc: Global, ledger: &mut L, period: u16) -> Result<u64, LedgerFault>
+    ensures { IsCall (λ count. count) (L.seen ledger.old) (L.seen ledger.new) result
+        (spec.credit_count_outcome period) }
+{
+    let credits = billed_credits(alloc, ledger, period, &None)?;
+    Ok(credits.len() as u64)
+}
+
 /// The figures of a period by its rows and lines, and the count that is shown for the ruling, if that
 /// was answered.
 fn figures_and(
@@ -154,6 +182,13 @@ fn figures_with<L: Ledger>(
             figures_and(rows, &lines, count_of_period(alloc, ledger, period + 1))
         }
         TriedRuling::Choose(_) => figures_and(rows, &lines, count_disputes(alloc, ledger)),
+        TriedRuling::Withhold(_) => figures_and(rows, &lines, count_disputes(alloc, ledger)),
+        TriedRuling::Replace(first) => {
+            figures_and(rows, &lines, count_priced(alloc, ledger, first, rows))
+        }
+        TriedRuling::Credit { .. } => {
+            figures_and(rows, &lines, count_credits(alloc, ledger, period))
+        }
         TriedRuling::Adopt => figures_and(rows, &lines, count_disputes(alloc, ledger)),
     }
 }

@@ -2,6 +2,7 @@
 //! what a writer gains from them.
 #![tactic(auto)]
 
+mod bill_credits;
 mod bill_lines;
 mod bill_page_reports;
 mod bill_shifts;
@@ -16,12 +17,15 @@ mod detail_lengths;
 mod figures;
 mod focus_days;
 mod focus_reports;
+mod given_credits;
 mod held_back;
 mod known_centres;
+mod next_tariffs;
 mod pages;
 mod period_days;
 mod receipt_lines;
 mod record_names;
+mod replaced_texts;
 mod report;
 mod reports;
 mod ruling_texts;
@@ -36,7 +40,7 @@ pub use book_texts::report_text;
 pub use check_lists::{push_last_line, push_record_line};
 pub use detail_lengths::details_length;
 pub use figures::{OpenPeriod, open_period, period_figures, rows_of_period};
-pub use receipt_lines::receipt_line_text;
+pub use receipt_lines::{receipt_line_text, withheld_line_text};
 pub use record_names::name_of_text;
 pub use report::{PeriodReport, Report, centre_named};
 pub use reports::{

@@ -1,5 +1,5 @@
-//! The line that says what became of a dump, in a buffer of fixed size: it takes no memory, so no
-//! receipt is lost because memory runs out.
+//! The line that says what became of a dump, or of the works of its records, in a buffer of fixed
+//! size: it takes no memory, so no receipt is lost because memory runs out.
 
 ghost use Rattle.std.specs.Prelude.{◌≡◌, ◌+◌, ◌≤◌, ◌++◌, decimal, length};
 ghost use Rattle.arrayvec.specs.ArrayString.{array_string_len};
@@ -105,6 +105,26 @@ pub fn receipt_line_text(receipt: &Receipt) -> ReceiptLine
     push_others(&mut line, receipt);
     line.push_str("STOP ");
     push_stop(&mut line, receipt.stop);
+    line.push_str("\n");
+    line
+}
+
+/// The line that says what became of the works of a dump's records that were to be withheld, and
+/// why no further one was.
+pub fn withheld_line_text(
+    withheld: usize,
+    already: usize,
+    not_held: usize,
+    stop: Stop,
+) -> ReceiptLine
+    ensures { result.bytes ≡ spec.withheld_line_text withheld already not_held stop }
+{
+    let mut line = ReceiptLine::new();
+    push_count(&mut line, "WITHHELD", withheld as u64);
+    push_count(&mut line, "ALREADY", already as u64);
+    push_count(&mut line, "NOT HELD", not_held as u64);
+    line.push_str("STOP ");
+    push_stop(&mut line, stop);
     line.push_str("\n");
     line
 }

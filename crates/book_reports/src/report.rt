@@ -41,6 +41,13 @@ pub enum Report {
     RulingList,
     /// The text of the tariff that begins on a day, counted from 1970-01-01.
     TariffText(i32),
+    /// The text of a tariff that another took the place of.
+    ReplacedText {
+        /// The day on which the tariff begins, counted from 1970-01-01.
+        day: i32,
+        /// The SHA-256 of the text.
+        digest: [u8; 32],
+    },
     /// What stands behind the price of the record of a name, and what became of the record.
     Record([u8; 32]),
     /// The bill of a period: of one centre, or where none is named what each centre owes.

@@ -3,11 +3,11 @@ use Rattle.std.proofs.Common.{◌≡◌, Bool, Result, Ok, Err, Option, None, So
 use Rattle.std.proofs.Common.{false, subst, sym, IsTrue, IfErr, IfOk, IfSome, IsErrAnd, MatchOption}
 use Rattle.std.proofs.Common.{MatchResult}
 use Rattle.book_model.specs.declared.fault.LedgerFault.{LedgerFault}
-use Rattle.book_trees.specs.FirstForm.{HoldsFirstForm, IsToldThis, IsUnopenedFirst, first_opening}
+use Rattle.book_trees.specs.OldForms.{HoldsOldForm, IsToldThis, IsUnopenedOld, old_opening}
 use Rattle.book_trees.specs.Looks.{IsUnopenedLook, look_opening}
 use Rattle.book_trees.specs.Refusals.{IsUnopened}
 use Rattle.book_trees.specs.declared.faults.OpenFault.{OpenFault}
-use Rattle.book_trees.specs.declared.first_form.FirstFault.{FirstFault}
+use Rattle.book_trees.specs.declared.old_forms.OldFault.{OldFault}
 use Rattle.book_trees.specs.declared.integrity.LookFault.{LookFault}
 use Rattle.book_trees.specs.declared.integrity.LookFault.TheVariants.{Pages, Open}
 use Rattle.book_sessions.proofs.Words.{Ghosts, Files, state, view, FileStore, clean_of, Trees}
@@ -15,7 +15,7 @@ use Rattle.book_sessions.proofs.Words.{IsClean, AreClean, Image, HoldsBooks, tre
 use Rattle.book_sessions.proofs.Words.{IsRefusedWithout, Closed, HasFaultCause, RepositoryFault}
 use Rattle.book_sessions.proofs.Words.{has_book}
 use Rattle.book_sessions.specs.Causes.{HasNoAnswerFor, HaveNoBookRow, IsToldOfThis, IsWithoutFiles}
-use Rattle.book_sessions.specs.Faults.{first_answer, look_answer, open_fault, resume_fault}
+use Rattle.book_sessions.specs.Faults.{old_answer, look_answer, open_fault, resume_fault}
 use Rattle.book_sessions.specs.Upgrades.{upgrade_answer}
 use Rattle.book_sessions.specs.declared.ended.Ended.TheVariants.{Refused}
 use Rattle.book_sessions.proofs.SessionParts.{found_clean}
@@ -24,7 +24,7 @@ use Rattle.named_books.specs.declared.repository.RepositoryFault.TheVariants.{Le
 use Rattle.table_ledger.specs.Loaded.{IsOpenFault}
 use Rattle.book_model.specs.declared.fault.LedgerFault.TheVariants as ledger
 use Rattle.book_trees.specs.declared.faults.OpenFault.TheVariants as opening
-use Rattle.book_trees.specs.declared.first_form.FirstFault.TheVariants as form
+use Rattle.book_trees.specs.declared.old_forms.OldFault.TheVariants as form
 use Rattle.book_sessions.specs.declared.ended.Ended.TheVariants as ended
 
 -- what is said of an answer, or of an error, may be said in other words
@@ -163,14 +163,14 @@ module _ {D : Type 0} (g : Ghosts D) (Held : Type 0) (Opened : RepositoryFault �
   look_cause (Open fault) files cause = refused_cause fault files cause
 
   -- and so have those that were to be brought to this form
-  pub first_cause : (why : FirstFault) (files : Option (Files D))
-      → MatchOption files (IsUnopenedFirst why) (IsRefusedWithout g Held (first_opening why))
-      → IfErr (first_answer why)
+  pub old_cause : (why : OldFault) (files : Option (Files D))
+      → MatchOption files (IsUnopenedOld why) (IsRefusedWithout g Held (old_opening why))
+      → IfErr (old_answer why)
       (λ fault. HasNoAnswerFor g (HasFaultCause (¬ Held) ⊥) Opened fault (Refused files))
-  first_cause form.Already files cause = tt
-  first_cause form.Pages None cause = absurd cause
-  first_cause form.Pages (Some files) cause = λ clean. tt
-  first_cause (form.Open fault) files cause = refused_cause fault files cause
+  old_cause form.Already files cause = tt
+  old_cause form.Pages None cause = absurd cause
+  old_cause form.Pages (Some files) cause = λ clean. tt
+  old_cause (form.Open fault) files cause = refused_cause fault files cause
 
 -- files that were opened hold no books of this form
 pub opened_not_this : {D : Type 0} (g : Ghosts D) (closed : Closed D)
@@ -187,13 +187,13 @@ not_this why other (inl is) = absurd (cc)
 not_this why other (inr is) = other (cc)
 
 -- files that hold such books are told to, or were not opened
-pub refused_this : {D : Type 0} (g : Ghosts D) (found : Image) → HoldsBooks found → (why : FirstFault)
+pub refused_this : {D : Type 0} (g : Ghosts D) (found : Image) → HoldsBooks found → (why : OldFault)
     (files : Option (Files D))
-    → MatchOption files (IsUnopenedFirst why)
-    (IsRefusedWithout g (HoldsFirstForm found) (first_opening why))
+    → MatchOption files (IsUnopenedOld why)
+    (IsRefusedWithout g (HoldsOldForm found) (old_opening why))
     → ((IsToldThis why → ⊥)
-    → IfSome files (IsRefusedWithout g (HoldsBooks found) (first_opening why)))
-    → IsToldOfThis g (first_answer why) (Refused files)
+    → IfSome files (IsRefusedWithout g (HoldsBooks found) (old_opening why)))
+    → IsToldOfThis g (old_answer why) (Refused files)
 refused_this g found held form.Already files cause this = tt
 refused_this g found held form.Pages None cause this = absurd cause
 refused_this g found held form.Pages (Some files) cause this = λ clean. inr tt

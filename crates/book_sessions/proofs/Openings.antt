@@ -1,23 +1,23 @@
 -- What is known of the call that opened the files of a session.
 use Rattle.std.proofs.Common.{◌≡◌, IsTrue, Option, None, Some, Result, Ok, Err, refl, subst, sym}
 use Rattle.std.proofs.Common.{IfErr, IfOk, IfSome, MatchOption}
-use Rattle.book_trees.specs.FirstForm.{HoldsFirstForm, IsToldThis, IsUnopenedFirst, first_opening}
+use Rattle.book_trees.specs.OldForms.{HoldsOldForm, IsToldThis, IsUnopenedOld, OldNoNewer}
+use Rattle.book_trees.specs.OldForms.{old_opening}
 use Rattle.book_trees.specs.Forms.{HoldNoNewer}
-use Rattle.book_trees.specs.LedgerFiles.{AreEmptyTables, HoldsFirstBooks, HoldsNothing}
+use Rattle.book_trees.specs.LedgerFiles.{AreEmptyTables, HoldsOldBooks, HoldsNothing, old_trees}
 use Rattle.book_trees.specs.Looks.{IsUnopenedLook, look_opening}
 use Rattle.book_trees.specs.Refusals.{IsAsFound, IsBegun, IsUnopened, MayLeave}
-use Rattle.book_trees.specs.Schema.{first_schema}
 use Rattle.book_trees.specs.StoreView.{ListsBooks}
 use Rattle.book_trees.specs.declared.faults.OpenFault.{OpenFault}
-use Rattle.book_trees.specs.declared.first_form.FirstFault.{FirstFault}
-use Rattle.book_trees.specs.declared.first_form.FirstFault.TheVariants.{Already}
+use Rattle.book_trees.specs.declared.old_forms.OldFault.{OldFault}
+use Rattle.book_trees.specs.declared.old_forms.OldFault.TheVariants.{Already}
 use Rattle.book_trees.specs.declared.integrity.LookFault.{LookFault}
 use Rattle.book_trees.specs.declared.integrity.LookFault.TheVariants.{Pages}
 use Rattle.book_sessions.proofs.Words.{Ghosts, Files, state, view, IsReady, FileStore, clean_of}
 use Rattle.book_sessions.proofs.Words.{IsClean, AreClean, Image, HoldsThisForm, HoldsBooks}
 use Rattle.book_sessions.proofs.Words.{trees_held, IsRefusedWithout, books_schema, Closed}
 use Rattle.book_sessions.proofs.Words.{AreLeftAsFound}
-use Rattle.book_sessions.specs.Openings.{IsCarriedBy, IsCreation, IsFirstOpening, IsLooking}
+use Rattle.book_sessions.specs.Openings.{IsCarriedBy, IsCreation, IsOldOpening, IsLooking}
 use Rattle.book_sessions.specs.Openings.{IsOpening}
 use Rattle.book_sessions.specs.Sessions.{OpenOnly}
 use Rattle.book_sessions.specs.declared.ended.Ended.{Ended}
@@ -126,25 +126,25 @@ looking_at g stays found (Ok store) ready shows held there lists kept =
 looking_at g stays found (Err refusal) ready shows held there lists kept =
     (there, left_as_found g stays found refusal.1 kept, lists)
 
--- and the opening of books of the first form
-pub first_opening_at : {D : Type 0} (g : Ghosts D) → ((file : D) → g.may_leave file (g.seen file))
-    → (found : Image) (opened : Result (FileStore D g) (FirstFault × Option (Files D)))
+-- and the opening of books of an older form
+pub old_opening_at : {D : Type 0} (g : Ghosts D) → ((file : D) → g.may_leave file (g.seen file))
+    → (found : Image) (opened : Result (FileStore D g) (OldFault × Option (Files D)))
     → IfOk opened IsReady
-    → IfOk opened (λ store. IsTrue (state store).is_clean → (held : HoldsFirstBooks found)
-    → (view store).trees ≡ trees_held held)
+    → IfOk opened (λ store. IsTrue (state store).is_clean → (held : HoldsOldBooks found)
+    → (view store).trees ≡ old_trees held)
     → IfOk opened (λ store. IsTrue (state store).is_clean → ¬ HoldsBooks found)
-    → IfOk opened (λ store. IsTrue (state store).is_clean → ∥ HoldsFirstBooks found ∥₁)
-    → IfOk opened (λ store. IsTrue (state store).is_clean → HoldNoNewer first_schema found)
-    → IfErr opened (λ refusal. MatchOption refusal.1 (IsUnopenedFirst refusal.0)
-    (IsRefusedWithout g (HoldsFirstForm found) (first_opening refusal.0)))
+    → IfOk opened (λ store. IsTrue (state store).is_clean → ∥ HoldsOldBooks found ∥₁)
+    → IfOk opened (λ store. IsTrue (state store).is_clean → OldNoNewer found)
+    → IfErr opened (λ refusal. MatchOption refusal.1 (IsUnopenedOld refusal.0)
+    (IsRefusedWithout g (HoldsOldForm found) (old_opening refusal.0)))
     → IfErr opened (λ refusal. (¬ IsToldThis refusal.0) → IfSome refusal.1
-    (IsRefusedWithout g (HoldsBooks found) (first_opening refusal.0)))
+    (IsRefusedWithout g (HoldsBooks found) (old_opening refusal.0)))
     → IfErr opened (λ refusal. refusal.0 ≡ Already → IfSome refusal.1 (λ files.
     AreClean g files.log files.db → ListsBooks found))
     → IfErr opened (λ refusal. IfSome refusal.1 (λ files. (left : Image) → MayLeave g files left
     → IsAsFound found left))
-    → IsFirstOpening g found opened
-first_opening_at g stays found (Ok store) ready shows older held form there this lists kept =
+    → IsOldOpening g found opened
+old_opening_at g stays found (Ok store) ready shows older held form there this lists kept =
     record { ready = ready; shows = shows; older = older; held = held; form = form }
-first_opening_at g stays found (Err refusal) ready shows older held form there this lists kept =
+old_opening_at g stays found (Err refusal) ready shows older held form there this lists kept =
     (there, left_as_found g stays found refusal.1 kept, this, lists)

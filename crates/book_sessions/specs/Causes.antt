@@ -5,10 +5,10 @@ use Rattle.sqlite_wal.specs.Reads.{AreClean}
 use Rattle.sqlite_wal.specs.Recovery.{Image}
 use Rattle.book_model.specs.Words.{Book, Naming, new_book}
 use Rattle.book_model.specs.declared.fault.LedgerFault.TheVariants as ledger
-use Rattle.book_trees.specs.FirstForm.{HoldsFirstForm}
+use Rattle.book_trees.specs.OldForms.{HoldsOldForm}
 use Rattle.book_trees.specs.Forms.{HoldNoNewer, HoldsThisForm}
-use Rattle.book_trees.specs.LedgerFiles.{HoldsBooks, HoldsFirstBooks, HoldsNothing}
-use Rattle.book_trees.specs.LedgerFiles.{trees_held}
+use Rattle.book_trees.specs.LedgerFiles.{HoldsBooks, HoldsOldBooks, HoldsNothing}
+use Rattle.book_trees.specs.LedgerFiles.{old_trees, trees_held}
 use Rattle.book_trees.specs.Schema.{books_schema}
 use Rattle.table_model.specs.TablesOf.{tables_of}
 use Rattle.tree_tables.specs.Holds.{has_book}
@@ -48,9 +48,9 @@ HaveUsedBook found = HaveBookRow found × (¬ HoldsBook file_names new_book foun
 abbrev pub HaveNoBookRow : Image → Type 0
 HaveNoBookRow found = (held : HoldsBooks found) → has_book (trees_held held) ≡ false
 
--- whatever books of the first form the files hold, the row of the book is not there
-abbrev pub HaveNoFirstRow : Image → Type 0
-HaveNoFirstRow found = (held : HoldsFirstBooks found) → has_book (trees_held held) ≡ false
+-- whatever books of an older form the files hold, the row of the book is not there
+abbrev pub HaveNoOldRow : Image → Type 0
+HaveNoOldRow found = (held : HoldsOldBooks found) → has_book (old_trees held) ≡ false
 
 -- no files are in hand: memory ran out, another program has them, or they are out of reach
 abbrev pub IsWithoutFiles : RepositoryFault → Type 0
@@ -115,12 +115,12 @@ module _ {D : Type 0} (g : Ghosts D) (found : Image) (ended : Ended D) where
   WhyNotAudited fault =
       HasNoAnswerFor g (HasFaultCause (¬ HoldsThisForm found) ⊥) (λ other. ⊤) fault ended
 
-  -- why books were not brought to this form: the files hold none of the first form, or not their
+  -- why books were not brought to this form: the files hold none of an older form, or not their
   -- row
   abbrev pub WhyNotUpgraded : RepositoryFault → Type 0
   WhyNotUpgraded fault =
-      HasNoAnswerFor g (HasFaultCause (¬ HoldsFirstForm found) ⊥)
-      (HasFaultCause (HaveNoFirstRow found) ⊥) fault ended
+      HasNoAnswerFor g (HasFaultCause (¬ HoldsOldForm found) ⊥)
+      (HasFaultCause (HaveNoOldRow found) ⊥) fault ended
 
 -- What is answered of files that hold books of this form: that they are of it; or that they are of
 -- a newer one; or that memory ran out, or that the store failed. No such files are opened.

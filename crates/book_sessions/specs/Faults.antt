@@ -9,8 +9,8 @@ use Rattle.book_audit.specs.declared.finding.Place.TheVariants.{File}
 use Rattle.book_audit.specs.declared.finding.Wrong.TheVariants.{Pages as WrongPages}
 use Rattle.book_trees.specs.declared.faults.OpenFault.{OpenFault}
 use Rattle.book_trees.specs.declared.faults.OpenFault.TheVariants as opening
-use Rattle.book_trees.specs.declared.first_form.FirstFault.{FirstFault}
-use Rattle.book_trees.specs.declared.first_form.FirstFault.TheVariants as first
+use Rattle.book_trees.specs.declared.old_forms.OldFault.{OldFault}
+use Rattle.book_trees.specs.declared.old_forms.OldFault.TheVariants as first
 use Rattle.book_trees.specs.declared.integrity.LookFault.{LookFault}
 use Rattle.book_trees.specs.declared.integrity.LookFault.TheVariants.{Pages, Open}
 use Rattle.named_books.specs.declared.repository.RepositoryFault.{RepositoryFault}
@@ -47,7 +47,7 @@ look_answer Pages = Ok (Unsound (record { place = File; wrong = WrongPages }))
 look_answer (Open fault) = Err (open_fault fault)
 
 -- what is answered where books were not opened that were to be brought to this form
-abbrev pub first_answer : FirstFault → Result Upgraded RepositoryFault
-first_answer first.Already = Ok Already
-first_answer first.Pages = Err (Ledger ledger.Store)
-first_answer (first.Open fault) = Err (open_fault fault)
+abbrev pub old_answer : OldFault → Result Upgraded RepositoryFault
+old_answer first.Already = Ok Already
+old_answer first.Pages = Err (Ledger ledger.Store)
+old_answer (first.Open fault) = Err (open_fault fault)

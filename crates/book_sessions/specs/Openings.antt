@@ -7,19 +7,20 @@ use Rattle.sqlite_store.specs.declared.store.FileStore.{FileStore}
 use Rattle.sqlite_trees.specs.View.{IsClean}
 use Rattle.sqlite_wal.specs.Reads.{AreClean}
 use Rattle.sqlite_wal.specs.Recovery.{Image}
-use Rattle.book_trees.specs.FirstForm.{HoldsFirstForm, IsToldThis, IsUnopenedFirst, first_opening}
+use Rattle.book_trees.specs.OldForms.{HoldsOldForm, IsToldThis, IsUnopenedOld, OldNoNewer}
+use Rattle.book_trees.specs.OldForms.{old_opening}
 use Rattle.book_trees.specs.Forms.{HoldNoNewer, HoldsThisForm}
-use Rattle.book_trees.specs.LedgerFiles.{AreEmptyTables, HoldsBooks, HoldsFirstBooks, HoldsNothing}
-use Rattle.book_trees.specs.LedgerFiles.{trees_held}
+use Rattle.book_trees.specs.LedgerFiles.{AreEmptyTables, HoldsBooks, HoldsOldBooks, HoldsNothing}
+use Rattle.book_trees.specs.LedgerFiles.{old_trees, trees_held}
 use Rattle.book_trees.specs.Looks.{IsUnopenedLook, look_opening}
 use Rattle.book_trees.specs.Refusals.{IsAsFound, IsBegun, IsRefusedWithout, IsUnopened, MayLeave}
-use Rattle.book_trees.specs.Schema.{books_schema, first_schema}
+use Rattle.book_trees.specs.Schema.{books_schema}
 use Rattle.book_trees.specs.StoreView.{ListsBooks}
 use Rattle.book_sessions.specs.Sessions.{AreHonest, GivesBack, files_in_hand}
 use Rattle.book_sessions.specs.declared.ended.Ended.{Ended}
 use Rattle.book_trees.specs.declared.faults.OpenFault.{OpenFault}
-use Rattle.book_trees.specs.declared.first_form.FirstFault.{FirstFault}
-use Rattle.book_trees.specs.declared.first_form.FirstFault.TheVariants.{Already}
+use Rattle.book_trees.specs.declared.old_forms.OldFault.{OldFault}
+use Rattle.book_trees.specs.declared.old_forms.OldFault.TheVariants.{Already}
 use Rattle.book_trees.specs.declared.integrity.LookFault.{LookFault}
 use Rattle.book_trees.specs.declared.integrity.LookFault.TheVariants.{Pages}
 
@@ -96,29 +97,29 @@ IsLooking g found (Err refusal) =
     × (refusal.0 ≡ Pages
     → IfSome refusal.1 (λ files. AreClean g files.log files.db → ListsBooks found))
 
--- A store was opened from files that held this: books of the first form, whose tables it shows.
+-- A store was opened from files that held this: books of an older form, whose tables it shows.
 -- They do not say that they are of a newer form, and there are none of this one.
-pub record IsFirstFrom {D : Type 0} {g : Ghosts D} (found : Image) (store : FileStore D g) : Type 0
+pub record IsOldFrom {D : Type 0} {g : Ghosts D} (found : Image) (store : FileStore D g) : Type 0
   where
     pub ready : IsReady store
-    pub shows : IsTrue (state store).is_clean → (held : HoldsFirstBooks found)
-        → (view store).trees ≡ trees_held held
+    pub shows : IsTrue (state store).is_clean → (held : HoldsOldBooks found)
+        → (view store).trees ≡ old_trees held
     pub older : IsTrue (state store).is_clean → ¬ HoldsBooks found
-    pub held : IsTrue (state store).is_clean → ∥ HoldsFirstBooks found ∥₁
-    pub form : IsTrue (state store).is_clean → HoldNoNewer first_schema found
+    pub held : IsTrue (state store).is_clean → ∥ HoldsOldBooks found ∥₁
+    pub form : IsTrue (state store).is_clean → OldNoNewer found
 
--- Files that held this were opened as books of the first form; or they were not, and are left as
+-- Files that held this were opened as books of an older form; or they were not, and are left as
 -- they were found: they hold none of it where that is told, no books of this form but where these
 -- are told to be of it or of a newer one, and list the tables of this form where they are told to
 -- be of it.
-abbrev pub IsFirstOpening : {D : Type 0} (g : Ghosts D) → Image
-    → Result (FileStore D g) (FirstFault × Option (Files D)) → Type 0
-IsFirstOpening g found (Ok store) = IsFirstFrom found store
-IsFirstOpening g found (Err refusal) =
-    MatchOption refusal.1 (IsUnopenedFirst refusal.0)
-    (IsRefusedWithout g (HoldsFirstForm found) (first_opening refusal.0))
+abbrev pub IsOldOpening : {D : Type 0} (g : Ghosts D) → Image
+    → Result (FileStore D g) (OldFault × Option (Files D)) → Type 0
+IsOldOpening g found (Ok store) = IsOldFrom found store
+IsOldOpening g found (Err refusal) =
+    MatchOption refusal.1 (IsUnopenedOld refusal.0)
+    (IsRefusedWithout g (HoldsOldForm found) (old_opening refusal.0))
     × IfSome refusal.1 (AreLeftAsFound g found)
     × ((¬ IsToldThis refusal.0)
-    → IfSome refusal.1 (IsRefusedWithout g (HoldsBooks found) (first_opening refusal.0)))
+    → IfSome refusal.1 (IsRefusedWithout g (HoldsBooks found) (old_opening refusal.0)))
     × (refusal.0 ≡ Already
     → IfSome refusal.1 (λ files. AreClean g files.log files.db → ListsBooks found))

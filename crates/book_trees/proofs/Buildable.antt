@@ -18,11 +18,11 @@ use Rattle.sqlite_trees.specs.Sound.{same_name}
 use Rattle.sqlite_trees.specs.View.{IsStorable}
 use Rattle.sqlite_value.specs.Order.{number, value_cmp}
 use Rattle.book_trees.specs.LedgerFiles.{page_size, HoldsNothing}
-use Rattle.book_trees.specs.Schema.{books_schema, first_schema, sorted}
+use Rattle.book_trees.specs.Schema.{books_schema, sorted}
 
 -- the tables and indexes of books can be in one list
 listable : are_listable books_schema ≡ true
-unfolding books_schema first_schema describes is_about fits_kind is_free_name same_name begins may_follow
+unfolding books_schema describes is_about fits_kind is_free_name same_name begins may_follow
     value_cmp is_nan lt
 listable = refl
 
@@ -41,11 +41,25 @@ storable kind name table sql root short = record {
 
 -- the tables and indexes of books can be made
 can_build : CanBuild books_schema
-unfolding books_schema first_schema
+unfolding books_schema
 can_build = record {
   distinct = listable;
-  shaped = All-from_recursion (λ wanted. is_plain wanted.shape ≡ true) books_schema
-      (refl, (refl, (refl, (refl, (refl, (refl, (refl, (refl, (refl, (refl, (refl, tt)))))))))));
+  shaped = All-from_recursion (λ wanted. is_plain wanted.shape ≡ true) books_schema (
+    refl,
+    (
+      refl,
+      (
+        refl,
+        (
+          refl,
+          (
+            refl,
+            (refl, (refl, (refl, (refl, (refl, (refl, (refl, (refl, tt)))))))),
+          ),
+        ),
+      ),
+    ),
+  );
   short = All-from_recursion (λ wanted. (root : ℕ) → IsStorable 0 (listing wanted root))
       books_schema (
         λ root. storable _ _ _ _ root (lit< tt),
@@ -67,7 +81,13 @@ can_build = record {
                         λ root. storable _ _ _ _ root (lit< tt),
                         (
                           λ root. storable _ _ _ _ root (lit< tt),
-                          (λ root. storable _ _ _ _ root (lit< tt), tt),
+                          (
+                            λ root. storable _ _ _ _ root (lit< tt),
+                            (
+                              λ root. storable _ _ _ _ root (lit< tt),
+                              (λ root. storable _ _ _ _ root (lit< tt), tt),
+                            ),
+                          ),
                         ),
                       ),
                     ),
@@ -82,7 +102,7 @@ can_build = record {
 
 -- there are few of them
 few : length books_schema < 65536
-unfolding books_schema first_schema
+unfolding books_schema
 few = lit< tt
 
 module _ {D : Type 0} {g : Ghosts D} (it : Unopened D g)

@@ -75,6 +75,10 @@ module _ {D : Type 0} {g : Ghosts D} (old end : Unopened D g) (first last : File
     pub first_image : image old ≡ image_of g first
     first_image = ap (λ (p : D × D). seen_image g p.0 p.1) given
 
+    -- and is read from the last
+    pub last_image : image end ≡ image_of g last
+    last_image = sym (ap (λ (p : D × D). seen_image g p.0 p.1) back)
+
     -- the first were honest if the state was
     pub first_honest : IsTrue (state_of old).is_clean → AreClean g first.log first.db
     first_honest clean =

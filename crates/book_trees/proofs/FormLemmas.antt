@@ -1,6 +1,6 @@
--- A sound file of books of the first form does not list the tables of this one.
+-- A sound file of books of an older form does not list the tables of a newer one.
 use Rattle.std.proofs.Common.{◌≡◌, ℕ, Bool, true, false, not, List, [], ◌∷◌, ◌++◌, codes}
-use Rattle.std.proofs.Common.{◌&&◌, ◌==◌, if◌then◌else◌, refl, sym, ap, ap₂, ◌∙◌, inl, inr}
+use Rattle.std.proofs.Common.{◌&&◌, ◌==◌, if◌then◌else◌, refl, sym, ap, ap₂, ◌∙◌, inl, inr, take}
 use Rattle.std.proofs.lemmas.Bool.{and_parts, cases_Bool}
 use Rattle.std.specs.Cmp.{Equal-is}
 use Rattle.std.specs.Cmp.Lexicographic.{slice_cmp}
@@ -23,8 +23,13 @@ use Rattle.sqlite_value.specs.declared.value.Value.{Value}
 use Rattle.sqlite_value.specs.declared.value.Value.TheVariants.{Blob, Int, Null, Real, Text}
 use Rattle.book_trees.proofs.ListingLemmas.{rows_stand}
 use Rattle.book_trees.specs.LedgerFiles.{page_size}
-use Rattle.book_trees.specs.Listing.{lists, lists_books, may_be_listed}
-use Rattle.book_trees.specs.Schema.{books_schema, detail_table, first_schema}
+use Rattle.book_trees.specs.Listing.{lists, lists_books, lists_old_books, may_be_listed}
+use Rattle.book_trees.specs.Schema.{books_schema, choice_table, credit_table, detail_table}
+use Rattle.book_trees.specs.Schema.{old_choice_table, old_schema, replaced_table, table_object}
+use Rattle.book_trees.specs.Schema.{tables_with}
+use Rattle.book_trees.specs.Texts.{credit_text, detail_text}
+use Rattle.book_trees.specs.declared.schema.OlderForm.{OlderForm}
+use Rattle.book_trees.specs.declared.schema.OlderForm.TheVariants.{First, Second}
 
 -- a value that compares as a text is that text
 text_same : (value : Value) (text : List ℕ) → same_value value (Text text) ≡ true → value ≡ Text text
@@ -37,24 +42,26 @@ text_same (Text other) text same =
     ((Equal-is (slice_cmp nat_cmp other text)).0 (ap is_eq (sym (value_cmp-Text other text)) ∙ same)))
 text_same (Blob bytes) text same = absurd (cc)
 
--- the columns of a row that lists details
-record ListsDetails (row : Row) : Type 0 where
+-- the columns of a row that lists a table of this name and text
+record ListsTable (name sql : List ℕ) (row : Row) : Type 0 where
   kind : column row 1 ≡ Text (codes "table")
-  name : column row 2 ≡ Text (codes "detail")
-  text : column row 5 ≡ column detail_table.row 3
+  called : column row 2 ≡ Text name
+  text : column row 5 ≡ Text sql
 
-listing_details : (row : Row) → lists detail_table row ≡ true → ListsDetails row
-listing_details row is =
-    let kind = same_value (column row 1) (column detail_table.row 0) in
-    let name = same_value (column row 2) (column detail_table.row 1) in
-    let about = same_value (column row 3) (column detail_table.row 2) in
-    let text = same_value (column row 5) (column detail_table.row 3) in
-    let all = and_parts (kind && name && about) text is in
-    let three = and_parts (kind && name) about all.0 in
-    let two = and_parts kind name three.0 in
+listing_table : (name sql : List ℕ) (row : Row) → lists (table_object name sql) row ≡ true
+    → ListsTable name sql row
+listing_table name sql row is =
+    let wanted : Wanted = table_object name sql in
+    let kind = same_value (column row 1) (column wanted.row 0) in
+    let called = same_value (column row 2) (column wanted.row 1) in
+    let about = same_value (column row 3) (column wanted.row 2) in
+    let text = same_value (column row 5) (column wanted.row 3) in
+    let all = and_parts (kind && called && about) text is in
+    let three = and_parts (kind && called) about all.0 in
+    let two = and_parts kind called three.0 in
     record {
       kind = text_same (column row 1) _ two.0;
-      name = text_same (column row 2) _ two.1;
+      called = text_same (column row 2) _ two.1;
       text = text_same (column row 5) _ all.1;
     }
 
@@ -91,69 +98,103 @@ none_named name (wanted ∷ schema) all row is =
     ap (λ (value : Value). same_value value (column wanted.row 1)) is ∙ is_false _ both.0 in
     rw (not_described wanted row other) (none_named name schema both.1 row is)
 
--- no tree of the first form has the name of details
-other_names : have_other_names (Text (codes "detail")) first_schema ≡ true
-unfolding first_schema value_cmp is_nan lt
-other_names = refl
-
--- a table of details has pages
-not_virtual : is_virtual (Text (codes "table")) (column detail_table.row 3) ≡ false
-unfolding begins same_name value_cmp is_nan lt
-not_virtual = refl
-
 not_between : (first second third : Bool) → second ≡ false → (first && second && third) ≡ false
 not_between true second third not_so = rw not_so
 not_between false second third not_so = refl
 
-has_pages : (row : Row) → ListsDetails row → is_pageless row ≡ false
-unfolding is_pageless
-has_pages row details =
-    not_between (page_number (column row 4) == 0) (is_virtual (column row 1) (column row 5))
-    (not (is_word (codes "index") (column row 1)))
-    (ap₂ is_virtual details.kind details.text ∙ not_virtual)
+-- what is asked of a table that is not there: it has pages, and no tree of the schema has its name
+record IsMissing (name sql : List ℕ) (schema : List Wanted) : Type 0 where
+  real : is_virtual (Text (codes "table")) (Text sql) ≡ false
+  other : have_other_names (Text name) schema ≡ true
 
--- so it does not stand in a sound file of the first form
-never_stands : (row : Row) → lists detail_table row ≡ true → may_stand first_schema row ≡ true → ⊥
-unfolding may_stand
-never_stands row is stands =
-    let details = listing_details row is in
-    let both = and_parts (is_well_formed row) (if list_any (λ wanted. describes wanted row) first_schema
-    then true else (is_pageless row
-    && not (list_any (λ wanted. is_near wanted row) first_schema))) stands in
-    let none = none_named (Text (codes "detail")) first_schema other_names row details.name in
-    let told = rw (none, has_pages row details) at both.1 in
-    absurd (cc)
+module _ (name sql : List ℕ) (schema : List Wanted) (missing : IsMissing name sql schema) where
+  has_pages : (row : Row) → ListsTable name sql row → is_pageless row ≡ false
+  unfolding is_pageless
+  has_pages row table =
+      not_between (page_number (column row 4) == 0) (is_virtual (column row 1) (column row 5))
+      (not (is_word (codes "index") (column row 1)))
+      (ap₂ is_virtual table.kind table.text ∙ missing.real)
 
-none_stand : (rows : List Row) → list_all (may_stand first_schema) rows ≡ true
-    → list_any (lists detail_table) rows ≡ true → ⊥
-none_stand [] all any = absurd (cc)
-none_stand (row ∷ rows) all any =
-    let both = and_parts (may_stand first_schema row) (list_all (may_stand first_schema) rows) all in
-    elim (cases_Bool (lists detail_table row)) [
-      | inl here ↦ never_stands row here both.0
-      | inr other ↦ none_stand rows both.1 (rw other at any)
-    ]
+  -- so it does not stand in a sound file of the schema
+  never_stands : (row : Row) → lists (table_object name sql) row ≡ true
+      → may_stand schema row ≡ true → ⊥
+  unfolding may_stand
+  never_stands row is stands =
+      let table = listing_table name sql row is in
+      let both = and_parts (is_well_formed row) (if list_any (λ wanted. describes wanted row) schema
+      then true else (is_pageless row
+      && not (list_any (λ wanted. is_near wanted row) schema))) stands in
+      let none = none_named (Text name) schema missing.other row table.called in
+      let told = rw (none, has_pages row table) at both.1 in
+      absurd (cc)
 
--- a list of tables of which the last is listed
-last_listed : (first : List Wanted) (last : Wanted) (rows : List Row)
-    → list_all (λ wanted. list_any (lists wanted) rows) (first ++ last ∷ []) ≡ true
-    → list_any (lists last) rows ≡ true
-last_listed [] last rows all = (and_parts (list_any (lists last) rows) true all).0
-last_listed (wanted ∷ first) last rows all =
-    last_listed first last rows (and_parts (list_any (lists wanted) rows) _ all).1
+  none_stand : (rows : List Row) → list_all (may_stand schema) rows ≡ true
+      → list_any (lists (table_object name sql)) rows ≡ true → ⊥
+  none_stand [] all any = absurd (cc)
+  none_stand (row ∷ rows) all any =
+      let both = and_parts (may_stand schema row) (list_all (may_stand schema) rows) all in
+      elim (cases_Bool (lists (table_object name sql) row)) [
+        | inl here ↦ never_stands row here both.0
+        | inr other ↦ none_stand rows both.1 (rw other at any)
+      ]
 
--- rows that list books list details
-details_listed : (rows : List Row) → lists_books rows ≡ true
-    → list_any (lists detail_table) rows ≡ true
+  -- a sound file of the schema does not list it
+  not_listed : (pages : PageMap) → IsFile page_size schema pages
+      → list_any (lists (table_object name sql))
+      (rows_at page_size (in_use page_size pages) Table 1) ≡ true → ⊥
+  not_listed pages file =
+      none_stand (rows_at page_size (in_use page_size pages) Table 1)
+      (rows_stand page_size schema pages file)
+
+-- a list of tables of which one behind others is listed
+one_listed : (before : List Wanted) (one : Wanted) (behind : List Wanted) (rows : List Row)
+    → list_all (λ wanted. list_any (lists wanted) rows) (before ++ one ∷ behind) ≡ true
+    → list_any (lists one) rows ≡ true
+one_listed [] one behind rows all = (and_parts (list_any (lists one) rows) _ all).0
+one_listed (wanted ∷ before) one behind rows all =
+    one_listed before one behind rows (and_parts (list_any (lists wanted) rows) _ all).1
+
+-- rows that list books list credits,
+credits_listed : (rows : List Row) → lists_books rows ≡ true
+    → list_any (lists credit_table) rows ≡ true
 unfolding books_schema
-details_listed rows books =
-    last_listed first_schema detail_table rows
-    (and_parts (list_all (λ wanted. list_any (lists wanted) rows) (first_schema ++ detail_table ∷ []))
-    (list_all (may_be_listed (first_schema ++ detail_table ∷ [])) rows) books).0
+credits_listed rows books =
+    one_listed (take 11 (tables_with choice_table)) credit_table (replaced_table ∷ []) rows
+    (and_parts (list_all (λ wanted. list_any (lists wanted) rows) (tables_with choice_table))
+    (list_all (may_be_listed (tables_with choice_table)) rows) books).0
 
--- a sound file of the first form does not list books
-pub first_is_not_this : (pages : PageMap) → IsFile page_size first_schema pages
+-- which no older form has,
+no_credits : (form : OlderForm) → IsMissing (codes "credit") credit_text (old_schema form)
+unfolding old_schema begins same_name value_cmp is_nan lt
+no_credits First = record { real = refl; other = refl }
+no_credits Second = record { real = refl; other = refl }
+
+-- and rows that list books of the second form list details,
+details_listed : (rows : List Row) → lists_old_books Second rows ≡ true
+    → list_any (lists detail_table) rows ≡ true
+unfolding old_schema
+details_listed rows second =
+    one_listed (take 10 (tables_with old_choice_table)) detail_table [] rows
+    (and_parts (list_all (λ wanted. list_any (lists wanted) rows)
+    (take 11 (tables_with old_choice_table)))
+    (list_all (may_be_listed (take 11 (tables_with old_choice_table))) rows) second).0
+
+-- which the first has not
+no_details : IsMissing (codes "detail") detail_text (old_schema First)
+unfolding old_schema begins same_name value_cmp is_nan lt
+no_details = record { real = refl; other = refl }
+
+-- a sound file of an older form does not list books
+pub old_is_not_this : (form : OlderForm) (pages : PageMap)
+    → IsFile page_size (old_schema form) pages
     → lists_books (rows_at page_size (in_use page_size pages) Table 1) ≡ true → ⊥
-first_is_not_this pages file books =
-    let rows = rows_at page_size (in_use page_size pages) Table 1 in
-    none_stand rows (rows_stand page_size first_schema pages file) (details_listed rows books)
+old_is_not_this form pages file books =
+    not_listed (codes "credit") credit_text (old_schema form) (no_credits form) pages file
+    (credits_listed (rows_at page_size (in_use page_size pages) Table 1) books)
+
+-- and one of the first does not list those of the second
+pub first_is_not_second : (pages : PageMap) → IsFile page_size (old_schema First) pages
+    → lists_old_books Second (rows_at page_size (in_use page_size pages) Table 1) ≡ true → ⊥
+first_is_not_second pages file second =
+    not_listed (codes "detail") detail_text (old_schema First) no_details pages file
+    (details_listed (rows_at page_size (in_use page_size pages) Table 1) second)

@@ -26,9 +26,10 @@ use Rattle.sqlite_value.specs.declared.value.Value.{Value}
 use Rattle.sqlite_value.specs.declared.value.Value.TheVariants.{Int}
 use Rattle.book_trees.specs.LedgerFiles.{page_size}
 use Rattle.book_trees.specs.Listing.{has_no_pages, lists, lists_books, lists_exactly}
-use Rattle.book_trees.specs.Listing.{lists_first_books, may_be_listed}
-use Rattle.book_trees.specs.Schema.{books_schema, first_schema}
-use Rattle.book_trees.proofs.Trees.{book_indexes, first_indexes}
+use Rattle.book_trees.specs.Listing.{lists_old_books, may_be_listed}
+use Rattle.book_trees.specs.Schema.{books_schema, old_schema}
+use Rattle.book_trees.specs.declared.schema.OlderForm.{OlderForm}
+use Rattle.book_trees.proofs.Trees.{book_indexes, old_indexes}
 
 -- a test of what elements map to
 pub any_mapped : {X Y : Type 0} (test : Y → Bool) (f : X → Y) (xs : List X)
@@ -180,10 +181,10 @@ sound_lists size schema pages file shapes =
     (rows_stand size schema pages file) in
     rw all only
 
--- the rows of a sound file of books of the first form list those
-pub first_listed : (pages : PageMap) → IsFile page_size first_schema pages
-    → lists_first_books (rows_at page_size (in_use page_size pages) Table 1) ≡ true
-first_listed pages file = sound_lists page_size first_schema pages file first_indexes
+-- the rows of a sound file of books of an older form list those
+pub old_listed : (form : OlderForm) (pages : PageMap) → IsFile page_size (old_schema form) pages
+    → lists_old_books form (rows_at page_size (in_use page_size pages) Table 1) ≡ true
+old_listed form pages file = sound_lists page_size (old_schema form) pages file (old_indexes form)
 
 -- so the rows of a sound file of books list them
 pub books_listed : (pages : PageMap) → IsFile page_size books_schema pages

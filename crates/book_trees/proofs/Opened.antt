@@ -1,5 +1,6 @@
 -- From what the files held to what an opened store shows.
-use Rattle.std.proofs.Common.{◌≡◌, ◌≢◌, List, [], true, false, true≢false, IsTrue}
+use Rattle.std.proofs.Common.{◌≡◌, ◌≢◌, List, [], Bool, true, false, true≢false, IsTrue}
+use Rattle.std.proofs.Common.{if◌then◌else◌}
 use Rattle.std.proofs.Common.{refl, sym, subst, ap, ◌∙◌, ◌⊎◌, inl, inr, arith}
 use Rattle.std.proofs.Math.Logic.{∥∥₁_elim, ∥∥₁_map}
 use Rattle.sqlite_disk.specs.declared.Disk.{Ghosts}
@@ -22,18 +23,21 @@ use Rattle.sqlite_trees.specs.declared.store.Shape.TheVariants.{Table}
 use Rattle.sqlite_value.specs.Order.{Row}
 use Rattle.sqlite_wal.specs.State.{State}
 use Rattle.book_trees.proofs.BlankFiles.{blank_unsound}
-use Rattle.book_trees.proofs.FormLemmas.{first_is_not_this}
-use Rattle.book_trees.proofs.ListingLemmas.{books_listed, first_listed}
+use Rattle.book_trees.proofs.FormLemmas.{first_is_not_second, old_is_not_this}
+use Rattle.book_trees.proofs.ListingLemmas.{books_listed, old_listed}
 use Rattle.book_trees.proofs.Trees.{has_trees}
-use Rattle.book_trees.specs.LedgerFiles.{page_size, HoldsBooks, HoldsFirstBooks, HoldsNothing}
+use Rattle.book_trees.specs.LedgerFiles.{page_size, HoldsBooks, HoldsOldBooks, HoldsNothing}
 use Rattle.book_trees.specs.LedgerFiles.{HoldsTables, trees_held}
-use Rattle.book_trees.specs.Listing.{lists_books, lists_first_books}
-use Rattle.book_trees.specs.Schema.{books_schema, first_schema}
+use Rattle.book_trees.specs.Listing.{lists_books, lists_old_books}
+use Rattle.book_trees.specs.OldForms.{AreAlike, form_listed}
+use Rattle.book_trees.specs.Schema.{books_schema, old_schema}
+use Rattle.book_trees.specs.declared.schema.OlderForm.{OlderForm}
+use Rattle.book_trees.specs.declared.schema.OlderForm.TheVariants.{First, Second}
 use Rattle.book_trees.specs.StoreView.{AreLeft, IsOpen, ListsBooks, ShowsBooks}
 
 -- an empty list of rows does not list books
 none_listed : lists_books [] ≡ true → ⊥
-unfolding books_schema first_schema
+unfolding books_schema
 none_listed listed = absurd (cc)
 
 -- a list of rows that lists books is not empty
@@ -78,19 +82,46 @@ module _ {D : Type 0} {g : Ghosts D} (old mid : Unopened D g) (rows : List Row)
   pub unlisted_none : lists_books rows ≡ false → HoldsBooks (image old) → ⊥
   unlisted_none unlisted held = true≢false (sym (held_listed held) ∙ unlisted)
 
-  -- files that hold books of the first form list those
-  pub held_first_listed : HoldsFirstBooks (image old) → lists_first_books rows ≡ true
-  held_first_listed held =
-      ap lists_first_books (rows_are
-      ∙ ap (λ (p : PageMap). rows_at page_size (in_use page_size p) Table 1)
-      (same_pages held.pages held.found)) ∙ first_listed held.pages held.file
+  -- the rows are those of the pages of files that are known
+  rows_held : (pages : PageMap) → Recovers page_size (image old) pages
+      → rows ≡ rows_at page_size (in_use page_size pages) Table 1
+  rows_held pages found =
+      rows_are ∙ ap (λ (p : PageMap). rows_at page_size (in_use page_size p) Table 1)
+      (same_pages pages found)
 
-  -- and no others
-  pub held_first_only : HoldsFirstBooks (image old) → lists_books rows ≡ true → ⊥
-  held_first_only held books =
-      first_is_not_this held.pages held.file (sym (ap lists_books (rows_are
-      ∙ ap (λ (p : PageMap). rows_at page_size (in_use page_size p) Table 1)
-      (same_pages held.pages held.found))) ∙ books)
+  -- files that hold books of an older form list those
+  pub held_old_listed : (form : OlderForm) → HoldsTables (old_schema form) (image old)
+      → lists_old_books form rows ≡ true
+  held_old_listed form held =
+      ap (lists_old_books form) (rows_held held.pages held.found)
+      ∙ old_listed form held.pages held.file
+
+  -- and no books of this one,
+  pub held_old_only : (form : OlderForm) → HoldsTables (old_schema form) (image old)
+      → lists_books rows ≡ true → ⊥
+  held_old_only form held books =
+      old_is_not_this form held.pages held.file
+      (sym (ap lists_books (rows_held held.pages held.found)) ∙ books)
+
+  -- nor those of another older form
+  held_form : (form : OlderForm) → HoldsTables (old_schema form) (image old)
+      → (second : Bool) → lists_old_books Second rows ≡ second
+      → form ≡ (if second then Second else First)
+  held_form First held true is =
+      absurd (first_is_not_second held.pages held.file
+      (sym (ap (lists_old_books Second) (rows_held held.pages held.found)) ∙ is))
+  held_form First held false is = refl
+  held_form Second held true is = refl
+  held_form Second held false is = absurd (true≢false (sym (held_old_listed Second held) ∙ is))
+
+  -- so the form that they list is the one that they hold
+  pub held_form_listed : (form : OlderForm) → HoldsTables (old_schema form) (image old)
+      → form ≡ form_listed rows
+  held_form_listed form held = held_form form held (lists_old_books Second rows) refl
+
+  -- the files recover to the same pages then as before
+  pub alike : AreAlike (image old) (image mid)
+  alike = record { pages = listed.pages; found = found_old; again = found_mid }
 
   -- the pages are those of a sound file
   sound_pages : (state_of mid).page_size ≡ page_size → ∥ IsSoundFile page_size listed.pages ∥₁
@@ -107,7 +138,7 @@ module _ {D : Type 0} {g : Ghosts D} (old mid : Unopened D g) (rows : List Row)
 
   -- files that a ledger left and that list books are those of books,
   holds_books : lists_books rows ≡ true → (state_of mid).page_size ≡ page_size
-      → HoldsNothing (image old) ⊎ (HoldsBooks (image old) ⊎ HoldsFirstBooks (image old))
+      → HoldsNothing (image old) ⊎ (HoldsBooks (image old) ⊎ HoldsOldBooks (image old))
       → HoldsBooks (image old)
   holds_books books size (inl (inl blank)) = absurd (never_blank size blank)
   holds_books books size (inl (inr none)) =
@@ -115,7 +146,7 @@ module _ {D : Type 0} {g : Ghosts D} (old mid : Unopened D g) (rows : List Row)
       ∙ ap (λ (p : PageMap). rows_at page_size (in_use page_size p) Table 1)
       (same_pages none.pages none.found) ∙ none.empty.1))
   holds_books books size (inr (inl held)) = held
-  holds_books books size (inr (inr first)) = absurd (held_first_only first books)
+  holds_books books size (inr (inr old)) = absurd (held_old_only old.form old.held books)
 
   -- which an open may be asked for
   pub held_file : {wanted : List Wanted} → HoldsTables wanted (image old)

@@ -6,15 +6,15 @@ use Rattle.sqlite_store.specs.declared.error.OpenError.TheVariants.{OutOfMemory,
 use Rattle.sqlite_value.specs.Order.{Row}
 use Rattle.std.specs.List.{list_any}
 use Rattle.std.specs.Prelude.{if◌then◌else◌}
-use Rattle.book_trees.specs.FirstForm.{first_fault_for, first_opening}
-use Rattle.book_trees.specs.Listing.{lists, lists_first_books, unlisted_fault}
+use Rattle.book_trees.specs.OldForms.{old_fault_for, old_opening}
+use Rattle.book_trees.specs.Listing.{lists, lists_older, unlisted_fault}
 use Rattle.book_trees.specs.Looks.{look_fault_for, look_opening}
 use Rattle.book_trees.specs.Refusals.{fault_for, IsToldWithout}
 use Rattle.book_trees.specs.Schema.{first_table}
 use Rattle.book_trees.specs.declared.faults.OpenFault.{OpenFault}
 use Rattle.book_trees.specs.declared.faults.OpenFault.TheVariants.{NotBooks, Memory, Store, Busy}
 use Rattle.book_trees.specs.declared.faults.OpenFault.TheVariants.{NewForm, OldForm, Path}
-use Rattle.book_trees.specs.declared.first_form.FirstFault.TheVariants.{Already}
+use Rattle.book_trees.specs.declared.old_forms.OldFault.TheVariants.{Already}
 
 -- an error of the store that comes only without what was wanted is told only without what has that,
 pub error_told : (old new : ℕ) (AtLimit Wanted Held : Type 0) → (Held → Wanted) → (e : OpenError)
@@ -33,17 +33,17 @@ look_error_told old new AtLimit Wanted Held so Io fails = tt
 look_error_told old new AtLimit Wanted Held so Full fails = tt
 look_error_told old new AtLimit Wanted Held so Refused fails = λ held. fails (so held)
 
--- and with those of the first form
-pub first_error_told : (old new : ℕ) (AtLimit Wanted Held : Type 0) → (Held → Wanted)
+-- and with those of an older form
+pub old_error_told : (old new : ℕ) (AtLimit Wanted Held : Type 0) → (Held → Wanted)
     → (e : OpenError) → FailsToOpen old new AtLimit Wanted e
-    → IsToldWithout Held (first_opening (first_fault_for e))
-first_error_told old new AtLimit Wanted Held so OutOfMemory fails = tt
-first_error_told old new AtLimit Wanted Held so Io fails = tt
-first_error_told old new AtLimit Wanted Held so Full fails = tt
-first_error_told old new AtLimit Wanted Held so Refused fails = λ held. fails (so held)
+    → IsToldWithout Held (old_opening (old_fault_for e))
+old_error_told old new AtLimit Wanted Held so OutOfMemory fails = tt
+old_error_told old new AtLimit Wanted Held so Io fails = tt
+old_error_told old new AtLimit Wanted Held so Full fails = tt
+old_error_told old new AtLimit Wanted Held so Refused fails = λ held. fails (so held)
 
 -- no error stands for files that are of this form already
-pub never_already : (e : OpenError) → first_fault_for e ≡ Already → ⊥
+pub never_already : (e : OpenError) → old_fault_for e ≡ Already → ⊥
 never_already OutOfMemory is = absurd (cc)
 never_already Io is = absurd (cc)
 never_already Full is = absurd (cc)
@@ -70,7 +70,7 @@ told_unlisted Held none false false = none
 unlisted_told : (Held : Type 0) → (Held → ⊥) → (rows : List Row)
     → IsToldWithout Held (unlisted_fault rows)
 unlisted_told Held none rows =
-    told_unlisted Held none (lists_first_books rows) (list_any (lists first_table) rows)
+    told_unlisted Held none (lists_older rows) (list_any (lists first_table) rows)
 
 -- what is told of files that would be listed otherwise if they held this
 pub unlisted_refused : (Held : Type 0) (is_listed : List Row → Bool) (rows read : List Row)

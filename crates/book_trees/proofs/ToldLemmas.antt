@@ -1,13 +1,13 @@
 -- What is told of files that were refused, once it was read what they say of themselves.
 use Rattle.std.proofs.Common.{◌≡◌, ◌≢◌, ◌∙◌, inl, inr, refl, sym, subst}
 use Rattle.sqlite_disk.specs.declared.files.Files.{Files}
-use Rattle.book_trees.specs.FirstForm.{first_opening, IsToldFirst, IsToldThis}
+use Rattle.book_trees.specs.OldForms.{old_opening, IsToldOld, IsToldThis}
 use Rattle.book_trees.specs.Forms.{IsOtherForm, IsToldOf, unless_newer}
 use Rattle.book_trees.specs.Looks.{look_opening, IsToldLook}
 use Rattle.book_trees.specs.Refusals.{IsToldWithout}
 use Rattle.book_trees.specs.declared.faults.OpenFault.{OpenFault}
-use Rattle.book_trees.specs.declared.first_form.FirstFault.{FirstFault}
-use Rattle.book_trees.specs.declared.first_form.FirstFault.TheVariants as first
+use Rattle.book_trees.specs.declared.old_forms.OldFault.{OldFault}
+use Rattle.book_trees.specs.declared.old_forms.OldFault.TheVariants as first
 use Rattle.book_trees.specs.declared.integrity.LookFault.{LookFault}
 use Rattle.book_trees.specs.declared.integrity.LookFault.TheVariants.{Open, Pages}
 
@@ -50,31 +50,31 @@ module _ {D : Type 0} (Held : Type 0) (files last : Files D) where
       (still_told fault is.0 is.2 why)
 
   -- files that list the tables of this form are of it, or of a newer one
-  this_told : (told : FirstFault) → IsToldThis told → (Held → ⊥)
-      → IsToldWithout Held (first_opening told)
+  this_told : (told : OldFault) → IsToldThis told → (Held → ⊥)
+      → IsToldWithout Held (old_opening told)
   this_told told (inl already) none =
-      subst (λ (fault : FirstFault). IsToldWithout Held (first_opening fault)) (sym already) none
+      subst (λ (fault : OldFault). IsToldWithout Held (old_opening fault)) (sym already) none
   this_told told (inr newer) none =
-      subst (λ (fault : FirstFault). IsToldWithout Held (first_opening fault)) (sym newer) none
+      subst (λ (fault : OldFault). IsToldWithout Held (old_opening fault)) (sym newer) none
 
-  pub first_still_told : (fault told : FirstFault) → IsToldFirst fault files told last
-      → IsToldWithout Held (first_opening fault) → IsToldWithout Held (first_opening told)
-  first_still_told first.Already told is why = this_told told is why
-  first_still_told first.Pages told same why =
-      subst (λ (fault : FirstFault). IsToldWithout Held (first_opening fault)) (sym same.0) why
-  first_still_told (first.Open fault) told is why =
-      subst (λ (fault : FirstFault). IsToldWithout Held (first_opening fault)) (sym is.1)
+  pub old_still_told : (fault told : OldFault) → IsToldOld fault files told last
+      → IsToldWithout Held (old_opening fault) → IsToldWithout Held (old_opening told)
+  old_still_told first.Already told is why = this_told told is why
+  old_still_told first.Pages told same why =
+      subst (λ (fault : OldFault). IsToldWithout Held (old_opening fault)) (sym same.0) why
+  old_still_told (first.Open fault) told is why =
+      subst (λ (fault : OldFault). IsToldWithout Held (old_opening fault)) (sym is.1)
       (still_told fault is.0 is.2 why)
 
   -- where files of this form are told not to be so, that is told of what was met
-  pub told_not_this : (fault told : FirstFault) → IsToldFirst fault files told last
-      → (fault ≢ first.Already → IsToldWithout Held (first_opening fault)) → (IsToldThis told → ⊥)
-      → IsToldWithout Held (first_opening told)
+  pub told_not_this : (fault told : OldFault) → IsToldOld fault files told last
+      → (fault ≢ first.Already → IsToldWithout Held (old_opening fault)) → (IsToldThis told → ⊥)
+      → IsToldWithout Held (old_opening told)
   told_not_this first.Already told is why other = absurd (other is)
   told_not_this first.Pages told is why other =
-      first_still_told first.Pages told is (why (λ same. absurd (cc)))
+      old_still_told first.Pages told is (why (λ same. absurd (cc)))
   told_not_this (first.Open fault) told is why other =
-      first_still_told (first.Open fault) told is (why (λ same. absurd (cc)))
+      old_still_told (first.Open fault) told is (why (λ same. absurd (cc)))
 
 -- pages that are told of files were met
 pub told_pages : {D : Type 0} (fault : LookFault) (files : Files D) (told : LookFault)
@@ -83,8 +83,8 @@ told_pages Pages files told last tells is = refl
 told_pages (Open fault) files told last tells is = absurd (let other = sym tells.1 ∙ is in cc)
 
 -- so were files that are of this form already
-pub told_already : {D : Type 0} (fault : FirstFault) (files : Files D) (told : FirstFault)
-    (last : Files D) → IsToldFirst fault files told last → told ≡ first.Already
+pub told_already : {D : Type 0} (fault : OldFault) (files : Files D) (told : OldFault)
+    (last : Files D) → IsToldOld fault files told last → told ≡ first.Already
     → fault ≡ first.Already
 told_already first.Already files told last tells is = refl
 told_already first.Pages files told last tells is = absurd (let other = sym tells.0 ∙ is in cc)

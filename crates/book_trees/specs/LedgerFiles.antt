@@ -12,7 +12,8 @@ use Rattle.sqlite_store.specs.declared.catalog.Wanted.{Wanted}
 use Rattle.sqlite_trees.specs.Tree.{Trees}
 use Rattle.sqlite_wal.specs.Files.{seen_image}
 use Rattle.sqlite_wal.specs.Recovery.{Image, Replays}
-use Rattle.book_trees.specs.Schema.{books_schema, first_schema}
+use Rattle.book_trees.specs.Schema.{books_schema, old_schema}
+use Rattle.book_trees.specs.declared.schema.OlderForm.{OlderForm}
 
 -- what reads of two files return
 abbrev pub image_of : {D : Type 0} → Ghosts D → Files D → Image
@@ -28,16 +29,21 @@ pub record HoldsTables (schema : List Wanted) (image : Image) : Type 0 where
   pub found : Recovers page_size image pages
   pub file : IsFile page_size schema pages
 
--- those of books; or those of books of the first form
+-- those of books
 abbrev pub HoldsBooks : Image → Type 0
 HoldsBooks = HoldsTables books_schema
 
-abbrev pub HoldsFirstBooks : Image → Type 0
-HoldsFirstBooks = HoldsTables first_schema
+-- those of books of an older form
+pub record HoldsOldBooks (image : Image) : Type 0 where
+  pub form : OlderForm
+  pub held : HoldsTables (old_schema form) image
 
 -- the tables that it holds
 abbrev pub trees_held : {schema : List Wanted} {image : Image} → HoldsTables schema image → Trees
 trees_held {schema} held = file_trees page_size schema held.pages
+
+abbrev pub old_trees : {image : Image} → HoldsOldBooks image → Trees
+old_trees old = trees_held old.held
 
 -- the files recover to a sound file of some tables, whatever these are called, in pages of some size
 pub record HoldsFile (image : Image) : Type 0 where

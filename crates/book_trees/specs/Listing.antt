@@ -6,9 +6,11 @@ use Rattle.sqlite_store.specs.Catalog.{same_value}
 use Rattle.sqlite_store.specs.declared.catalog.Wanted.{Wanted}
 use Rattle.sqlite_value.specs.Order.{Row, column}
 use Rattle.sqlite_value.specs.declared.value.Value.TheVariants.{Int}
-use Rattle.book_trees.specs.Schema.{books_schema, first_schema, first_table}
+use Rattle.book_trees.specs.Schema.{books_schema, first_table, old_schema}
 use Rattle.book_trees.specs.declared.faults.OpenFault.{OpenFault}
 use Rattle.book_trees.specs.declared.faults.OpenFault.TheVariants.{NewForm, NotBooks, OldForm}
+use Rattle.book_trees.specs.declared.schema.OlderForm.{OlderForm}
+use Rattle.book_trees.specs.declared.schema.OlderForm.TheVariants.{First, Second}
 
 -- the row has the kind, the name, the table and the text that are expected
 abbrev pub lists : Wanted → Row → Bool
@@ -36,14 +38,18 @@ lists_exactly schema rows =
 abbrev pub lists_books : List Row → Bool
 lists_books rows = lists_exactly books_schema rows
 
--- those of books of the first form
-abbrev pub lists_first_books : List Row → Bool
-lists_first_books rows = lists_exactly first_schema rows
+-- those of books of an older form
+abbrev pub lists_old_books : OlderForm → List Row → Bool
+lists_old_books form rows = lists_exactly (old_schema form) rows
 
--- What is told of rows that list something else than books: books of the first form; or, where the
+-- of any of them
+abbrev pub lists_older : List Row → Bool
+lists_older rows = lists_old_books First rows || lists_old_books Second rows
+
+-- What is told of rows that list something else than books: books of an older form; or, where the
 -- first table of all forms is listed, books of a newer form, if the file says so; or no books.
 abbrev pub unlisted_fault : List Row → OpenFault
 unlisted_fault rows =
-    if lists_first_books rows then OldForm
+    if lists_older rows then OldForm
     else if list_any (lists first_table) rows then NewForm
     else NotBooks

@@ -1,5 +1,5 @@
 -- What a file of books lists: each table is a tree in the order of its key.
-use Rattle.std.specs.Prelude.{List, [], ◌∷◌, ◌++◌, ℕ, codes}
+use Rattle.std.specs.Prelude.{List, [], ◌∷◌, ℕ, codes, take}
 use Rattle.sqlite_store.specs.declared.catalog.Wanted.{Wanted}
 use Rattle.sqlite_trees.specs.declared.store.Shape.TheVariants.{Index}
 use Rattle.sqlite_value.specs.Keys.{plain}
@@ -7,6 +7,9 @@ use Rattle.sqlite_value.specs.declared.value.Value.TheVariants.{Text}
 use Rattle.book_trees.specs.Texts.{book_text, tariff_text, closed_text, record_text}
 use Rattle.book_trees.specs.Texts.{day_sum_text, line_text, record_ident_text}
 use Rattle.book_trees.specs.Texts.{record_charged_text, choice_text, choice_name_text, detail_text}
+use Rattle.book_trees.specs.Texts.{credit_text, old_choice_text, replaced_text}
+use Rattle.book_trees.specs.declared.schema.OlderForm.{OlderForm}
+use Rattle.book_trees.specs.declared.schema.OlderForm.TheVariants.{First, Second}
 
 -- a tree in the order of its entries, of this kind and name, over this table
 abbrev pub sorted : List ℕ → List ℕ → List ℕ → List ℕ → Wanted
@@ -28,25 +31,59 @@ index_object name table sql = sorted (codes "index") name table sql
 abbrev pub first_table : Wanted
 first_table = table_object (codes "book") book_text
 
--- The tables and indexes of books of the first form, which had no details. The first is tree 0.
-unfoldable pub first_schema : List Wanted
-first_schema =
-    first_table
-    ∷ table_object (codes "tariff") tariff_text
-    ∷ table_object (codes "closed") closed_text
-    ∷ table_object (codes "record") record_text
-    ∷ table_object (codes "day_sum") day_sum_text
-    ∷ table_object (codes "line") line_text
-    ∷ index_object (codes "record_ident") (codes "record") record_ident_text
-    ∷ index_object (codes "record_charged") (codes "record") record_charged_text
-    ∷ table_object (codes "choice") choice_text
-    ∷ index_object (codes "choice_name") (codes "choice") choice_name_text
-    ∷ []
+-- the records
+abbrev pub record_table : Wanted
+record_table = table_object (codes "record") record_text
 
--- the details, which are the last tree
+-- the charge rows
+abbrev pub day_sum_table : Wanted
+day_sum_table = table_object (codes "day_sum") day_sum_text
+
+-- the choices, and those of older forms
+abbrev pub choice_table : Wanted
+choice_table = table_object (codes "choice") choice_text
+
+abbrev pub old_choice_table : Wanted
+old_choice_table = table_object (codes "choice") old_choice_text
+
+-- the details, the credits, and the tariffs that were replaced
 abbrev pub detail_table : Wanted
 detail_table = table_object (codes "detail") detail_text
 
--- the tables and indexes of books
+abbrev pub credit_table : Wanted
+credit_table = table_object (codes "credit") credit_text
+
+abbrev pub replaced_table : Wanted
+replaced_table = table_object (codes "replaced") replaced_text
+
+-- The tables and indexes of books, with this table of choices. The first is tree 0.
+abbrev pub tables_with : Wanted → List Wanted
+tables_with choices =
+    first_table
+    ∷ table_object (codes "tariff") tariff_text
+    ∷ table_object (codes "closed") closed_text
+    ∷ record_table
+    ∷ day_sum_table
+    ∷ table_object (codes "line") line_text
+    ∷ index_object (codes "record_ident") (codes "record") record_ident_text
+    ∷ index_object (codes "record_charged") (codes "record") record_charged_text
+    ∷ choices
+    ∷ index_object (codes "choice_name") (codes "choice") choice_name_text
+    ∷ detail_table
+    ∷ credit_table
+    ∷ replaced_table
+    ∷ []
+
+-- how many of them books of an older form have: in the first there are no details, and in the second
+-- no credits and no tariffs that were replaced
+abbrev pub table_count : OlderForm → ℕ
+table_count First = 10
+table_count Second = 11
+
+-- the tables and indexes of books of an older form
+unfoldable pub old_schema : OlderForm → List Wanted
+old_schema form = take (table_count form) (tables_with old_choice_table)
+
+-- and those of books of this form
 unfoldable pub books_schema : List Wanted
-books_schema = first_schema ++ detail_table ∷ []
+books_schema = tables_with choice_table

@@ -12,7 +12,7 @@ use Rattle.sqlite_store.specs.declared.store.FileStore.{FileStore}
 use Rattle.sqlite_trees.specs.View.{View}
 use Rattle.sqlite_trees.specs.declared.store.Shape.TheVariants.{Table}
 use Rattle.sqlite_wal.specs.Recovery.{Image}
-use Rattle.book_trees.specs.LedgerFiles.{HoldsBooks, HoldsFirstBooks, HoldsNothing, page_size}
+use Rattle.book_trees.specs.LedgerFiles.{HoldsBooks, HoldsOldBooks, HoldsNothing, page_size}
 use Rattle.book_trees.specs.Listing.{lists_books}
 use Rattle.book_trees.specs.Schema.{books_schema}
 use Rattle.tree_tables.specs.Holds.{HasShapes}
@@ -37,10 +37,10 @@ pub record ListsBooks (image : Image) : Type 0 where
   pub listed : lists_books (rows_at page_size (in_use page_size pages) Table 1) ≡ true
 
 -- If the files list the tables of books, a ledger left them: they hold nothing yet, or books of this
--- form or of the first. Nothing is asked of other files, which are another program's, or damaged.
+-- form or of an older one. Nothing is asked of other files, which are another program's, or damaged.
 pub record AreLeft (image : Image) : Type 0 where
   pub left : ListsBooks image
-      → HoldsNothing image ⊎ (HoldsBooks image ⊎ HoldsFirstBooks image)
+      → HoldsNothing image ⊎ (HoldsBooks image ⊎ HoldsOldBooks image)
 
 -- and the store shows these tables
 pub record ShowsBooks {D : Type 0} {g : Ghosts D} (image : Image) (store : FileStore D g) : Type 0 where

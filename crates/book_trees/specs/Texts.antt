@@ -42,9 +42,15 @@ line_text =
     codes "CREATE TABLE line (period INT NOT NULL, name BLOB NOT NULL, plus INT NOT NULL, "
     ++ codes "PRIMARY KEY (period, name)) STRICT, WITHOUT ROWID"
 
--- the records that were chosen, by the numbers of the choices
+-- the records that were named, by the numbers of the choices
 abbrev pub choice_text : List ℕ
 choice_text =
+    codes "CREATE TABLE choice (number INT NOT NULL PRIMARY KEY, name BLOB NOT NULL, "
+    ++ codes "period INT NOT NULL, counts INT NOT NULL) STRICT, WITHOUT ROWID"
+
+-- the same in older forms, where each record that was named counts
+abbrev pub old_choice_text : List ℕ
+old_choice_text =
     codes "CREATE TABLE choice (number INT NOT NULL PRIMARY KEY, name BLOB NOT NULL, "
     ++ codes "period INT NOT NULL) STRICT, WITHOUT ROWID"
 
@@ -69,3 +75,16 @@ detail_text =
     ++ codes "job_id BLOB NOT NULL, step INT, cpu INT NOT NULL, blocks INT NOT NULL, "
     ++ codes "amount INT NOT NULL, PRIMARY KEY (day, centre, shift, time, name)) STRICT, "
     ++ codes "WITHOUT ROWID"
+
+-- the credits, by their numbers
+abbrev pub credit_text : List ℕ
+credit_text =
+    codes "CREATE TABLE credit (number INT NOT NULL PRIMARY KEY, period INT NOT NULL, "
+    ++ codes "centre TEXT NOT NULL, amount INT NOT NULL, reason TEXT NOT NULL) STRICT, "
+    ++ codes "WITHOUT ROWID"
+
+-- the tariffs that were replaced, by their numbers among these
+abbrev pub replaced_text : List ℕ
+replaced_text =
+    codes "CREATE TABLE replaced (number INT NOT NULL PRIMARY KEY, day INT NOT NULL, "
+    ++ codes "period INT NOT NULL, body TEXT NOT NULL) STRICT, WITHOUT ROWID"

@@ -4,11 +4,12 @@ ghost use Rattle.std.specs.Prelude.{◌≡◌, map};
 ghost use Rattle.std.specs.List.{list_all, list_any};
 ghost use Rattle.sqlite_store.specs.Catalog.{wanted_of};
 ghost use Rattle.book_trees.specs.Listing.{has_no_pages, lists, lists_books, lists_exactly};
-ghost use Rattle.book_trees.specs.Listing.{lists_first_books, may_be_listed, unlisted_fault};
+ghost use Rattle.book_trees.specs.Listing.{lists_old_books, lists_older, may_be_listed};
+ghost use Rattle.book_trees.specs.Listing.{unlisted_fault};
 ghost use Rattle.book_trees.specs.Schema.{first_table};
 
 use crate::faults::OpenFault;
-use crate::schema::{book_object, books_objects, first_objects};
+use crate::schema::{OlderForm, book_object, books_objects, old_objects, with_old_choices};
 use sqlite_trees::schema::Object;
 use sqlite_value::order::compare;
 use sqlite_value::row::Row;
@@ -101,11 +102,20 @@ pub(crate) fn lists_books(rows: &[Row]) -> bool
     lists_exactly(rows, &books_objects())
 }
 
-/// Whether they list those of books of the first form.
-pub(crate) fn lists_first_books(rows: &[Row]) -> bool
-    ensures { result ≡ lists_first_books rows.now }
+/// Whether they list those of books of an older form.
+pub(crate) fn lists_old_books(rows: &[Row], form: OlderForm) -> bool
+    ensures { result ≡ lists_old_books form rows.now }
 {
-    lists_exactly(rows, first_objects(&books_objects()))
+    lists_exactly(rows, old_objects(&with_old_choices(), form))
+}
+
+/// Whether they list those of books of any older form.
+fn lists_older(rows: &[Row]) -> bool
+    ensures { result ≡ lists_older rows.now }
+{
+    let first = lists_old_books(rows, OlderForm::First);
+    let second = lists_old_books(rows, OlderForm::Second);
+    first | second
 }
 
 /// Whether they list the table that books of every form have.
@@ -119,7 +129,7 @@ fn lists_book_table(rows: &[Row]) -> bool
 pub(crate) fn unlisted_fault(rows: &[Row]) -> OpenFault
     ensures { result ≡ unlisted_fault rows.now }
 {
-    if lists_first_books(rows) {
+    if lists_older(rows) {
         OpenFault::OldForm
     } else if lists_book_table(rows) {
         OpenFault::NewForm

@@ -11,10 +11,11 @@ ghost use Rattle.sqlite_wal.specs.Reads.{AreClean, IsClean as IsCleanFile};
 ghost use Rattle.sqlite_wal.specs.Recovery.{Image};
 ghost use Rattle.book_trees.specs.Closing.{HasSchema, LeavesLog, LeavesRows, MayBeFound};
 ghost use Rattle.book_trees.specs.LedgerFiles.{page_size, shortest_log, HoldsAlone, HoldsBooks};
-ghost use Rattle.book_trees.specs.LedgerFiles.{HoldsFirstBooks, HoldsTables, trees_held};
+ghost use Rattle.book_trees.specs.LedgerFiles.{HoldsOldBooks, HoldsTables, old_trees};
+ghost use Rattle.book_trees.specs.LedgerFiles.{trees_held};
 ghost use Rattle.book_trees.specs.Schema.{books_schema};
 
-use crate::schema::{books_objects, first_objects};
+use crate::schema::{OlderForm, books_objects, old_objects, with_old_choices};
 use crate::unopened::size_of_a_page;
 use sqlite_disk::{Disk, Files};
 use sqlite_store::FileStore;
@@ -92,16 +93,16 @@ pub fn close_books<D: Disk>(store: FileStore<D>) -> Closed<D>
     close_moved(store, &books_objects())
 }
 
-/// The same of books of the first form.
-pub fn close_first<D: Disk>(store: FileStore<D>) -> Closed<D>
+/// The same of books of an older form.
+pub fn close_old<D: Disk>(store: FileStore<D>, form: OlderForm) -> Closed<D>
     ensures honest { AreClean D.Disk result.files.log result.files.db
         → IsTrue (state store).is_clean }
     ensures left { IsTrue result.is_kept → (image : Image) → MayBeFound D.Disk result.files image
-        → ∥ ((held : HoldsFirstBooks image) × recovers store (trees_held held)) ∥₁ }
+        → ∥ ((held : HoldsOldBooks image) × recovers store (old_trees held)) ∥₁ }
     ensures rows { LeavesRows D.Disk store result.files }
     ensures log { LeavesLog D.Disk store result.files result.log }
 {
-    close_moved(store, first_objects(&books_objects()))
+    close_moved(store, old_objects(&with_old_choices(), form))
 }
 
 /// The same of a store of these tables and indexes.

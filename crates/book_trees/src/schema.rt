@@ -2,12 +2,24 @@
 
 ghost use Rattle.std.specs.Prelude.{◌≡◌, map};
 ghost use Rattle.sqlite_store.specs.Catalog.{wanted_of};
-ghost use Rattle.book_trees.specs.Schema.{books_schema, detail_table, first_schema, first_table};
-ghost use Rattle.book_trees.specs.Schema.{index_object, table_object};
+ghost use Rattle.book_trees.specs.Schema.{books_schema, choice_table, credit_table, day_sum_table};
+ghost use Rattle.book_trees.specs.Schema.{detail_table, first_table, index_object, old_choice_table};
+ghost use Rattle.book_trees.specs.Schema.{old_schema, record_table, replaced_table, table_count};
+ghost use Rattle.book_trees.specs.Schema.{table_object, tables_with};
 
 use sqlite_trees::schema::Object;
 use sqlite_trees::store::Shape;
 use sqlite_value::keys::Order;
+
+/// A form of books before this one.
+#[derive(Clone, Copy)]
+pub enum OlderForm {
+    /// There are no details.
+    First,
+    /// There are no credits and no tariffs that were replaced, and each record that was named by a
+    /// choice counts.
+    Second,
+}
 
 /// A table whose rows are sorted by its key.
 fn table(name: &'static str, sql: &'static str) -> Object<'static>
@@ -49,6 +61,77 @@ pub(crate) fn book_object() -> Object<'static>
     )
 }
 
+/// The table of records.
+fn record_object() -> Object<'static>
+    ensures { wanted_of result ≡ record_table }
+{
+    table(
+        "record",
+        "CREATE TABLE record (name BLOB NOT NULL PRIMARY KEY, ident BLOB NOT NULL, \
+         data BLOB NOT NULL, day INT NOT NULL, shift TEXT NOT NULL, centre TEXT NOT NULL, \
+         cpu INT NOT NULL, blocks INT NOT NULL, amount INT NOT NULL, charged INT NOT NULL, \
+         posted INT NOT NULL) STRICT, WITHOUT ROWID",
+    )
+}
+
+/// The table of charge rows.
+fn day_sum_object() -> Object<'static>
+    ensures { wanted_of result ≡ day_sum_table }
+{
+    table(
+        "day_sum",
+        "CREATE TABLE day_sum (period INT NOT NULL, day INT NOT NULL, \
+         centre TEXT NOT NULL, shift TEXT NOT NULL, count INT NOT NULL, cpu INT NOT NULL, \
+         blocks INT NOT NULL, amount INT NOT NULL, \
+         PRIMARY KEY (period, day, centre, shift)) STRICT, WITHOUT ROWID",
+    )
+}
+
+/// The table of choices.
+pub(crate) fn choice_object() -> Object<'static>
+    ensures { wanted_of result ≡ choice_table }
+{
+    table(
+        "choice",
+        "CREATE TABLE choice (number INT NOT NULL PRIMARY KEY, name BLOB NOT NULL, \
+         period INT NOT NULL, counts INT NOT NULL) STRICT, WITHOUT ROWID",
+    )
+}
+
+/// The table of choices of older forms, where each record that was named counts.
+fn old_choice_object() -> Object<'static>
+    ensures { wanted_of result ≡ old_choice_table }
+{
+    table(
+        "choice",
+        "CREATE TABLE choice (number INT NOT NULL PRIMARY KEY, name BLOB NOT NULL, \
+         period INT NOT NULL) STRICT, WITHOUT ROWID",
+    )
+}
+
+/// The table of credits, which books of older forms do not have.
+pub(crate) fn credit_object() -> Object<'static>
+    ensures { wanted_of result ≡ credit_table }
+{
+    table(
+        "credit",
+        "CREATE TABLE credit (number INT NOT NULL PRIMARY KEY, period INT NOT NULL, \
+         centre TEXT NOT NULL, amount INT NOT NULL, reason TEXT NOT NULL) STRICT, \
+         WITHOUT ROWID",
+    )
+}
+
+/// The table of tariffs that were replaced, which books of older forms do not have.
+pub(crate) fn replaced_object() -> Object<'static>
+    ensures { wanted_of result ≡ replaced_table }
+{
+    table(
+        "replaced",
+        "CREATE TABLE replaced (number INT NOT NULL PRIMARY KEY, day INT NOT NULL, \
+         period INT NOT NULL, body TEXT NOT NULL) STRICT, WITHOUT ROWID",
+    )
+}
+
 /// The table of details, which books of the first form do not have.
 pub(crate) fn detail_object() -> Object<'static>
     ensures { wanted_of result ≡ detail_table }
@@ -63,9 +146,10 @@ pub(crate) fn detail_object() -> Object<'static>
     )
 }
 
-/// What a file of books lists. The tables are numbered in this order, from 0.
-pub(crate) fn books_objects() -> [Object<'static>; 11]
-    ensures { map wanted_of result ≡ books_schema }
+/// What a file of books lists, with this table of choices. The tables are numbered in this order,
+/// from 0.
+fn objects_with(choices: Object<'static>) -> [Object<'static>; 13]
+    ensures { map wanted_of result ≡ tables_with (wanted_of choices) }
 {
     [
         book_object(),
@@ -79,20 +163,8 @@ pub(crate) fn books_objects() -> [Object<'static>; 11]
             "CREATE TABLE closed (period INT NOT NULL PRIMARY KEY, through INT NOT NULL) STRICT, \
              WITHOUT ROWID",
         ),
-        table(
-            "record",
-            "CREATE TABLE record (name BLOB NOT NULL PRIMARY KEY, ident BLOB NOT NULL, \
-             data BLOB NOT NULL, day INT NOT NULL, shift TEXT NOT NULL, centre TEXT NOT NULL, \
-             cpu INT NOT NULL, blocks INT NOT NULL, amount INT NOT NULL, charged INT NOT NULL, \
-             posted INT NOT NULL) STRICT, WITHOUT ROWID",
-        ),
-        table(
-            "day_sum",
-            "CREATE TABLE day_sum (period INT NOT NULL, day INT NOT NULL, \
-             centre TEXT NOT NULL, shift TEXT NOT NULL, count INT NOT NULL, cpu INT NOT NULL, \
-             blocks INT NOT NULL, amount INT NOT NULL, \
-             PRIMARY KEY (period, day, centre, shift)) STRICT, WITHOUT ROWID",
-        ),
+        record_object(),
+        day_sum_object(),
         table(
             "line",
             "CREATE TABLE line (period INT NOT NULL, name BLOB NOT NULL, plus INT NOT NULL, \
@@ -108,27 +180,50 @@ pub(crate) fn books_objects() -> [Object<'static>; 11]
             "record",
             "CREATE INDEX record_charged ON record (charged, ident)",
         ),
-        table(
-            "choice",
-            "CREATE TABLE choice (number INT NOT NULL PRIMARY KEY, name BLOB NOT NULL, \
-             period INT NOT NULL) STRICT, WITHOUT ROWID",
-        ),
+        choices,
         index(
             "choice_name",
             "choice",
             "CREATE INDEX choice_name ON choice (name)",
         ),
         detail_object(),
+        credit_object(),
+        replaced_object(),
     ]
 }
 
-/// How many of them books of the first form have.
-const FIRST_TABLES: usize = 10;
-
-/// What a file of books of the first form lists, of what one of this form does: all but the details.
-pub(crate) fn first_objects<'a>(objects: &'a [Object<'static>]) -> &'a [Object<'static>]
-    requires { map wanted_of objects.now ≡ books_schema }
-    ensures { map wanted_of result.now ≡ first_schema }
+/// What a file of books lists.
+pub(crate) fn books_objects() -> [Object<'static>; 13]
+    ensures { map wanted_of result ≡ books_schema }
 {
-    &objects[..FIRST_TABLES]
+    objects_with(choice_object())
+}
+
+/// The same with the choices of older forms.
+pub(crate) fn with_old_choices() -> [Object<'static>; 13]
+    ensures { map wanted_of result ≡ tables_with old_choice_table }
+{
+    objects_with(old_choice_object())
+}
+
+/// How many of them books of an older form have: the first ones.
+fn table_count(form: OlderForm) -> usize
+    ensures { result ≡ table_count form }
+{
+    match form {
+        OlderForm::First => 10,
+        OlderForm::Second => 11,
+    }
+}
+
+/// What a file of books of an older form lists.
+pub(crate) fn old_objects<'a>(
+    objects: &'a [Object<'static>],
+    form: OlderForm,
+) -> &'a [Object<'static>]
+    requires { map wanted_of objects.now ≡ tables_with old_choice_table }
+    ensures { map wanted_of result.now ≡ old_schema form }
+{
+    let count = table_count(form);
+    &objects[..count]
 }

@@ -5,9 +5,9 @@ ghost use Rattle.sqlite_store.specs.Catalog.{wanted_of};
 ghost use Rattle.sqlite_store.specs.Unopened.{files_of, state_of, wanted_by};
 ghost use Rattle.sqlite_wal.specs.PageSize.{bytes_of};
 ghost use Rattle.book_trees.specs.LedgerFiles.{page_size};
-ghost use Rattle.book_trees.specs.Schema.{books_schema, first_schema};
+ghost use Rattle.book_trees.specs.Schema.{books_schema, old_schema};
 
-use crate::schema::{books_objects, first_objects};
+use crate::schema::{OlderForm, books_objects, old_objects, with_old_choices};
 use sqlite_disk::{Disk, Files};
 use sqlite_pager::{Options, Pager};
 use sqlite_store::Unopened;
@@ -61,16 +61,22 @@ pub(crate) fn unopened<D: Disk>(
     unopened_as(alloc, files, options, &books_objects())
 }
 
-/// The two with the schema of books of the first form.
-pub(crate) fn unopened_first<D: Disk>(
+/// The two with the schema of books of an older form.
+pub(crate) fn unopened_old<D: Disk>(
     alloc: Global,
     files: Files<D>,
     options: Options,
+    form: OlderForm,
 ) -> Result<Unopened<D>, Files<D>>
     ensures files { IfOk result (λ it. files_of it ≡ (files.log, files.db)) }
     ensures size { IfOk result (λ it. (state_of it).page_size ≡ page_size) }
-    ensures schema { IfOk result (λ it. wanted_by it ≡ first_schema) }
+    ensures schema { IfOk result (λ it. wanted_by it ≡ old_schema form) }
     ensures back { IfErr result (λ back. back ≡ files) }
 {
-    unopened_as(alloc, files, options, first_objects(&books_objects()))
+    unopened_as(
+        alloc,
+        files,
+        options,
+        old_objects(&with_old_choices(), form),
+    )
 }

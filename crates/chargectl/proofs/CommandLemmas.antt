@@ -1,12 +1,17 @@
 -- What commands ask, and what they tell.
 use Rattle.std.proofs.Common.{◌≡◌, List, ℕ, Option, Some, None, Result, Ok, Err, ◌⊎◌, sym, subst}
-use Rattle.std.proofs.Common.{refl, take, length, inl, inr, IsErr, IsErrAnd}
+use Rattle.std.proofs.Common.{refl, take, length, inl, inr, IsErr, IsErrAnd, ℤ, Bool, true, false}
+use Rattle.std.proofs.Common.{if◌then◌else◌}
 use Rattle.std.proofs.KnownBytes.{Appends-kept}
 use Rattle.std.proofs.Math.Seq.{take-length}
 use Rattle.std.specs.Io.KnownBytes.{Appends}
 use Rattle.streams.specs.InputOutput.{Input, Output}
+use Rattle.book_model.specs.declared.fault.LedgerFault.TheVariants as ledger
 use Rattle.book_model.specs.Words.{day_of_text_of}
+use Rattle.smf_text.specs.Names.{IsName, is_name}
 use Rattle.book_core.specs.Words.{Books, IsTransition}
+use Rattle.book_model.proofs.Std.{none-some, same_Some}
+use Rattle.book_reports.specs.BookTexts.{centre_named}
 use Rattle.book_reports.specs.Reports.{IsWritten}
 use Rattle.office.specs.Requests.{Asks, IsAsked}
 use Rattle.named_books.proofs.ShelfLemmas.{untouched}
@@ -15,12 +20,14 @@ use Rattle.program_output.specs.Names.{name_in}
 use Rattle.without_books.specs.Inputs.{Files}
 use Rattle.without_books.specs.Reading.{IsUnfit}
 use Rattle.chargectl.specs.declared.answered.Answered.{Answered}
-use Rattle.chargectl.specs.Commands.{AsksNothing, AsksOnceBy, ComesOf, IsShelfFault}
+use Rattle.chargectl.specs.Commands.{AsksNothing, AsksOnceBy, ComesOf, IsCreditFault, IsShelfFault}
+use Rattle.chargectl.specs.Commands.{credit_words}
 use Rattle.chargectl.specs.Commands.{IsTariffFault, IsTextFault, IsWordFault, report_of, what_if_of}
 use Rattle.chargectl.proofs.Words.{Keeps, LedgerFault, work_as, ReportFault, RepositoryFault}
 use Rattle.chargectl.proofs.Words.{Answer, Asked, response_by, Shelf, CommandFault}
 use Rattle.command_line.specs.declared.request.BookRequest.TheVariants as to_books
 use Rattle.command_line.specs.declared.request.Ruling.TheVariants as ruling
+use Rattle.without_books.specs.declared.command_fault.CommandFault.TheVariants as fault
 
 -- a request with its answer
 pub asked_once : (asked : Asked) (had : Option (List ℕ)) (answer : Result Answer LedgerFault)
@@ -58,6 +65,11 @@ module _ (One Other : RepositoryFault → Type 0)
   word_as None Is So why goes it = it
   word_as (Some found) Is So why goes it = goes it
 
+  said_as : (said : Result (List ℕ × ℤ) CommandFault) (why : CommandFault)
+      → IsCreditFault said One why → IsCreditFault said Other why
+  said_as (Err found) why it = it
+  said_as (Ok said) why it = either_as (why ≡ fault.Ledger ledger.Memory) why it
+
   pub nothing_as : (files : Files) (request : BookRequest) (why : CommandFault)
       → AsksNothing files request One why → AsksNothing files request Other why
   nothing_as files (to_books.Import dump) why it =
@@ -69,6 +81,12 @@ module _ (One Other : RepositoryFault → Type 0)
       it
   nothing_as files (to_books.Rule (ruling.Choose name)) why it =
       word_as (name_in name.now) (IsShelfFault One) (IsShelfFault Other) why (shelf_as why) it
+  nothing_as files (to_books.Rule (ruling.Replace file)) why it =
+      either_as (IsTextFault (files.holds file.now) why) why it
+  nothing_as files (to_books.Rule (ruling.Withhold name)) why it =
+      word_as (name_in name.now) (IsShelfFault One) (IsShelfFault Other) why (shelf_as why) it
+  nothing_as files (to_books.Rule (ruling.Credit period centre amount reason)) why it =
+      said_as (credit_words centre.now amount.now reason.now) why it
   nothing_as files (to_books.Report said) why it =
       word_as (report_of said) (IsShelfFault One) (IsShelfFault Other) why (shelf_as why) it
   nothing_as files (to_books.WhatIf form period file) why it =
@@ -98,3 +116,20 @@ not_flushed text output (Ok done) held has holds written well old new kept = (
 )
 not_flushed text output (Err fault) held has holds written well old new kept =
     absurd (well fault refl)
+
+-- a centre that a text names has a name
+pub named_centre : (text centre : List ℕ) → centre_named text ≡ Some centre → IsName centre
+named_centre text centre = by (is_name text) refl
+  where
+    by : (named : Bool) → is_name text ≡ named
+        → ◌≡◌ {A = Option (List ℕ)} (if named then Some text else None) (Some centre) → IsName centre
+    by true named is = subst IsName (same_Some text centre is) named
+    by false named is = absurd (none-some centre is)
+
+-- where the words of a credit are what they have to be, what comes later is why nothing is asked
+pub said_so : {found : Result (List ℕ × ℤ) CommandFault} (said : List ℕ × ℤ)
+    (Refuses : RepositoryFault → Type 0) (why : CommandFault) → found ≡ Ok said
+    → IsShelfFault Refuses why ⊎ (why ≡ fault.Ledger ledger.Memory)
+    → IsCreditFault found Refuses why
+said_so said Refuses why is later =
+    subst (λ found. IsCreditFault found Refuses why) (sym is) later

@@ -7,7 +7,8 @@ use Rattle.book_model.specs.declared.answer.Ruled.{Ruled}
 use Rattle.book_model.specs.declared.fault.LedgerFault.TheVariants.{Memory}
 use Rattle.book_model.specs.Words.{Book, Event, Naming, Outcome, adopt_outcome, after_all}
 use Rattle.book_model.specs.Words.{after_any, choose_outcome, close_outcome, tariff_answer}
-use Rattle.book_model.specs.Words.{rule_outcome, tariff_outcome}
+use Rattle.book_model.specs.Words.{rule_outcome, tariff_outcome, credit_outcome, replace_outcome}
+use Rattle.book_model.specs.Words.{replacing_answer, withhold_outcome}
 use Rattle.book_core.specs.Words.{Calls, IsCall, listed, Seen, IsTransition, Then, Transition}
 use Rattle.book_core.proofs.FollowLemmas.{called_events}
 use Rattle.book_core.proofs.TransitionLemmas.{Fails, failed, fails, refused, to_reopen, wanting}
@@ -33,7 +34,7 @@ use Rattle.chargectl.specs.declared.dated_rulings.DatedAnswer.{DatedAnswer}
 use Rattle.chargectl.specs.Commands.{AsksNothing}
 use Rattle.chargectl.specs.DryRuns.{IsAskedFor, IsDryAnswer, IsNamedBy, IsRuled, IsShown, IsUnnamed}
 use Rattle.chargectl.specs.DryRuns.{ShowsDry, TellsDry, TriesOnce, TriesOnceBy, dated_by}
-use Rattle.chargectl.specs.DryRuns.{ruled_told, tariff_tried}
+use Rattle.chargectl.specs.DryRuns.{replacement_tried, ruled_told, tariff_tried}
 use Rattle.chargectl.specs.Far.{far_notice, far_outcome, is_far_asked, notice_by}
 use Rattle.chargectl.proofs.Words.{LedgerFault, work_as, Asked, RepositoryFault, ComesBy, Answer}
 use Rattle.chargectl.proofs.Words.{response_by, CommandFault}
@@ -136,6 +137,14 @@ module _ (naming : Naming) where
         notice = sym (ap (λ said. notice_by (is_far_asked today (asks.Rule (owned.Tariff text)) book)
             (shown_by office.Ruling (tariff_answer book bytes said))) why.1);
       }
+  unnamed_shows today (asks.Rule (owned.Replace text)) book fault why =
+      let bytes = string_bytes text in
+      record {
+        told_so = ap Err why.2
+            ∙ sym (ap (λ said. shown_by Text (replacement_tried naming bytes said book)) why.1);
+        notice = sym (ap (λ said. notice_by (is_far_asked today (asks.Rule (owned.Replace text)) book)
+            (shown_by office.Ruling (replacing_answer book bytes said))) why.1);
+      }
   unnamed_shows today asked book fault why = absurd why
 
   -- what a ruling was answered by open books is what the definitions say
@@ -182,6 +191,17 @@ module _ (naming : Naming) where
   refused_tells (asks.Rule (owned.Adopt rule)) ruling fault was book events is named called fresh free =
       ap (shown_by Text) (refused_by (adopt_outcome rule) fault tried.Adopt was book events is called
       fresh free)
+  refused_tells (asks.Rule (owned.Replace text)) ruling fault was book events is named called fresh free =
+      ap (shown_by Text) (refused_by (replace_outcome (string_bytes text)) fault
+      (tried.Replace named.0.effective) was book events is called fresh free
+      ∙ sym (ap (λ said. replacement_tried naming (string_bytes text) said book) named.1))
+  refused_tells (asks.Rule (owned.Withhold name)) ruling fault was book events is named called fresh free =
+      ap (shown_by Text) (refused_by (withhold_outcome naming name) fault (tried.Withhold name) was
+      book events is called fresh free)
+  refused_tells (asks.Rule (owned.Credit period centre amount reason)) ruling fault was book events is
+      named called fresh free =
+      ap (shown_by Text) (refused_by (credit_outcome period centre amount (string_bytes reason)) fault
+      (tried.Credit period centre) was book events is called fresh free)
   refused_tells asked ruling fault was book events is named called fresh free = absurd named
 
   -- the book after the event of a ruling
@@ -230,6 +250,20 @@ module _ (naming : Naming) where
   ruled_tells (asks.Rule (owned.Adopt rule)) ruling ruled was book events is named called =
       ap (λ ruling. Ok (Text (dry_run_of naming ruling ruled book (after_all events book)))) named
       ∙ ap (shown_by Text) (ruled_by (adopt_outcome rule) ruled tried.Adopt was book events is called)
+  ruled_tells (asks.Rule (owned.Replace text)) ruling ruled was book events is named called =
+      ap (λ ruling. Ok (Text (dry_run_of naming ruling ruled book (after_all events book)))) named.2
+      ∙ ap (shown_by Text) (ruled_by (replace_outcome (string_bytes text)) ruled
+      (tried.Replace named.0.effective) was book events is called
+      ∙ sym (ap (λ said. replacement_tried naming (string_bytes text) said book) named.1))
+  ruled_tells (asks.Rule (owned.Withhold name)) ruling ruled was book events is named called =
+      ap (λ ruling. Ok (Text (dry_run_of naming ruling ruled book (after_all events book)))) named
+      ∙ ap (shown_by Text) (ruled_by (withhold_outcome naming name) ruled (tried.Withhold name) was book
+      events is called)
+  ruled_tells (asks.Rule (owned.Credit period centre amount reason)) ruling ruled was book events is
+      named called =
+      ap (λ ruling. Ok (Text (dry_run_of naming ruling ruled book (after_all events book)))) named
+      ∙ ap (shown_by Text) (ruled_by (credit_outcome period centre amount (string_bytes reason)) ruled
+      (tried.Credit period centre) was book events is called)
   ruled_tells asked ruling ruled was book events is named called = absurd named
 
   -- nothing else is answered to one

@@ -10,6 +10,7 @@ use Rattle.book_model.specs.declared.fault.LedgerFault.TheVariants.{Memory, Stor
 use Rattle.book_core.specs.Words.{Calls, listed, MakesAnswered, Transition, NoEvent}
 use Rattle.book_core.proofs.FollowLemmas.{history_goes_on, none_answered}
 use Rattle.book_model.proofs.Lemmas.{books_follow_history}
+use Rattle.smf_frames.specs.declared.dump.Layout.{Layout}
 use Rattle.book_audit.specs.Copies.{IsAudited}
 use Rattle.book_audit.specs.declared.audited.Audited.{Audited}
 use Rattle.book_audit.specs.declared.audited.Audited.TheVariants.{Sound, Unsound}
@@ -21,6 +22,8 @@ use Rattle.office.specs.Requests.{Asks, Dump, Response}
 use Rattle.named_books.specs.Shelves.{IsTried, IsUntouched}
 use Rattle.office.proofs.ChoiceLemmas.{choices_done}
 use Rattle.office.proofs.LawLemmas.{asks_done}
+use Rattle.office.proofs.WithholdingLemmas.{so_answered}
+use Rattle.office.specs.declared.withholding.WorksTold.{WorksTold}
 use Rattle.command_line.specs.declared.request.BookRequest.{BookRequest}
 use Rattle.command_line.specs.declared.request.Request.{Request}
 use Rattle.command_line.specs.declared.request.Ruling.{Ruling}
@@ -48,6 +51,7 @@ use Rattle.chargectl.specs.CommandLaws.{ListOfHistory, ListTriedBy, ListTriedOfH
 use Rattle.chargectl.specs.CommandLaws.{ListsHistoryBy, ListsAskedOfHistory}
 use Rattle.chargectl.specs.CommandLaws.{ListsOfHistory, OpenedSo, RunsOn, ServesEach}
 use Rattle.chargectl.specs.CommandLaws.{ServesHistoryBy, TriedBy, TriesOfHistory, place_after}
+use Rattle.chargectl.specs.CommandLaws.{DumpBy, DumpOfHistory, WorksMade}
 use Rattle.chargectl.specs.DryRuns.{ComesOfDryRun, ShowsDry, TriesAndTells, TriesOnceBy}
 use Rattle.chargectl.specs.Far.{is_far_asked}
 use Rattle.chargectl.specs.NearRulings.{AsksNear, ComesNear, RulesNear, near_answered}
@@ -56,6 +60,8 @@ use Rattle.chargectl.specs.Requests.{SettlesBy}
 use Rattle.chargectl.specs.StreamedLists.{ListsAsked, ListsBy, WritesSomeOf, list_answer, list_of}
 use Rattle.chargectl.specs.StreamedLists.{listing_answered}
 use Rattle.chargectl.specs.Upgrades.{UpgradesBy}
+use Rattle.chargectl.specs.WithheldWorks.{ComesOfDump, WithholdsDump, WorksBy}
+use Rattle.chargectl.specs.declared.withheld_works.WorksAnswered.{WorksAnswered}
 use Rattle.chargectl.proofs.CommandLemmas.{either_as, nothing_as, shelf_as}
 use Rattle.chargectl.proofs.ServingLemmas.{each_answered, turn_done}
 use Rattle.chargectl.proofs.Words.{HasFailed, LedgerFault, ReportFault, RepositoryFault, Unseen}
@@ -279,27 +285,47 @@ module _ (naming : Naming) (history : List Event) (name : List ℕ) (old new : S
       (listing_answered answer naming held_bytes holds told) done)
 
   -- what chose records follows the history
-  choices_followed : (names : List (List ℕ)) (told : Result Chosen AllocError) (made : List Event)
-      → Makes (ChoosesBy naming names told) history made
-      → ChoicesFollow naming history names told made
-  choices_followed names (Ok chosen) made it =
-      let work = subst (λ book. ChoosesBy naming names (Ok chosen) false book made it.is)
+  choices_followed : (withheld : Bool) (names : List (List ℕ)) (told : Result Chosen AllocError)
+      (made : List Event) → Makes (ChoosesBy withheld naming names told) history made
+      → ChoicesFollow withheld naming history names told made
+  choices_followed withheld names (Ok chosen) made it =
+      let work = subst (λ book. ChoosesBy withheld naming names (Ok chosen) false book made it.is)
       (books_follow_history history) it.made_so in
       record {
         left = it.is;
         work = work;
-        is = choices_done naming names chosen.answers.items chosen.refusal (book_of history) made it.is
-            work;
+        is = choices_done withheld naming names chosen.answers.items chosen.refusal (book_of history)
+            made it.is work;
       }
-  choices_followed names (Err none) made it = it.made_so.none
+  choices_followed withheld names (Err none) made it = it.made_so.none
 
   -- records were chosen, one after the other
-  chosen_on : (book : List ℕ) (names : List (List ℕ)) (told : Result Chosen AllocError)
-      → IsDoneTo book (ChoosesBy naming names told) old new
-      → Step naming history name old new (Where book name (ChoicesFollow naming history names told))
-  chosen_on book names told done =
-      step_where (choices_followed names told)
-      (work_on book (ChoosesBy naming names told) (list_answered naming names told) done)
+  chosen_on : (withheld : Bool) (book : List ℕ) (names : List (List ℕ))
+      (told : Result Chosen AllocError) → IsDoneTo book (ChoosesBy withheld naming names told) old new
+      → Step naming history name old new
+      (Where book name (ChoicesFollow withheld naming history names told))
+  chosen_on withheld book names told done =
+      step_where (choices_followed withheld names told)
+      (work_on book (ChoosesBy withheld naming names told) (list_answered withheld naming names told)
+      done)
+
+  -- what withheld works follows the history
+  works_followed : (names : List (List ℕ)) (told : WorksTold) (made : List Event)
+      → Makes (WorksBy naming names told) history made → WorksMade naming history names told made
+  works_followed names told made it = record {
+    left = it.is;
+    work = subst (λ book. WorksBy naming names told false book made it.is)
+        (books_follow_history history) it.made_so;
+  }
+
+  -- the works of records were withheld, one change after the other
+  withheld_on : (book : List ℕ) (names : List (List ℕ)) (told : WorksTold)
+      → IsDoneTo book (WorksBy naming names told) old new
+      → Step naming history name old new (Where book name (WorksMade naming history names told))
+  withheld_on book names told done =
+      step_where (works_followed names told)
+      (work_on book (WorksBy naming names told)
+      (so_answered naming names told.counts told.refusal) done)
 
   -- or the place refused them, for such a reason
   opened_on : {A : Type 0} (book : List ℕ) (Refuses : RepositoryFault → Type 0)
@@ -397,11 +423,11 @@ module _ (history : List Event) (name : List ℕ) (old new : Shelf)
       (near_comes_on files book (asks.Rule ruling) it.answered it.comes)
 
   -- a list of choices
-  list_comes_on : (had : Option (List ℕ)) (book : List ℕ) (came : Result ListAnswered CommandFault)
-      → ComesOfList false had book old new came
+  list_comes_on : (withheld : Bool) (had : Option (List ℕ)) (book : List ℕ)
+      (came : Result ListAnswered CommandFault) → ComesOfList false withheld had book old new came
       → Step old.naming history name old new
-      (Where book name (ListBy had old.naming history (Refuses book) came))
-  list_comes_on had book (Ok told) comes =
+      (Where book name (ListBy withheld had old.naming history (Refuses book) came))
+  list_comes_on withheld had book (Ok told) comes =
       step_where (λ made follows. record {
         names = comes.names;
         lines = comes.lines;
@@ -414,10 +440,11 @@ module _ (history : List Event) (name : List ℕ) (old new : Shelf)
         says = comes.came.says;
       })
       (opened_on old.naming history name old new answered held book (Refuses book) (follow book)
-      (ChoosesBy old.naming comes.names) (ChoicesFollow old.naming history comes.names)
-      (chosen_on old.naming history name old new answered held book comes.names) comes.came.told
-      comes.came.done)
-  list_comes_on had book (Err why) comes =
+      (ChoosesBy withheld old.naming comes.names)
+      (ChoicesFollow withheld old.naming history comes.names)
+      (chosen_on old.naming history name old new answered held withheld book comes.names)
+      comes.came.told comes.came.done)
+  list_comes_on withheld had book (Err why) comes =
       step_as (λ made is. (
         λ _. (
           either_as (old.refuses book) (Refuses book) (follow book)
@@ -428,44 +455,82 @@ module _ (history : List Event) (name : List ℕ) (old new : Shelf)
       ))
       (none_on old.naming history name old new answered held book comes.1)
 
-  list_on : (had : Option (List ℕ)) (book : List ℕ) (has holds : Option (List ℕ)) (Failed : Type 0)
-      (ended : Ended) → ChoosesListed false had book old new has holds Failed ended
+  list_on : (withheld : Bool) (had : Option (List ℕ)) (book : List ℕ) (has holds : Option (List ℕ))
+      (Failed : Type 0) (ended : Ended) → ChoosesListed false withheld had book old new has holds Failed ended
       → Step old.naming history name old new
-      (Where book name (ListOfHistory had old.naming history (Refuses book) has holds Failed ended))
-  list_on had book has holds Failed ended it =
+      (Where book name (ListOfHistory withheld had old.naming history (Refuses book) has holds Failed
+      ended))
+  list_on withheld had book has holds Failed ended it =
       step_where (λ made so. record { came = it.answered; listed = so; tells = it.tells })
-      (list_comes_on had book it.answered it.comes)
+      (list_comes_on withheld had book it.answered it.comes)
+
+  -- the works of a dump
+  dump_comes_on : (layout : Layout) (had : Option (List ℕ)) (book : List ℕ)
+      (came : Result WorksAnswered CommandFault) → ComesOfDump layout had book old new came
+      → Step old.naming history name old new
+      (Where book name (DumpBy layout had old.naming history (Refuses book) came))
+  dump_comes_on layout had book (Ok told) comes =
+      step_where (λ made follows. record {
+        named = comes.named;
+        read = comes.read;
+        follows = follows;
+        stop = comes.came.stop;
+      })
+      (opened_on old.naming history name old new answered held book (Refuses book) (follow book)
+      (WorksBy old.naming comes.named.names.items)
+      (WorksMade old.naming history comes.named.names.items)
+      (withheld_on old.naming history name old new answered held book comes.named.names.items)
+      told.told comes.came.done)
+  dump_comes_on layout had book (Err why) comes =
+      step_as (λ made is. (
+        λ _. (
+          either_as (old.refuses book) (Refuses book) (follow book) (IsFileFault why) why comes.0,
+          is,
+        ),
+        λ _. is,
+      ))
+      (none_on old.naming history name old new answered held book comes.1)
+
+  dump_on : (layout : Layout) (had : Option (List ℕ)) (book : List ℕ) (has holds : Option (List ℕ))
+      (Failed : Type 0) (ended : Ended)
+      → WithholdsDump layout had book old new has holds Failed ended
+      → Step old.naming history name old new
+      (Where book name
+      (DumpOfHistory layout had old.naming history (Refuses book) has holds Failed ended))
+  dump_on layout had book has holds Failed ended it =
+      step_where (λ made so. record { came = it.answered; withheld = so; tells = it.tells })
+      (dump_comes_on layout had book it.answered it.comes)
 
   -- or they were tried
-  names_tried : (book : List ℕ) (names : List (List ℕ))
+  names_tried : (withheld : Bool) (book : List ℕ) (names : List (List ℕ))
       (told : Result (Result Chosen AllocError) RepositoryFault)
-      → IsTried (ChoosesBy old.naming names) book old new told
+      → IsTried (ChoosesBy withheld old.naming names) book old new told
       → Step old.naming history name old new (λ made. (book ≡ name
       → IfOk told (λ chosen. (events : List Event)
-      × ChoicesFollow old.naming history names chosen events))
+      × ChoicesFollow withheld old.naming history names chosen events))
       × IfErr told (Refuses book) × (made ≡ []))
-  names_tried book names (Ok chosen) tried =
+  names_tried withheld book names (Ok chosen) tried =
       step_as (λ made is. (λ same. follows same, tt, is))
       (none_on old.naming history name old new answered held book tried.0)
     where
       follows : book ≡ name
-          → (events : List Event) × ChoicesFollow old.naming history names chosen events
+          → (events : List Event) × ChoicesFollow withheld old.naming history names chosen events
       follows same =
           let found = tried.1 history (subst (λ name. old.holds name history) (sym same) held) in (
             found.0,
-            choices_followed old.naming history name old new answered held names chosen found.0
-                (record { is = found.1; made_so = found.2 }),
+            choices_followed old.naming history name old new answered held withheld names chosen
+                found.0 (record { is = found.1; made_so = found.2 }),
           )
-  names_tried book names (Err fault) tried =
+  names_tried withheld book names (Err fault) tried =
       step_as (λ made is. (λ _. tt, follow book fault tried.0, is))
       (none_on old.naming history name old new answered held book tried.1)
 
-  list_tried : (had : Option (List ℕ)) (book : List ℕ) (has holds : Option (List ℕ)) (Failed : Type 0)
-      (ended : Ended) → ChoosesListed true had book old new has holds Failed ended
+  list_tried : (withheld : Bool) (had : Option (List ℕ)) (book : List ℕ) (has holds : Option (List ℕ))
+      (Failed : Type 0) (ended : Ended) → ChoosesListed true withheld had book old new has holds Failed ended
       → Step old.naming history name old new
       (Where book name
-      (ListTriedOfHistory had old.naming history (Refuses book) has holds Failed ended))
-  list_tried had book has holds Failed ended it =
+      (ListTriedOfHistory withheld had old.naming history (Refuses book) has holds Failed ended))
+  list_tried withheld had book has holds Failed ended it =
       step_as (λ made so. (
         λ same. record {
           came = it.answered;
@@ -477,10 +542,11 @@ module _ (history : List Event) (name : List ℕ) (old new : Shelf)
       ))
       (by_came it.answered it.comes)
     where
-      by_came : (came : Result ListAnswered CommandFault) → ComesOfList true had book old new came
+      by_came : (came : Result ListAnswered CommandFault)
+          → ComesOfList true withheld had book old new came
           → Step old.naming history name old new
           (λ made. (book ≡ name
-          → ListTriedBy had old.naming history (Refuses book) came) × (made ≡ []))
+          → ListTriedBy withheld had old.naming history (Refuses book) came) × (made ≡ []))
       by_came (Ok listed) comes =
           step_as (λ made so. (
             λ same. record {
@@ -497,7 +563,7 @@ module _ (history : List Event) (name : List ℕ) (old new : Shelf)
             },
             so.2,
           ))
-          (names_tried book comes.names comes.came.told comes.came.tried)
+          (names_tried withheld book comes.names comes.came.told comes.came.tried)
       by_came (Err why) comes =
           step_as (λ made is. (
             λ _. either_as (old.refuses book) (Refuses book) (follow book)
@@ -761,11 +827,14 @@ module _ {S : Type 0} (shelf : S → Shelf) (history : List Event) (name : List 
   does_on files book (asks.List asked) has holds Failed ended does =
       list_asked history name (shelf before) (shelf after) answered held Refuses follow (list_of asked)
       book has holds Failed ended does
-  does_on files book (asks.ChooseListed file) has holds Failed ended does =
-      list_on history name (shelf before) (shelf after) answered held Refuses follow (files.holds file.now)
-      book has holds Failed ended does
-  does_on files book (asks.TryListed file) has holds Failed ended does =
-      list_tried history name (shelf before) (shelf after) answered held Refuses follow
+  does_on files book (asks.ChooseListed withheld file) has holds Failed ended does =
+      list_on history name (shelf before) (shelf after) answered held Refuses follow withheld
+      (files.holds file.now) book has holds Failed ended does
+  does_on files book (asks.TryListed withheld file) has holds Failed ended does =
+      list_tried history name (shelf before) (shelf after) answered held Refuses follow withheld
+      (files.holds file.now) book has holds Failed ended does
+  does_on files book (asks.WithholdDump file layout) has holds Failed ended does =
+      dump_on history name (shelf before) (shelf after) answered held Refuses follow layout
       (files.holds file.now) book has holds Failed ended does
   does_on files book (asks.DryRun ruling) has holds Failed ended does =
       tries_on history name (shelf before) (shelf after) answered held Refuses follow files book ruling

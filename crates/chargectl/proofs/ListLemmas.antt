@@ -97,21 +97,21 @@ no_list had text names.TooMany read all =
     inr (record { text = text; found = names.TooMany; read = read; all = all; is = refl })
 
 -- a visit that chose the records of names, or had no memory for the answers
-pub choices_made : {L : Type 0} (seen : L → Seen) (old new : L) (names : List (List ℕ))
+pub choices_made : {L : Type 0} (withheld : Bool) (seen : L → Seen) (old new : L) (names : List (List ℕ))
     (told : Result Chosen AllocError)
     → IfOk told (λ chosen. IsTransition (seen old) (seen new)
-    (ChoosesEach (seen old).naming names chosen.answers.items chosen.refusal))
+    (ChoosesEach withheld (seen old).naming names chosen.answers.items chosen.refusal))
     → OnErr told (new ≡ old)
-    → IsTransition (seen old) (seen new) (ChoosesBy (seen old).naming names told)
-choices_made seen old new names (Ok chosen) made none = made
-choices_made seen old new names (Err fault) made none =
+    → IsTransition (seen old) (seen new) (ChoosesBy withheld (seen old).naming names told)
+choices_made withheld seen old new names (Ok chosen) made none = made
+choices_made withheld seen old new names (Err fault) made none =
     subst (λ now. IsTransition (seen old) (seen now) NoEvent) (sym none) (no_work (seen old))
 
 -- nothing was chosen, and this is why
-pub not_listed : (tried : Bool) (had : Option (List ℕ)) (book : List ℕ) (shelf : Shelf)
+pub not_listed : (tried withheld : Bool) (had : Option (List ℕ)) (book : List ℕ) (shelf : Shelf)
     (result : Result ListAnswered CommandFault) (found : CommandFault) → IsErr result
     → IsErrAnd result (λ why. why ≡ found) → ChoosesNothing had (shelf.refuses book) found
-    → ComesOfList tried had book shelf shelf result
-not_listed tried had book shelf (Ok answered) found bad is why = absurd (true≢false (sym bad))
-not_listed tried had book shelf (Err fault) found bad is why =
+    → ComesOfList tried withheld had book shelf shelf result
+not_listed tried withheld had book shelf (Ok answered) found bad is why = absurd (true≢false (sym bad))
+not_listed tried withheld had book shelf (Err fault) found bad is why =
     (subst (ChoosesNothing had (shelf.refuses book)) (sym is) why, untouched book shelf)

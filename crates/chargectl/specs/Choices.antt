@@ -59,17 +59,18 @@ IsListFault had why = IsFileFault why ⊎ IsNoList had why
 
 -- what a visit to the books did that chose the records of these names; without memory for the answers
 -- it chose none
-abbrev pub ChoosesBy : Naming → List (List ℕ) → Result Chosen AllocError → Transition
-ChoosesBy naming names (Ok chosen) =
-    ChoosesEach naming names chosen.answers.items chosen.refusal
-ChoosesBy naming names (Err none) = NoEvent
+abbrev pub ChoosesBy : Bool → Naming → List (List ℕ) → Result Chosen AllocError → Transition
+ChoosesBy withheld naming names (Ok chosen) =
+    ChoosesEach withheld naming names chosen.answers.items chosen.refusal
+ChoosesBy withheld naming names (Err none) = NoEvent
 
 -- it makes events that the books answered
-pub list_answered : (naming : Naming) (names : List (List ℕ)) (told : Result Chosen AllocError)
-    → MakesAnswered naming (ChoosesBy naming names told)
-list_answered naming names (Ok chosen) =
-    choices_answered naming names chosen.answers.items chosen.refusal
-list_answered naming names (Err none) = none_answered naming
+pub list_answered : (withheld : Bool) (naming : Naming) (names : List (List ℕ))
+    (told : Result Chosen AllocError)
+    → MakesAnswered naming (ChoosesBy withheld naming names told)
+list_answered withheld naming names (Ok chosen) =
+    choices_answered withheld naming names chosen.answers.items chosen.refusal
+list_answered withheld naming names (Err none) = none_answered naming
 
 -- what came of choices, or why none were made
 abbrev pub chosen_of : Result (Result Chosen AllocError) RepositoryFault → Result Chosen CommandFault
@@ -79,32 +80,32 @@ chosen_of (Err shelf) = Err (shelf_fault shelf)
 
 -- The books of a name were opened, if there are any, and the records of these names chosen, one after the
 -- other.
-pub record IsListAnswered (names : List (List ℕ)) (book : List ℕ) (old new : Shelf)
+pub record IsListAnswered (withheld : Bool) (names : List (List ℕ)) (book : List ℕ) (old new : Shelf)
     (answered : ListAnswered) : Type 0 where
   pub told : Result (Result Chosen AllocError) RepositoryFault
-  pub done : IsOpened (ChoosesBy old.naming names) book old new told
+  pub done : IsOpened (ChoosesBy withheld old.naming names) book old new told
   pub there : IsThere book old new told
   pub says : answered.chosen ≡ chosen_of told
   pub log : new.has_log book answered.has_log
   pub change : answered.is_change ≡ true
 
 -- Or they were visited as a copy, and the records chosen there: the books are as they were.
-pub record IsListTried (names : List (List ℕ)) (book : List ℕ) (old new : Shelf)
+pub record IsListTried (withheld : Bool) (names : List (List ℕ)) (book : List ℕ) (old new : Shelf)
     (answered : ListAnswered) : Type 0 where
   pub told : Result (Result Chosen AllocError) RepositoryFault
-  pub tried : IsTried (ChoosesBy old.naming names) book old new told
+  pub tried : IsTried (ChoosesBy withheld old.naming names) book old new told
   pub there : IsThere book old new told
   pub says : answered.chosen ≡ chosen_of told
   pub log : new.has_log book answered.has_log
   pub change : answered.is_change ≡ false
 
 -- the one or the other, as it is asked for
-abbrev pub IsListBy : Bool → List (List ℕ) → List ℕ → Shelf → Shelf → ListAnswered → Type 0
-IsListBy true names book old new answered = IsListTried names book old new answered
-IsListBy false names book old new answered = IsListAnswered names book old new answered
+abbrev pub IsListBy : Bool → Bool → List (List ℕ) → List ℕ → Shelf → Shelf → ListAnswered → Type 0
+IsListBy true withheld names book old new answered = IsListTried withheld names book old new answered
+IsListBy false withheld names book old new answered = IsListAnswered withheld names book old new answered
 
 -- so with the names of a list in a file that had these bytes
-pub record AnswersList (tried : Bool) (had : Option (List ℕ)) (book : List ℕ) (old new : Shelf)
+pub record AnswersList (tried withheld : Bool) (had : Option (List ℕ)) (book : List ℕ) (old new : Shelf)
     (answered : ListAnswered) : Type 0 where
   pub names : List (List ℕ)
   pub lines : List ℕ
@@ -112,17 +113,18 @@ pub record AnswersList (tried : Bool) (had : Option (List ℕ)) (book : List ℕ
   pub all : AreAllOf (front_of had) names
   pub placed : AreLinesOf (front_of had) lines
   pub numbered : answered.lines.items ≡ lines
-  pub came : IsListBy tried names book old new answered
+  pub came : IsListBy tried withheld names book old new answered
 
 -- why nothing is chosen by a file that had these bytes, of books that are refused for these reasons
 abbrev pub ChoosesNothing : Option (List ℕ) → (RepositoryFault → Type 0) → CommandFault → Type 0
 ChoosesNothing had Refuses why = IsShelfFault Refuses why ⊎ IsListFault (front_of had) why
 
 -- what came of a list
-abbrev pub ComesOfList : Bool → Option (List ℕ) → List ℕ → Shelf → Shelf
+abbrev pub ComesOfList : Bool → Bool → Option (List ℕ) → List ℕ → Shelf → Shelf
     → Result ListAnswered CommandFault → Type 0
-ComesOfList tried had book old new (Ok answered) = AnswersList tried had book old new answered
-ComesOfList tried had book old new (Err why) =
+ComesOfList tried withheld had book old new (Ok answered) =
+    AnswersList tried withheld had book old new answered
+ComesOfList tried withheld had book old new (Err why) =
     ChoosesNothing had (old.refuses book) why × IsUntouched book old new
 
 -- the number of the line of a name, by its place among the names, each of which has one
@@ -170,8 +172,8 @@ TellsList (Ok answered) held holds Failed ended = TellsListAnswered answered hel
 TellsList (Err why) held holds Failed ended = (holds ≡ held) × (ended ≡ without_log (Err why))
 
 -- The command, or a dry run of it: what came of the list, and what was told of that.
-pub record ChoosesListed (tried : Bool) (had : Option (List ℕ)) (book : List ℕ) (old new : Shelf)
+pub record ChoosesListed (tried withheld : Bool) (had : Option (List ℕ)) (book : List ℕ) (old new : Shelf)
     (held holds : Option (List ℕ)) (Failed : Type 0) (ended : Ended) : Type 0 where
   pub answered : Result ListAnswered CommandFault
-  pub comes : ComesOfList tried had book old new answered
+  pub comes : ComesOfList tried withheld had book old new answered
   pub tells : TellsList answered held holds Failed ended

@@ -4,6 +4,7 @@ use Rattle.std.specs.Prelude.{◌≡◌, ◌≢◌, ⊤, Bool, false, ℕ, List,
 use Rattle.std.specs.Prelude.{IfErr, IfOk, OnErr, OnOk, Result, Ok, Err, String, true, ℤ}
 use Rattle.std.specs.Global.{Global}
 use Rattle.std.specs.declared.alloc.AllocError.{AllocError}
+use Rattle.smf_frames.specs.declared.dump.Layout.{Layout}
 use Rattle.streams.specs.Failures.{HasFailed}
 use Rattle.streams.specs.InputOutput.{Input}
 use Rattle.tariff_rules.specs.Limits.{most_rate}
@@ -16,6 +17,7 @@ use Rattle.book_audit.specs.declared.audited.Audited.{Audited}
 use Rattle.book_audit.specs.declared.audited.Audited.TheVariants.{Sound, Unsound}
 use Rattle.book_http.specs.declared.served.Served.{Served}
 use Rattle.book_http.specs.declared.served.Served.TheVariants as served
+use Rattle.book_import.specs.declared.dump_names.DumpNames.{DumpNames}
 use Rattle.book_lists.specs.declared.fault.ReportFault.{ReportFault}
 use Rattle.book_lists.specs.Streamed.{WritesUntilOrRefuses}
 use Rattle.office.specs.declared.choosing.Chosen.{Chosen}
@@ -25,6 +27,8 @@ use Rattle.office.specs.declared.request.Asked.{Asked}
 use Rattle.office.specs.Choices.{ChoosesEach, are_hindered, choices_outcome}
 use Rattle.office.specs.Outcomes.{asked_outcome, is_hindered}
 use Rattle.office.specs.Requests.{Asks, Dump, Gives, response_by}
+use Rattle.office.specs.Withholdings.{WithholdsSo}
+use Rattle.office.specs.declared.withholding.WorksTold.{WorksTold}
 use Rattle.named_books.specs.Shelves.{Shelf, OpenedAnew, WhereUnopened}
 use Rattle.command_line.specs.declared.request.BookRequest.{BookRequest}
 use Rattle.command_line.specs.declared.request.BookRequest.TheVariants as book
@@ -57,6 +61,8 @@ use Rattle.chargectl.specs.NearRulings.{near_answer_of}
 use Rattle.chargectl.specs.Requests.{Answering, CommandsBy, IsServiceFault, WritesEarly, WritesLines}
 use Rattle.chargectl.specs.StreamedLists.{WritesSomeOf, list_answer, list_end, list_of}
 use Rattle.chargectl.specs.Serving.{AllCame, AnswersSome, IsToldOf, service_end}
+use Rattle.chargectl.specs.WithheldWorks.{IsNamedOf, TellsDump, WithholdsNothing}
+use Rattle.chargectl.specs.declared.withheld_works.WorksAnswered.{WorksAnswered}
 
 -- a command: its words, its input, its output and standard error before and after it, its status, and
 -- the place of the books after it; and what the files that it may read held
@@ -209,26 +215,27 @@ pub record NearOfHistory (files : Files) (naming : Naming) (history : List Event
 -- those of the choices that were answered, and of one that a fault of the store hindered maybe its own.
 -- Unless a lack of memory or the store hindered one, that is what the definitions say of the history,
 -- looked at as a whole.
-pub record ChoicesMade (naming : Naming) (history : List Event) (names : List (List ℕ))
-    (chosen : Chosen) (made : List Event) : Type 0 where
+pub record ChoicesMade (withheld : Bool) (naming : Naming) (history : List Event)
+    (names : List (List ℕ)) (chosen : Chosen) (made : List Event) : Type 0 where
   pub left : Bool
-  pub work : ChoosesEach naming names chosen.answers.items chosen.refusal false (book_of history) made
-      left
+  pub work : ChoosesEach withheld naming names chosen.answers.items chosen.refusal false
+      (book_of history) made left
   pub is : are_hindered chosen.refusal ≡ false
-      → choices_outcome naming names (book_of history) ≡ record {
+      → choices_outcome withheld naming names (book_of history) ≡ record {
         answers = chosen.answers.items;
         refusal = chosen.refusal;
         events = made;
       }
 
 -- without memory for the answers none was chosen
-abbrev pub ChoicesFollow : Naming → List Event → List (List ℕ) → Result Chosen AllocError → List Event
-    → Type 0
-ChoicesFollow naming history names (Ok chosen) made = ChoicesMade naming history names chosen made
-ChoicesFollow naming history names (Err none) made = made ≡ []
+abbrev pub ChoicesFollow : Bool → Naming → List Event → List (List ℕ) → Result Chosen AllocError
+    → List Event → Type 0
+ChoicesFollow withheld naming history names (Ok chosen) made =
+    ChoicesMade withheld naming history names chosen made
+ChoicesFollow withheld naming history names (Err none) made = made ≡ []
 
 -- the names of a list, in a file that had these bytes, were chosen, and so it was told
-pub record ListOf (had : Option (List ℕ)) (naming : Naming) (history : List Event)
+pub record ListOf (withheld : Bool) (had : Option (List ℕ)) (naming : Naming) (history : List Event)
     (Refuses : RepositoryFault → Type 0) (answered : ListAnswered) (made : List Event) : Type 0 where
   pub names : List (List ℕ)
   pub lines : List ℕ
@@ -237,28 +244,28 @@ pub record ListOf (had : Option (List ℕ)) (naming : Naming) (history : List Ev
   pub placed : AreLinesOf (front_of had) lines
   pub numbered : answered.lines.items ≡ lines
   pub told : Result (Result Chosen AllocError) RepositoryFault
-  pub follows : OpenedSo Refuses (ChoicesFollow naming history names) told made
+  pub follows : OpenedSo Refuses (ChoicesFollow withheld naming history names) told made
   pub says : answered.chosen ≡ chosen_of told
 
 -- or none were
-abbrev pub ListBy : Option (List ℕ) → Naming → List Event → (RepositoryFault → Type 0)
+abbrev pub ListBy : Bool → Option (List ℕ) → Naming → List Event → (RepositoryFault → Type 0)
     → Result ListAnswered CommandFault → List Event → Type 0
-ListBy had naming history Refuses (Ok answered) made =
-    ListOf had naming history Refuses answered made
-ListBy had naming history Refuses (Err why) made = ChoosesNothing had Refuses why × (made ≡ [])
+ListBy withheld had naming history Refuses (Ok answered) made =
+    ListOf withheld had naming history Refuses answered made
+ListBy withheld had naming history Refuses (Err why) made = ChoosesNothing had Refuses why × (made ≡ [])
 
 -- and that was written
-pub record ListOfHistory (had : Option (List ℕ)) (naming : Naming) (history : List Event)
-    (Refuses : RepositoryFault → Type 0) (held holds : Option (List ℕ)) (Failed : Type 0)
-    (ended : Ended) (made : List Event) : Type 0 where
+pub record ListOfHistory (withheld : Bool) (had : Option (List ℕ)) (naming : Naming)
+    (history : List Event) (Refuses : RepositoryFault → Type 0) (held holds : Option (List ℕ))
+    (Failed : Type 0) (ended : Ended) (made : List Event) : Type 0 where
   pub came : Result ListAnswered CommandFault
-  pub listed : ListBy had naming history Refuses came made
+  pub listed : ListBy withheld had naming history Refuses came made
   pub tells : TellsList came held holds Failed ended
 
 -- The names of a list, in a file that had these bytes, were chosen on a copy of the books of a history, and so
 -- it was told: as if they had been chosen.
-pub record ListTriedOf (had : Option (List ℕ)) (naming : Naming) (history : List Event)
-    (Refuses : RepositoryFault → Type 0) (answered : ListAnswered) : Type 0 where
+pub record ListTriedOf (withheld : Bool) (had : Option (List ℕ)) (naming : Naming)
+    (history : List Event) (Refuses : RepositoryFault → Type 0) (answered : ListAnswered) : Type 0 where
   pub names : List (List ℕ)
   pub lines : List ℕ
   pub listed : AreListed names lines
@@ -267,24 +274,56 @@ pub record ListTriedOf (had : Option (List ℕ)) (naming : Naming) (history : Li
   pub numbered : answered.lines.items ≡ lines
   pub told : Result (Result Chosen AllocError) RepositoryFault
   pub follows : IfOk told (λ chosen. (events : List Event)
-      × ChoicesFollow naming history names chosen events)
+      × ChoicesFollow withheld naming history names chosen events)
   pub refused : IfErr told Refuses
   pub says : answered.chosen ≡ chosen_of told
 
 -- or none were
-abbrev pub ListTriedBy : Option (List ℕ) → Naming → List Event → (RepositoryFault → Type 0)
+abbrev pub ListTriedBy : Bool → Option (List ℕ) → Naming → List Event → (RepositoryFault → Type 0)
     → Result ListAnswered CommandFault → Type 0
-ListTriedBy had naming history Refuses (Ok answered) = ListTriedOf had naming history Refuses answered
-ListTriedBy had naming history Refuses (Err why) = ChoosesNothing had Refuses why
+ListTriedBy withheld had naming history Refuses (Ok answered) =
+    ListTriedOf withheld had naming history Refuses answered
+ListTriedBy withheld had naming history Refuses (Err why) = ChoosesNothing had Refuses why
 
 -- that was written, and no event was made
-pub record ListTriedOfHistory (had : Option (List ℕ)) (naming : Naming) (history : List Event)
-    (Refuses : RepositoryFault → Type 0) (held holds : Option (List ℕ)) (Failed : Type 0)
-    (ended : Ended) (made : List Event) : Type 0 where
+pub record ListTriedOfHistory (withheld : Bool) (had : Option (List ℕ)) (naming : Naming)
+    (history : List Event) (Refuses : RepositoryFault → Type 0) (held holds : Option (List ℕ))
+    (Failed : Type 0) (ended : Ended) (made : List Event) : Type 0 where
   pub came : Result ListAnswered CommandFault
-  pub tried : ListTriedBy had naming history Refuses came
+  pub tried : ListTriedBy withheld had naming history Refuses came
   pub tells : TellsList came held holds Failed ended
   pub none : made ≡ []
+
+-- After a history the works of the records of these names were withheld, one change of the books after the
+-- other, which made these events: each answer is the one that the definitions give for the history with
+-- the events before it.
+pub record WorksMade (naming : Naming) (history : List Event) (names : List (List ℕ))
+    (told : WorksTold) (made : List Event) : Type 0 where
+  pub left : Bool
+  pub work : WithholdsSo naming names told.counts told.refusal false (book_of history) made left
+
+-- so were those of a dump, in a file that had these bytes
+pub record WorksOf (layout : Layout) (had : Option (List ℕ)) (naming : Naming) (history : List Event)
+    (Refuses : RepositoryFault → Type 0) (answered : WorksAnswered) (made : List Event) : Type 0 where
+  pub named : DumpNames
+  pub read : IsNamedOf layout had named
+  pub follows : OpenedSo Refuses (WorksMade naming history named.names.items) answered.told made
+  pub stop : answered.stop ≡ named.stop
+
+-- or none were
+abbrev pub DumpBy : Layout → Option (List ℕ) → Naming → List Event → (RepositoryFault → Type 0)
+    → Result WorksAnswered CommandFault → List Event → Type 0
+DumpBy layout had naming history Refuses (Ok answered) made =
+    WorksOf layout had naming history Refuses answered made
+DumpBy layout had naming history Refuses (Err why) made = WithholdsNothing Refuses why × (made ≡ [])
+
+-- and that was written
+pub record DumpOfHistory (layout : Layout) (had : Option (List ℕ)) (naming : Naming)
+    (history : List Event) (Refuses : RepositoryFault → Type 0) (held holds : Option (List ℕ))
+    (Failed : Type 0) (ended : Ended) (made : List Event) : Type 0 where
+  pub came : Result WorksAnswered CommandFault
+  pub withheld : DumpBy layout had naming history Refuses came made
+  pub tells : TellsDump came held holds Failed ended
 
 -- One client was replied to, and these events were made; or the place refused the books, for any reason.
 pub record AnswersOrNot (naming : Naming) (what : Served) (was : Bool) (before : Book)
@@ -426,10 +465,13 @@ DoesToHistory files naming history Refuses (book.Serve port requests) held holds
     ServesOfHistory naming history Refuses requests held holds Failed ended made
 DoesToHistory files naming history Refuses (book.List asked) held holds Failed ended made =
     ListsAskedOfHistory (list_of asked) naming history Refuses held holds ended made
-DoesToHistory files naming history Refuses (book.ChooseListed file) held holds Failed ended made =
-    ListOfHistory (files.holds file.now) naming history Refuses held holds Failed ended made
-DoesToHistory files naming history Refuses (book.TryListed file) held holds Failed ended made =
-    ListTriedOfHistory (files.holds file.now) naming history Refuses held holds Failed ended made
+DoesToHistory files naming history Refuses (book.ChooseListed withheld file) held holds Failed ended made =
+    ListOfHistory withheld (files.holds file.now) naming history Refuses held holds Failed ended made
+DoesToHistory files naming history Refuses (book.TryListed withheld file) held holds Failed ended made =
+    ListTriedOfHistory withheld (files.holds file.now) naming history Refuses held holds Failed ended
+    made
+DoesToHistory files naming history Refuses (book.WithholdDump file layout) held holds Failed ended made =
+    DumpOfHistory layout (files.holds file.now) naming history Refuses held holds Failed ended made
 DoesToHistory files naming history Refuses (book.DryRun ruling) held holds Failed ended made =
     TriesOfHistory files naming history Refuses ruling held holds Failed ended made
 DoesToHistory files naming history Refuses (book.RuleNear ruling) held holds Failed ended made =

@@ -6,7 +6,8 @@ use Rattle.std.specs.Borrow.{Bor}
 use Rattle.std.specs.Io.KnownBytes.{Keeps}
 use Rattle.streams.specs.InputOutput.{Input}
 use Rattle.book_model.specs.declared.fault.LedgerFault.{LedgerFault}
-use Rattle.book_model.specs.Words.{day_of_text_of, Book, Event, Naming}
+use Rattle.book_model.specs.declared.fault.LedgerFault.TheVariants as ledger
+use Rattle.book_model.specs.Words.{day_of_text_of, is_reason, Book, Event, Naming}
 use Rattle.book_core.specs.Words.{MakesAnswered, Transition}
 use Rattle.book_reports.specs.declared.report.Report.{Report}
 use Rattle.book_reports.specs.declared.what_if.StatementForm.{StatementForm}
@@ -39,6 +40,7 @@ use Rattle.without_books.specs.Inputs.{Files}
 use Rattle.without_books.specs.Reading.{IsUnfit}
 use Rattle.chargectl.specs.declared.dated_rulings.DatedAnswer.{DatedAnswer}
 use Rattle.chargectl.specs.declared.answered.Answered.{Answered}
+use Rattle.chargectl.specs.Amounts.{amount_in}
 use Rattle.chargectl.specs.Far.{far_notice}
 use Rattle.office.specs.declared.request.Asked.TheVariants as asks
 use Rattle.office.specs.declared.request.OwnedRuling.TheVariants as owned
@@ -55,6 +57,11 @@ abbrev pub asked_centre : Option (Bor (List ℕ)) → Option (Option (List ℕ))
 asked_centre None = Some None
 asked_centre (Some text) = option_map Some (centre_named text.now)
 
+-- the tariff of a day that another took the place of, by the SHA-256 of its text
+abbrev pub replaced_by : Option ℤ → Option (List ℕ) → Option About
+replaced_by (Some day) (Some digest) = Some (about.OfReplaced day digest)
+replaced_by day digest = None
+
 -- what words say that a report is about, if each of them is what it has to be
 abbrev pub about_of : Words → Option About
 about_of (worded.OfCentre period) =
@@ -62,6 +69,7 @@ about_of (worded.OfCentre period) =
 about_of (worded.OfPeriod period) = Some (about.OfPeriod period)
 about_of worded.OfOffice = Some about.OfOffice
 about_of (worded.OfDay date) = option_map about.OfDay (day_of_text_of date.now)
+about_of (worded.OfReplaced date digest) = replaced_by (day_of_text_of date.now) (name_in digest.now)
 about_of (worded.OfRecord name) = option_map about.OfRecord (name_in name.now)
 
 -- the report that they ask for, or its page
@@ -80,6 +88,22 @@ what_if_for form period centre = record { form = form; period = period; centre =
 abbrev pub what_if_of : StatementForm → PeriodWords → Option WhatIf
 what_if_of form period = option_map (what_if_for form period.number) (asked_centre period.centre)
 
+-- what the words of a credit say: the centre and the amount; or which of them is none, the first before the
+-- others
+abbrev pub reason_said : List ℕ × ℤ → List ℕ → Result (List ℕ × ℤ) CommandFault
+reason_said said reason = if is_reason reason then Ok said else Err fault.Reason
+
+abbrev pub amount_said : List ℕ → Option ℤ → List ℕ → Result (List ℕ × ℤ) CommandFault
+amount_said centre None reason = Err fault.Amount
+amount_said centre (Some amount) reason = reason_said (centre, amount) reason
+
+abbrev pub credit_said : Option (List ℕ) → Option ℤ → List ℕ → Result (List ℕ × ℤ) CommandFault
+credit_said None amount reason = Err fault.Argument
+credit_said (Some centre) amount reason = amount_said centre amount reason
+
+abbrev pub credit_words : List ℕ → List ℕ → List ℕ → Result (List ℕ × ℤ) CommandFault
+credit_words centre amount reason = credit_said (centre_named centre) (amount_in amount) reason
+
 -- The table: what a command asks of the office. The text of a tariff is what the file of that name holds.
 abbrev pub IsAskedBy : Files → BookRequest → Asked → Type 0
 IsAskedBy files (book.Import dump) (asks.Import layout) = layout ≡ dump.layout
@@ -90,6 +114,14 @@ IsAskedBy files (book.Rule (ruling.Close period date)) (asks.Rule (owned.Close n
 IsAskedBy files (book.Rule (ruling.Choose name)) (asks.Rule (owned.Choose chosen)) =
     name_in name.now ≡ Some chosen
 IsAskedBy files (book.Rule ruling.Adopt) (asks.Rule (owned.Adopt rule)) = rule ≡ 2
+IsAskedBy files (book.Rule (ruling.Replace file)) (asks.Rule (owned.Replace text)) =
+    IfSome (files.holds file.now) (λ held. string_bytes text ≡ held)
+IsAskedBy files (book.Rule (ruling.Withhold name)) (asks.Rule (owned.Withhold named)) =
+    name_in name.now ≡ Some named
+IsAskedBy files (book.Rule (ruling.Credit period centre amount reason))
+    (asks.Rule (owned.Credit number named value text)) =
+    (number ≡ period) × (credit_words centre.now amount.now reason.now ≡ Ok (named, value))
+    × (string_bytes text ≡ reason.now)
 IsAskedBy files (book.Report said) (asks.Report printed) = report_of said ≡ Some printed
 IsAskedBy files (book.WhatIf form period file) (asks.WhatIf report text) =
     (what_if_of form period ≡ Some report)
@@ -189,6 +221,13 @@ abbrev pub IsWordFault : {A : Type 0} → Option A → (CommandFault → Type 0)
 IsWordFault None IsLater why = why ≡ fault.Argument
 IsWordFault (Some read) IsLater why = IsLater why
 
+-- the words of a credit are not what they have to be, before anything else; or else the books were refused,
+-- or there was no memory for the reason
+abbrev pub IsCreditFault : Result (List ℕ × ℤ) CommandFault → (RepositoryFault → Type 0) → CommandFault
+    → Type 0
+IsCreditFault (Err said) Refuses why = why ≡ said
+IsCreditFault (Ok said) Refuses why = IsShelfFault Refuses why ⊎ (why ≡ fault.Ledger ledger.Memory)
+
 -- why a command asks nothing, of books that are refused for these reasons
 abbrev pub AsksNothing : Files → BookRequest → (RepositoryFault → Type 0) → CommandFault → Type 0
 AsksNothing files (book.Import dump) Refuses why =
@@ -199,6 +238,12 @@ AsksNothing files (book.Rule (ruling.Close period date)) Refuses why =
     IsWordFault (day_of_text_of date.now) (IsShelfFault Refuses) why
 AsksNothing files (book.Rule (ruling.Choose name)) Refuses why =
     IsWordFault (name_in name.now) (IsShelfFault Refuses) why
+AsksNothing files (book.Rule (ruling.Replace file)) Refuses why =
+    IsTariffFault (files.holds file.now) Refuses why
+AsksNothing files (book.Rule (ruling.Withhold name)) Refuses why =
+    IsWordFault (name_in name.now) (IsShelfFault Refuses) why
+AsksNothing files (book.Rule (ruling.Credit period centre amount reason)) Refuses why =
+    IsCreditFault (credit_words centre.now amount.now reason.now) Refuses why
 AsksNothing files (book.Report said) Refuses why =
     IsWordFault (report_of said) (IsShelfFault Refuses) why
 AsksNothing files (book.WhatIf form period file) Refuses why =
@@ -237,12 +282,16 @@ abbrev pub HasDump : Files → BookRequest → Option (List ℕ) → Type 0
 HasDump files (book.Import dump) had = Keeps (files.holds dump.file.now) had
 HasDump files request had = ⊤
 
--- a ruling has a day, which may be far from the records
+-- a ruling has a day, which may be far from the records; a tariff in the place of another has the day of
+-- that one
 abbrev pub is_dated : Ruling → Bool
 is_dated (ruling.Tariff file) = true
 is_dated (ruling.Close period date) = true
 is_dated (ruling.Choose digest) = false
 is_dated ruling.Adopt = false
+is_dated (ruling.Replace file) = false
+is_dated (ruling.Withhold digest) = false
+is_dated (ruling.Credit period centre amount reason) = false
 
 -- A command asked what its words ask.
 pub record Asking (files : Files) (request : BookRequest) (book : List ℕ) (old new : Shelf)

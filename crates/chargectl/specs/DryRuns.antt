@@ -9,6 +9,7 @@ use Rattle.book_model.specs.declared.fault.LedgerFault.{LedgerFault}
 use Rattle.book_model.specs.declared.fault.LedgerFault.TheVariants.{Memory, TariffRefused}
 use Rattle.book_model.specs.Words.{AreMadeOf, Book, Event, Naming, Terms, adopt_outcome}
 use Rattle.book_model.specs.Words.{choose_outcome, close_outcome, tariff_outcome, terms_in}
+use Rattle.book_model.specs.Words.{credit_outcome, replace_outcome, withhold_outcome}
 use Rattle.book_core.specs.Follow.{MakesAnswered}
 use Rattle.book_core.specs.Transition.{Transition}
 use Rattle.report_texts.specs.declared.dry_runs.TriedRuling.{TriedRuling}
@@ -53,11 +54,18 @@ IsNamedBy (asks.Rule (owned.Tariff text)) named =
 IsNamedBy (asks.Rule (owned.Close period through)) named = named ≡ tried.Close period through
 IsNamedBy (asks.Rule (owned.Choose name)) named = named ≡ tried.Choose name
 IsNamedBy (asks.Rule (owned.Adopt rule)) named = named ≡ tried.Adopt
+IsNamedBy (asks.Rule (owned.Replace text)) named =
+    (terms : Terms) × (terms_in (string_bytes text) ≡ Ok terms) × (named ≡ tried.Replace terms.effective)
+IsNamedBy (asks.Rule (owned.Withhold name)) named = named ≡ tried.Withhold name
+IsNamedBy (asks.Rule (owned.Credit period centre amount reason)) named =
+    named ≡ tried.Credit period centre
 IsNamedBy asked named = ⊥
 
 -- why it has no name: the text is no tariff
 abbrev pub IsUnnamed : Asked → LedgerFault → Type 0
 IsUnnamed (asks.Rule (owned.Tariff text)) fault =
+    (why : TariffFault) × (terms_in (string_bytes text) ≡ Err why) × (fault ≡ TariffRefused why)
+IsUnnamed (asks.Rule (owned.Replace text)) fault =
     (why : TariffFault) × (terms_in (string_bytes text) ≡ Err why) × (fault ≡ TariffRefused why)
 IsUnnamed asked fault = ⊥
 
@@ -82,6 +90,13 @@ tariff_tried naming text (Ok terms) book =
     dry_answer naming (tried.Tariff terms.effective) (tariff_outcome text book) book
 tariff_tried naming text (Err why) book = Err (TariffRefused why)
 
+-- the same in the place of another
+abbrev pub replacement_tried : Naming → List ℕ → Result Terms TariffFault → Book
+    → Result (List ℕ) LedgerFault
+replacement_tried naming text (Ok terms) book =
+    dry_answer naming (tried.Replace terms.effective) (replace_outcome text book) book
+replacement_tried naming text (Err why) book = Err (TariffRefused why)
+
 -- What is told of a ruling that was tried, by the book before it: its refusal, or the text of the figures of
 -- this book and of the book after it.
 abbrev pub TellsDry : Naming → Asked → Book → Result Response LedgerFault → Type 0
@@ -94,6 +109,16 @@ TellsDry naming (asks.Rule (owned.Choose name)) book told =
     told ≡ shown_by Text (dry_answer naming (tried.Choose name) (choose_outcome naming name book) book)
 TellsDry naming (asks.Rule (owned.Adopt rule)) book told =
     told ≡ shown_by Text (dry_answer naming tried.Adopt (adopt_outcome rule book) book)
+TellsDry naming (asks.Rule (owned.Replace text)) book told =
+    told ≡ shown_by Text
+    (replacement_tried naming (string_bytes text) (terms_in (string_bytes text)) book)
+TellsDry naming (asks.Rule (owned.Withhold name)) book told =
+    told ≡ shown_by Text
+    (dry_answer naming (tried.Withhold name) (withhold_outcome naming name book) book)
+TellsDry naming (asks.Rule (owned.Credit period centre amount reason)) book told =
+    told ≡ shown_by Text
+    (dry_answer naming (tried.Credit period centre)
+    (credit_outcome period centre amount (string_bytes reason) book) book)
 TellsDry naming asked book told = ⊥
 
 -- what the ruling would be answered by a book

@@ -35,6 +35,7 @@ use Rattle.chargectl.specs.NearRulings.{RulesNear}
 use Rattle.chargectl.specs.StreamedLists.{ListsAsked, list_of}
 use Rattle.chargectl.specs.Upgrades.{UpgradesBy}
 use Rattle.chargectl.specs.Serving.{AllCame, ServesInTurn, lines_of, ready, service_end}
+use Rattle.chargectl.specs.WithheldWorks.{WithholdsDump}
 
 -- new books were made, or not, and nothing was written
 pub record Makes (book : List ℕ) (old new : Shelf) (held holds : Option (List ℕ)) (ended : Ended)
@@ -106,10 +107,14 @@ Does files shelf (book.Serve port requests) name old new held holds Failed ended
     SettlesBy (ServesBy shelf requests name old new held holds Failed) ended
 Does files shelf (book.List asked) name old new held holds Failed ended =
     SettlesBy (ListsAsked (list_of asked) name (shelf old) (shelf new) held holds Failed) ended
-Does files shelf (book.ChooseListed file) name old new held holds Failed ended =
-    ChoosesListed false (files.holds file.now) name (shelf old) (shelf new) held holds Failed ended
-Does files shelf (book.TryListed file) name old new held holds Failed ended =
-    ChoosesListed true (files.holds file.now) name (shelf old) (shelf new) held holds Failed ended
+Does files shelf (book.ChooseListed withheld file) name old new held holds Failed ended =
+    ChoosesListed false withheld (files.holds file.now) name (shelf old) (shelf new) held holds Failed
+    ended
+Does files shelf (book.TryListed withheld file) name old new held holds Failed ended =
+    ChoosesListed true withheld (files.holds file.now) name (shelf old) (shelf new) held holds Failed
+    ended
+Does files shelf (book.WithholdDump file layout) name old new held holds Failed ended =
+    WithholdsDump layout (files.holds file.now) name (shelf old) (shelf new) held holds Failed ended
 Does files shelf (book.DryRun ruling) name old new held holds Failed ended =
     TriesAndTells files ruling name (shelf old) (shelf new) held holds Failed ended
 Does files shelf (book.RuleNear ruling) name old new held holds Failed ended =

@@ -1,14 +1,19 @@
-//! What the office is asked for a ruling. Faults are found in this order: a date or a name, the
-//! books, the file.
+//! What the office is asked for a ruling. Faults are found in this order: a date, a name, an amount or
+//! a reason, the books, the file.
 
+ghost use Rattle.std.specs.Prelude.{◌≡◌, IfOk};
+ghost use Rattle.book_model.specs.Words.{IsCreditOf};
 ghost use Rattle.without_books.specs.Inputs.{Files};
+ghost use Rattle.chargectl.specs.Commands as spec;
 ghost use Rattle.chargectl.specs.DryRuns.{IsAskedFor};
 
+use crate::amounts::amount_of_text;
+use book_core::is_reason;
 use command_line::{BookRequest, Ruling};
 use named_books::Repository;
-use office::{Asked, OwnedRuling};
+use office::{Asked, OwnedRuling, centre_named};
 use program_output::name_of_text;
-use smf_text::day_of_text;
+use smf_text::{Name, day_of_text};
 use std::alloc::Global;
 use without_books::{CommandFault, Inputs, tariff_text};
 
@@ -31,6 +36,14 @@ pub(crate) fn asked_ruling<S: Repository, F: Inputs>(
         Ruling::Close { period, date } => asked_close(repository, book, period, date),
         Ruling::Choose { name } => asked_choice(repository, book, name),
         Ruling::Adopt => asked_adoption(repository, book),
+        Ruling::Replace { file } => asked_replacement(alloc, repository, inputs, book, file),
+        Ruling::Withhold { name } => asked_withholding(repository, book, name),
+        Ruling::Credit {
+            period,
+            centre,
+            amount,
+            reason,
+        } => asked_credit(alloc, repository, book, period, centre, amount, reason),
     }
 }
 
@@ -48,6 +61,22 @@ fn asked_tariff<S: Repository, F: Inputs>(
     repository.expect(book)?;
     let text = tariff_text(alloc, inputs, file)?;
     Ok(Asked::Rule(OwnedRuling::Tariff(text)))
+}
+
+/// What is asked for a tariff in the place of another, by its file.
+fn asked_replacement<S: Repository, F: Inputs>(
+    alloc: Global,
+    repository: &S,
+    inputs: &F,
+    book: &str,
+    file: &str,
+) -> Result<Asked, CommandFault>
+    ensures { IsAskedFor (F.held inputs.now) (BookRequest.Rule (Ruling.Replace file.entry))
+        ((S.shelf repository.now).refuses book.now) result }
+{
+    repository.expect(book)?;
+    let replacement = tariff_text(alloc, inputs, file)?;
+    Ok(Asked::Rule(OwnedRuling::Replace(replacement)))
 }
 
 /// What is asked for a close.
@@ -85,6 +114,23 @@ fn asked_choice<S: Repository>(
     Ok(Asked::Rule(OwnedRuling::Choose(chosen)))
 }
 
+/// What is asked for a choice of none.
+fn asked_withholding<S: Repository>(
+    repository: &S,
+    book: &str,
+    name: &str,
+) -> Result<Asked, CommandFault>
+    ensures { (files : Files) → IsAskedFor files (BookRequest.Rule (Ruling.Withhold name.entry))
+        ((S.shelf repository.now).refuses book.now) result }
+{
+    let named = match name_of_text(name) {
+        Some(named) => named,
+        None => return Err(CommandFault::Argument),
+    };
+    repository.expect(book)?;
+    Ok(Asked::Rule(OwnedRuling::Withhold(named)))
+}
+
 /// What is asked for the adoption of the later rule of identity.
 fn asked_adoption<S: Repository>(repository: &S, book: &str) -> Result<Asked, CommandFault>
     ensures { (files : Files) → IsAskedFor files (BookRequest.Rule Ruling.Adopt)
@@ -92,4 +138,51 @@ fn asked_adoption<S: Repository>(repository: &S, book: &str) -> Result<Asked, Co
 {
     repository.expect(book)?;
     Ok(Asked::Rule(OwnedRuling::Adopt(LATER_RULE)))
+}
+
+/// The centre and the amount that the words of a credit say.
+fn credit_words(centre: &str, amount: &str, reason: &str) -> Result<(Name, i64), CommandFault>
+    ensures said { result ≡ spec.credit_words centre.now amount.now reason.now }
+    ensures limits { IfOk result (λ said. IsCreditOf said.0 said.1 reason.now) }
+{
+    let centre = match centre_named(centre) {
+        Some(centre) => centre,
+        None => return Err(CommandFault::Argument),
+    };
+    let amount = match amount_of_text(amount) {
+        Some(amount) => amount,
+        None => return Err(CommandFault::Amount),
+    };
+    if !is_reason(reason) {
+        return Err(CommandFault::Reason);
+    }
+    Ok((centre, amount))
+}
+
+/// What is asked for a credit.
+fn asked_credit<S: Repository>(
+    alloc: Global,
+    repository: &S,
+    book: &str,
+    period: u16,
+    centre: &str,
+    amount: &str,
+    reason: &str,
+) -> Result<Asked, CommandFault>
+    ensures { (files : Files) → IsAskedFor files
+        (BookRequest.Rule (Ruling.Credit period centre.entry amount.entry reason.entry))
+        ((S.shelf repository.now).refuses book.now) result }
+{
+    let said = match credit_words(centre, amount, reason) {
+        Ok(said) => said,
+        Err(fault) => return Err(fault),
+    };
+    repository.expect(book)?;
+    let text = String::from_str(alloc, reason)?;
+    Ok(Asked::Rule(OwnedRuling::Credit {
+        period,
+        centre: said.0,
+        amount: said.1,
+        reason: text,
+    }))
 }

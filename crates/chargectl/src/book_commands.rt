@@ -213,7 +213,8 @@ pub(crate) fn print<O: Writer + Drop>(answer: &Answer, output: O) -> (Result<(),
     }
 }
 
-/// It has a day, which may be far from the records.
+/// It has a day, which may be far from the records. A tariff in the place of another has the day of
+/// that one.
 fn is_dated(ruling: Ruling<'_>) -> bool
     ensures { result ≡ spec.is_dated ruling.entry }
 {
@@ -222,6 +223,9 @@ fn is_dated(ruling: Ruling<'_>) -> bool
         Ruling::Close { .. } => true,
         Ruling::Choose { .. } => false,
         Ruling::Adopt => false,
+        Ruling::Replace { .. } => false,
+        Ruling::Withhold { .. } => false,
+        Ruling::Credit { .. } => false,
     }
 }
 

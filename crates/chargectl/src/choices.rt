@@ -26,6 +26,8 @@ use without_books::{CommandFault, Ended, Inputs};
 #[derive(Drop)]
 struct ListedChoices {
     alloc: Global,
+    /// Their works are withheld, and none of them is chosen.
+    withheld: bool,
     names: Vec<[u8; 32]>,
 }
 
@@ -33,14 +35,16 @@ impl Visit for ListedChoices {
     /// What came of them. An error is a lack of memory for their answers.
     type Answer = Result<Chosen, AllocError>;
 
-    ghost work = { λ naming choices _ told. ChoosesBy naming choices.names.items told };
+    ghost work = { λ naming choices _ told.
+        ChoosesBy choices.withheld naming choices.names.items told };
 
     ghost comes = { λ _ _ _. Unit {0} };
 
-    ghost answered = { λ naming choices _ told. list_answered naming choices.names.items told };
+    ghost answered = { λ naming choices _ told.
+        list_answered choices.withheld naming choices.names.items told };
 
     fn visit<L: Ledger>(&mut self, books: &mut L) -> Result<Chosen, AllocError> {
-        choose_each(self.alloc, books, &self.names)
+        choose_each(self.alloc, books, self.withheld, &self.names)
     }
 }
 
@@ -57,8 +61,8 @@ pub(crate) struct ListAnswered {
     pub(crate) is_change: bool,
 }
 
-/// Chooses the records that a list names, one after the other up to the first refusal, or tries that
-/// on a copy of the books, and writes the answers.
+/// Chooses the records that a list names, or withholds their works, one after the other up to the first
+/// refusal, or tries that on a copy of the books, and writes the answers.
 pub(crate) fn choose_listed<S: Repository, F: Inputs, O: Writer + Drop>(
     alloc: Global,
     repository: &mut S,
@@ -66,13 +70,14 @@ pub(crate) fn choose_listed<S: Repository, F: Inputs, O: Writer + Drop>(
     book: &str,
     file: &str,
     tried: bool,
+    withheld: bool,
     output: O,
 ) -> (Ended, O)
-    ensures { ChoosesListed tried ((F.held inputs.now).holds file.now) book.now (S.shelf repository.old)
+    ensures { ChoosesListed tried withheld ((F.held inputs.now).holds file.now) book.now (S.shelf repository.old)
         (S.shelf repository.new) (O.contents output) (O.contents result.1)
         (∥ HasFailed O.may_answer result.1 ∥₁) result.0 }
 {
-    let answered = ask_listed(alloc, repository, inputs, book, file, tried);
+    let answered = ask_listed(alloc, repository, inputs, book, file, tried, withheld);
     tell_list(alloc, answered, output)
 }
 
@@ -84,13 +89,14 @@ fn ask_listed<S: Repository, F: Inputs>(
     book: &str,
     file: &str,
     tried: bool,
+    withheld: bool,
 ) -> Result<ListAnswered, CommandFault>
-    ensures { ComesOfList tried ((F.held inputs.now).holds file.now) book.now (S.shelf repository.old)
+    ensures { ComesOfList tried withheld ((F.held inputs.now).holds file.now) book.now (S.shelf repository.old)
         (S.shelf repository.new) result }
 {
     repository.expect(book)?;
     let listed = read_list(alloc, inputs, file)?;
-    Ok(answer_names(alloc, repository, book, listed, tried))
+    Ok(answer_names(alloc, repository, book, listed, tried, withheld))
 }
 
 /// The names of a list in a file.
@@ -141,15 +147,16 @@ fn answer_names<S: Repository>(
     book: &str,
     listed: Listed,
     tried: bool,
+    withheld: bool,
 ) -> ListAnswered
-    ensures came { IsListBy tried listed.names.items book.now (S.shelf repository.old)
+    ensures came { IsListBy tried withheld listed.names.items book.now (S.shelf repository.old)
         (S.shelf repository.new) result }
     ensures lines { result.lines.items ≡ listed.lines.items }
 {
     if tried {
-        return try_names(alloc, repository, book, listed);
+        return try_names(alloc, repository, book, withheld, listed);
     }
-    choose_names(alloc, repository, book, listed)
+    choose_names(alloc, repository, book, withheld, listed)
 }
 
 /// Chooses the records of these names on a copy of the books, which is let go.
@@ -157,14 +164,19 @@ fn try_names<S: Repository>(
     alloc: Global,
     repository: &mut S,
     book: &str,
+    withheld: bool,
     listed: Listed,
 ) -> ListAnswered
-    ensures came { IsListTried listed.names.items book.now (S.shelf repository.old)
+    ensures came { IsListTried withheld listed.names.items book.now (S.shelf repository.old)
         (S.shelf repository.new) result }
     ensures lines { result.lines.items ≡ listed.lines.items }
 {
     let Listed { names, lines } = listed;
-    let mut choices = ListedChoices { alloc, names };
+    let mut choices = ListedChoices {
+        alloc,
+        withheld,
+        names,
+    };
     let Opened { answer, has_log } = repository.try_out(book, &mut choices);
     ListAnswered {
         chosen: chosen_in(answer),
@@ -179,14 +191,19 @@ fn choose_names<S: Repository>(
     alloc: Global,
     repository: &mut S,
     book: &str,
+    withheld: bool,
     listed: Listed,
 ) -> ListAnswered
-    ensures came { IsListAnswered listed.names.items book.now (S.shelf repository.old)
+    ensures came { IsListAnswered withheld listed.names.items book.now (S.shelf repository.old)
         (S.shelf repository.new) result }
     ensures lines { result.lines.items ≡ listed.lines.items }
 {
     let Listed { names, lines } = listed;
-    let mut choices = ListedChoices { alloc, names };
+    let mut choices = ListedChoices {
+        alloc,
+        withheld,
+        names,
+    };
     let Opened { answer, has_log } = repository.open(book, &mut choices);
     ListAnswered {
         chosen: chosen_in(answer),

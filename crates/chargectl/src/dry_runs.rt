@@ -159,6 +159,14 @@ fn named(alloc: Global, asked: &Asked) -> Result<TriedRuling, LedgerFault>
         }),
         Asked::Rule(OwnedRuling::Choose(name)) => Ok(TriedRuling::Choose(*name)),
         Asked::Rule(OwnedRuling::Adopt(_)) => Ok(TriedRuling::Adopt),
+        Asked::Rule(OwnedRuling::Replace(text)) => {
+            Ok(TriedRuling::Replace(Tariff::parse(alloc, text)?.effective()))
+        }
+        Asked::Rule(OwnedRuling::Withhold(name)) => Ok(TriedRuling::Withhold(*name)),
+        Asked::Rule(OwnedRuling::Credit { period, centre, .. }) => Ok(TriedRuling::Credit {
+            period: *period,
+            centre: *centre,
+        }),
         // Nothing else is a ruling.
         _ => Err(LedgerFault::Memory),
     }

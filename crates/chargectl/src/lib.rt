@@ -1,6 +1,7 @@
 //! What the program of the chargeback office does with its words and streams.
 #![tactic(auto)]
 
+mod amounts;
 mod answered;
 mod arriving;
 mod asked_rulings;
@@ -23,6 +24,7 @@ mod streamed_lists;
 mod upgrades;
 mod waiting;
 mod watched_rows;
+mod withheld_works;
 
 pub use client_requests::{Attended, serve_request};
 pub use due::Due;

@@ -16,6 +16,7 @@ use crate::report_commands::{report, what_if};
 use crate::serve::serve;
 use crate::streamed_lists::list;
 use crate::upgrades::upgrade;
+use crate::withheld_works::withhold_dump;
 use book_audit::AuditedRepository;
 use command_line::{ArgumentFault, BookRequest, Request, requested_by};
 use named_books::{RepositoryFault, WaitingRepository};
@@ -137,12 +138,35 @@ fn run_on_books<S: AuditedRepository, F: Inputs, O: Writer + Drop>(
         BookRequest::Import(dump) => {
             tell(import_dump(rt, repository, inputs, book, dump), output)
         }
-        BookRequest::ChooseListed { file } => {
-            choose_listed(rt.alloc(), repository, inputs, book, file, false, output)
-        }
-        BookRequest::TryListed { file } => {
-            choose_listed(rt.alloc(), repository, inputs, book, file, true, output)
-        }
+        BookRequest::ChooseListed { none, file } => choose_listed(
+            rt.alloc(),
+            repository,
+            inputs,
+            book,
+            file,
+            false,
+            none,
+            output,
+        ),
+        BookRequest::TryListed { none, file } => choose_listed(
+            rt.alloc(),
+            repository,
+            inputs,
+            book,
+            file,
+            true,
+            none,
+            output,
+        ),
+        BookRequest::WithholdDump { file, layout } => withhold_dump(
+            rt.alloc(),
+            repository,
+            inputs,
+            book,
+            file,
+            layout,
+            output,
+        ),
         BookRequest::DryRun(ruling) => tell(dry_run(rt, repository, inputs, book, ruling), output),
         BookRequest::Report(words) => tell(report(rt, repository, book, words), output),
         BookRequest::List(words) => {

@@ -75,6 +75,11 @@ pub(crate) fn about_of(words: Words<'_>) -> Option<About>
             let day = day_of_text(date)?;
             Some(About::OfDay(day))
         }
+        Words::OfReplaced { date, digest } => {
+            let day = day_of_text(date)?;
+            let digest = name_of_text(digest)?;
+            Some(About::OfReplaced { day, digest })
+        }
         Words::OfRecord(name) => {
             let named = name_of_text(name)?;
             Some(About::OfRecord(named))

@@ -58,7 +58,7 @@ bookless = codes "trial" ∷ codes "check" ∷ codes "explain" ∷ []
 
 abbrev pub changes : List Text
 changes = codes "init" ∷ codes "tariff" ∷ codes "import" ∷ codes "close" ∷ codes "choose"
-    ∷ codes "adopt" ∷ []
+    ∷ codes "adopt" ∷ codes "credit" ∷ []
 
 abbrev pub services : List Text
 services = codes "statement" ∷ codes "upgrade" ∷ codes "audit" ∷ codes "backup" ∷ codes "serve" ∷ []

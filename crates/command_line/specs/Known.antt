@@ -80,8 +80,22 @@ file = place (codes "file") any
 abbrev pub period : WordSeen
 period = place (codes "period") (at_most most_number)
 
+-- the centre that is credited, with what, and why
+abbrev pub credited : WordSeen
+credited = place (codes "centre") any
+
+abbrev pub amount : WordSeen
+amount = place (codes "amount") any
+
+abbrev pub reason : WordSeen
+reason = place (codes "reason") any
+
 abbrev pub date : WordSeen
 date = place (codes "date") any
+
+-- the text of a tariff that another took the place of
+abbrev pub replaced : WordSeen
+replaced = named_if_given (codes "replaced") any
 
 abbrev pub digest : WordSeen
 digest = place_if_given (codes "sha256") any
@@ -91,6 +105,9 @@ record_name = place (codes "sha256") any
 
 abbrev pub names : WordSeen
 names = named_if_given (codes "from") any
+
+abbrev pub dumped : WordSeen
+dumped = named_if_given (codes "dump") any
 
 abbrev pub number_kind : WordSeen
 number_kind = place (codes "kind") (among (codes "frame" ∷ codes "ledger" ∷ codes "tariff"
@@ -134,6 +151,12 @@ dry_run = flag (codes "dry-run")
 abbrev pub near : WordSeen
 near = flag (codes "near")
 
+abbrev pub replace : WordSeen
+replace = flag (codes "replace")
+
+abbrev pub none : WordSeen
+none = flag (codes "none")
+
 abbrev pub csv : WordSeen
 csv = flag (codes "csv")
 
@@ -161,9 +184,10 @@ named_by about.OfOffice = []
 named_by about.OfDay = date ∷ []
 named_by about.OfRecord = record_name ∷ []
 
--- and of which centre
+-- and of which centre, or which tariff that another took the place of
 abbrev pub chosen_by : subject.Shape → List WordSeen
 chosen_by about.OfCentre = centre ∷ []
+chosen_by about.OfDay = replaced ∷ []
 chosen_by other = []
 
 -- what may be a table or a page, or be made by other prices
@@ -197,11 +221,16 @@ commands_above = (
 ) ∷
     (codes "check", layouts ∷ quiet ∷ whole ∷ with_names ∷ file ∷ explain ∷ []) ∷
     (codes "init", book ∷ explain ∷ []) ∷
-    (codes "tariff", book ∷ file ∷ dry_run ∷ near ∷ wait ∷ explain ∷ []) ∷
+    (codes "tariff", book ∷ file ∷ dry_run ∷ near ∷ replace ∷ wait ∷ explain ∷ []) ∷
     (codes "import", book ∷ file ∷ layouts ∷ quiet ∷ whole ∷ wait ∷ explain ∷ []) ∷
-    (codes "close", book ∷ period ∷ date ∷ dry_run ∷ near ∷ wait ∷ explain ∷ []) ∷
-    (codes "choose", book ∷ digest ∷ names ∷ dry_run ∷ wait ∷ explain ∷ []) ∷
-    (codes "adopt", book ∷ dry_run ∷ wait ∷ explain ∷ []) ∷
+    (codes "close", book ∷ period ∷ date ∷ dry_run ∷ near ∷ wait ∷ explain ∷ []) ∷ (
+      codes "choose",
+      book ∷ digest ∷ names ∷ dumped ∷ layouts ∷ dry_run ∷ none ∷ wait ∷ explain ∷ [],
+    ) ∷
+    (codes "adopt", book ∷ dry_run ∷ wait ∷ explain ∷ []) ∷ (
+      codes "credit",
+      book ∷ period ∷ credited ∷ amount ∷ reason ∷ dry_run ∷ wait ∷ explain ∷ [],
+    ) ∷
     []
 
 abbrev pub commands_below : List (Text × List WordSeen)

@@ -1,6 +1,7 @@
 -- Which request clap's matches are: the name of a command, and what was found for its arguments.
 use Rattle.std.specs.Prelude.{◌≡◌, ◌⊎◌, ◌&&◌, ◌||◌, ◌==◌, ℕ, Bool, true, false, List, Option, codes}
-use Rattle.std.specs.Prelude.{Some, None, IsSome, IsSomeAnd, bytes_eq, nat_lt, not, slice_get, ⊤}
+use Rattle.std.specs.Prelude.{Some, None, IsSome, IsSomeAnd, bytes_eq, is_some, nat_lt, not}
+use Rattle.std.specs.Prelude.{slice_get, ⊤}
 use Rattle.std.specs.Borrow.{Bor}
 use Rattle.std.specs.Option.{option_map_or}
 use Rattle.std.specs.Str.Parse.{IsNumeral, digits_value, without_leading_plus}
@@ -131,7 +132,10 @@ abbrev pub HasShape : Shape → List Row → Words → Type 0
 HasShape shape.OfCentre rows (worded.OfCentre period) = NamesPeriod rows period
 HasShape shape.OfPeriod rows (worded.OfPeriod period) = IsPeriod rows period
 HasShape shape.OfOffice rows worded.OfOffice = ⊤
-HasShape shape.OfDay rows (worded.OfDay date) = IsText rows (codes "date") date
+HasShape shape.OfDay rows (worded.OfDay date) =
+    IsText rows (codes "date") date × IsLeftOut rows (codes "replaced")
+HasShape shape.OfDay rows (worded.OfReplaced date digest) =
+    IsText rows (codes "date") date × IsText rows (codes "replaced") digest
 HasShape shape.OfRecord rows (worded.OfRecord digest) = IsText rows (codes "sha256") digest
 HasShape other rows words = ⊥
 
@@ -150,13 +154,25 @@ pub record AsksReport (name : Text) (rows : List Row) (asked : ReportAsked) : Ty
 abbrev pub IsRuling : Text → List Row → Ruling → Type 0
 IsRuling name rows (ruling.Tariff file) =
     (name ≡ codes "tariff") × IsText rows (codes "file") file
+    × IsFlag rows (codes "replace") false
 IsRuling name rows (ruling.Close period date) =
     (name ≡ codes "close") × IsPeriod rows period
     × IsText rows (codes "date") date
 IsRuling name rows (ruling.Choose digest) =
     (name ≡ codes "choose") × IsText rows (codes "sha256") digest
-    × IsLeftOut rows (codes "from")
+    × IsLeftOut rows (codes "from") × IsLeftOut rows (codes "dump")
+    × IsFlag rows (codes "none") false
 IsRuling name rows ruling.Adopt = name ≡ codes "adopt"
+IsRuling name rows (ruling.Replace file) =
+    (name ≡ codes "tariff") × IsText rows (codes "file") file
+    × IsFlag rows (codes "replace") true
+IsRuling name rows (ruling.Withhold digest) =
+    (name ≡ codes "choose") × IsText rows (codes "sha256") digest
+    × IsLeftOut rows (codes "from") × IsLeftOut rows (codes "dump")
+    × IsFlag rows (codes "none") true
+IsRuling name rows (ruling.Credit period centre amount reason) =
+    (name ≡ codes "credit") × IsPeriod rows period × IsText rows (codes "centre") centre
+    × IsText rows (codes "amount") amount × IsText rows (codes "reason") reason
 
 -- whether only what would change is asked for
 abbrev pub IsDryRun : List Row → Bool → Type 0
@@ -166,7 +182,12 @@ IsDryRun rows value = IsFlag rows (codes "dry-run") value
 abbrev pub IsNear : List Row → Ruling → Bool → Type 0
 IsNear rows (ruling.Tariff file) value = IsFlag rows (codes "near") value
 IsNear rows (ruling.Close period date) value = IsFlag rows (codes "near") value
+IsNear rows (ruling.Replace file) value = IsFlag rows (codes "near") value
 IsNear rows other value = value ≡ false
+
+-- a record is named, or a list of names
+abbrev pub names_some : List Row → Bool
+names_some rows = is_some (first_of (codes "sha256") rows) || is_some (first_of (codes "from") rows)
 
 -- what is asked of books
 abbrev pub IsOfBooks : Text → List Row → BookRequest → Type 0
@@ -176,12 +197,17 @@ IsOfBooks name rows (book.Rule ruled) =
 IsOfBooks name rows (book.RuleNear ruled) =
     IsRuling name rows ruled × IsDryRun rows false × IsNear rows ruled true
 IsOfBooks name rows (book.Import dump) = (name ≡ codes "import") × IsDump rows dump
-IsOfBooks name rows (book.ChooseListed file) =
+IsOfBooks name rows (book.ChooseListed none file) =
     (name ≡ codes "choose") × IsLeftOut rows (codes "sha256")
-    × IsText rows (codes "from") file × IsDryRun rows false
-IsOfBooks name rows (book.TryListed file) =
+    × IsText rows (codes "from") file × IsLeftOut rows (codes "dump")
+    × IsFlag rows (codes "none") none × IsDryRun rows false
+IsOfBooks name rows (book.TryListed none file) =
     (name ≡ codes "choose") × IsLeftOut rows (codes "sha256")
-    × IsText rows (codes "from") file × IsDryRun rows true
+    × IsText rows (codes "from") file × IsLeftOut rows (codes "dump")
+    × IsFlag rows (codes "none") none × IsDryRun rows true
+IsOfBooks name rows (book.WithholdDump file layout) =
+    (name ≡ codes "choose") × IsText rows (codes "dump") file × IsLayout rows layout
+    × (names_some rows ≡ false) × IsFlag rows (codes "none") true × IsDryRun rows false
 IsOfBooks name rows (book.DryRun ruled) = IsRuling name rows ruled × IsDryRun rows true
 IsOfBooks name rows (book.Report asked) =
     AsksReport name rows asked × ((reports.row_of asked.name).streamed ≡ false)
@@ -243,9 +269,12 @@ has_plain_period rows = option_map_or is_plain (first_of (codes "period") rows) 
 -- words that do not say what is asked, alone or together
 abbrev pub IsUnclear : Text → List Row → Unclear → Type 0
 IsUnclear name rows unclear.Choice =
-    (name ≡ codes "choose")
+    (name ≡ codes "choose") × IsLeftOut rows (codes "dump")
     × ((IsGiven rows (codes "sha256") × IsGiven rows (codes "from"))
     ⊎ (IsLeftOut rows (codes "sha256") × IsLeftOut rows (codes "from")))
+IsUnclear name rows unclear.Dump =
+    (name ≡ codes "choose") × IsGiven rows (codes "dump")
+    × (IsFlag rows (codes "none") false ⊎ (IsDryRun rows true ⊎ (names_some rows ≡ true)))
 IsUnclear name rows unclear.Prices =
     (name ≡ codes "trial") × IsGiven rows (codes "tariff") × NamesRate rows
 IsUnclear name rows unclear.Period = has_plain_period rows ≡ false

@@ -10,11 +10,16 @@ pub(crate) enum Help {
     Tariff,
     Copy,
     Period,
+    Credited,
+    Amount,
+    Reason,
     Date,
     FirstDay,
+    Replaced,
     Sha256,
     RecordName,
     Names,
+    Dumped,
     Layout,
     Quiet,
     Whole,
@@ -22,6 +27,8 @@ pub(crate) enum Help {
     Explain,
     DryRun,
     Near,
+    Replace,
+    NoneOf,
     Csv,
     DisputeCsv,
     Html,
@@ -46,13 +53,20 @@ impl Help {
             Help::Tariff => "The file of the tariff",
             Help::Copy => "The file of the copy, which is not there yet",
             Help::Period => "The number of the period, from 1",
+            Help::Credited => "The centre that is credited",
+            Help::Amount => {
+                "What it owes less, such as 12.5000; what it owes more stands behind --, as -3.0000"
+            }
+            Help::Reason => "Why, in 1 to 200 printable characters: it stands on the bill",
             Help::Date => "The last day of the period, such as 2024-01-31",
             Help::FirstDay => "The tariff's first day, such as 2024-01-01",
+            Help::Replaced => "The file that another took the place of, as the rulings show it",
             Help::Sha256 => "The record's name, as the list of disputes shows it",
             Help::RecordName => {
                 "The record's name, as details and the lists of disputes and adjustments show it"
             }
             Help::Names => "A file of records' names in place of SHA256, one a line",
+            Help::Dumped => "With --none, a dump in place of SHA256: the works of its records",
             Help::Layout => {
                 "How the dump is laid out: segments one after another (rdw), or in blocks (bdw)"
             }
@@ -66,6 +80,8 @@ impl Help {
             }
             Help::DryRun => "Prints what would change, and changes nothing",
             Help::Near => "Refuses a day that is far after the newest record, or after today",
+            Help::Replace => "Puts it in the place of the tariff that begins on its first day",
+            Help::NoneOf => "Charges no record of that work, until one of them is chosen",
             Help::Csv => "As comma-separated values, without the total",
             Help::DisputeCsv => "As comma-separated values, a line for each record",
             Help::Html => "As a page for a browser and for paper",
@@ -91,19 +107,22 @@ impl Help {
         match self {
             Help::Book => "BOOK",
             Help::Dump | Help::Tariff | Help::Copy => "FILE",
-            Help::Names | Help::Prices | Help::OtherPrices => "FILE",
+            Help::Names | Help::Dumped | Help::Prices | Help::OtherPrices => "FILE",
             Help::Period => "PERIOD",
             Help::Date | Help::FirstDay => "DATE",
-            Help::Sha256 | Help::RecordName => "SHA256",
+            Help::Sha256 | Help::RecordName | Help::Replaced => "SHA256",
             Help::Layout => "LAYOUT",
             Help::Wait => "SECONDS",
-            Help::Centre => "CENTRE",
+            Help::Centre | Help::Credited => "CENTRE",
+            Help::Amount => "AMOUNT",
+            Help::Reason => "REASON",
             Help::Cpu | Help::Excp | Help::Record => "RATE",
             Help::Port => "PORT",
             Help::Requests | Help::Number => "NUMBER",
             Help::NumberKind => "KIND",
             Help::Quiet | Help::Whole | Help::WithNames => "",
             Help::Explain | Help::DryRun | Help::Near => "",
+            Help::Replace | Help::NoneOf => "",
             Help::Csv | Help::DisputeCsv | Help::Html => "",
         }
     }

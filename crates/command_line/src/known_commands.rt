@@ -62,15 +62,25 @@ const COPY: Argument = Argument::InPlace("file", Help::Copy, ValueKind::Text);
 
 const PERIOD: Argument = Argument::InPlace("period", Help::Period, ValueKind::AtMost(MOST_NUMBER));
 
+const CREDITED: Argument = Argument::InPlace("centre", Help::Credited, ValueKind::Text);
+
+const AMOUNT: Argument = Argument::InPlace("amount", Help::Amount, ValueKind::Text);
+
+const REASON: Argument = Argument::InPlace("reason", Help::Reason, ValueKind::Text);
+
 const DATE: Argument = Argument::InPlace("date", Help::Date, ValueKind::Text);
 
 const FIRST_DAY: Argument = Argument::InPlace("date", Help::FirstDay, ValueKind::Text);
+
+const REPLACED: Argument = Argument::NamedIfGiven("replaced", Help::Replaced, ValueKind::Text);
 
 const SHA256: Argument = Argument::InPlaceIfGiven("sha256", Help::Sha256, ValueKind::Text);
 
 const RECORD_NAME: Argument = Argument::InPlace("sha256", Help::RecordName, ValueKind::Text);
 
 const NAMES: Argument = Argument::NamedIfGiven("from", Help::Names, ValueKind::Text);
+
+const DUMPED: Argument = Argument::NamedIfGiven("dump", Help::Dumped, ValueKind::Text);
 
 const LAYOUT: Argument = Argument::NamedOr(
     "layout",
@@ -90,6 +100,10 @@ const EXPLAIN: Argument = Argument::Flag("explain", Help::Explain);
 const DRY_RUN: Argument = Argument::Flag("dry-run", Help::DryRun);
 
 const NEAR: Argument = Argument::Flag("near", Help::Near);
+
+const REPLACE: Argument = Argument::Flag("replace", Help::Replace);
+
+const NONE: Argument = Argument::Flag("none", Help::NoneOf);
 
 const CSV: Argument = Argument::Flag("csv", Help::Csv);
 
@@ -137,7 +151,7 @@ const NUMBER: Argument = Argument::InPlaceOr(
 
 /// The commands in the order of the program's help. The commands of reports have the words that the
 /// rows of `report_rows` give them.
-pub(crate) static KNOWN_COMMANDS: [KnownCommand; 25] = [
+pub(crate) static KNOWN_COMMANDS: [KnownCommand; 26] = [
     KnownCommand {
         name: "trial",
         about: "Prices a dump from standard input in new books, and prints their statement",
@@ -156,7 +170,7 @@ pub(crate) static KNOWN_COMMANDS: [KnownCommand; 25] = [
     KnownCommand {
         name: "tariff",
         about: "Puts a tariff in force from its first day on",
-        words: &[BOOK, TARIFF, DRY_RUN, NEAR, WAIT, EXPLAIN],
+        words: &[BOOK, TARIFF, DRY_RUN, NEAR, REPLACE, WAIT, EXPLAIN],
     },
     KnownCommand {
         name: "import",
@@ -171,12 +185,21 @@ pub(crate) static KNOWN_COMMANDS: [KnownCommand; 25] = [
     KnownCommand {
         name: "choose",
         about: "Charges one of several records in dispute with each other, and none of the others",
-        words: &[BOOK, SHA256, NAMES, DRY_RUN, WAIT, EXPLAIN],
+        words: &[
+            BOOK, SHA256, NAMES, DUMPED, LAYOUT, DRY_RUN, NONE, WAIT, EXPLAIN,
+        ],
     },
     KnownCommand {
         name: "adopt",
         about: "Takes steps that began at different times for different work, for good",
         words: &[BOOK, DRY_RUN, WAIT, EXPLAIN],
+    },
+    KnownCommand {
+        name: "credit",
+        about: "Takes an amount off what a centre owes for the open period, for a reason",
+        words: &[
+            BOOK, PERIOD, CREDITED, AMOUNT, REASON, DRY_RUN, WAIT, EXPLAIN,
+        ],
     },
     KnownCommand {
         name: "statement",
@@ -230,13 +253,13 @@ pub(crate) static KNOWN_COMMANDS: [KnownCommand; 25] = [
     },
     KnownCommand {
         name: "rulings",
-        about: "Prints the tariffs, the closes, the choices and the adoption",
+        about: "Prints all rulings: the tariffs, the closes, the choices and the others",
         words: &[BOOK, WAIT, EXPLAIN],
     },
     KnownCommand {
         name: "tariff-text",
         about: "Prints the tariff file that begins on a day, byte for byte",
-        words: &[BOOK, FIRST_DAY, WAIT, EXPLAIN],
+        words: &[BOOK, FIRST_DAY, REPLACED, WAIT, EXPLAIN],
     },
     KnownCommand {
         name: "upgrade",

@@ -1,13 +1,14 @@
 //! The command that `clap` found in the words.
 
 ghost use Rattle.std.specs.Prelude.{◌≡◌, ◌≢◌, [], ◌∷◌, ◌++◌, IfSome, IsSome, IsSomeAnd, codes};
-ghost use Rattle.std.specs.Prelude.{false};
+ghost use Rattle.std.specs.Prelude.{false, is_some};
 ghost use Rattle.clap.specs.Simple.{subcommand_rows_of};
+ghost use Rattle.clap.specs.Walk.{first_of};
 ghost use Rattle.command_line.specs.Given.{HasWord, HasWords, HasWordsOf, NoneIs, bookless, changes};
 ghost use Rattle.command_line.specs.Given.{services};
 ghost use Rattle.command_line.specs.Known as known;
 ghost use Rattle.command_line.specs.Requests.{IsAtOnce, IsLeftOut, IsOfBooks, IsOfCommand, IsRequest};
-ghost use Rattle.command_line.specs.Requests.{IsDryRun, IsNear, IsRuling, IsText, rows_in};
+ghost use Rattle.command_line.specs.Requests.{IsDryRun, IsFlag, IsNear, IsRuling, IsText, rows_in};
 ghost use Rattle.command_line.specs.Requests as spec;
 
 use crate::given_words::{
@@ -77,6 +78,7 @@ fn change_in<'a>(name: &str, found: &ArgMatches<'a>) -> Option<Request<'a>>
         "close" => of_books_in(found, close_in(found)),
         "choose" => choice_in(found),
         "adopt" => of_books_in(found, ruling_in(found, false, Ruling::Adopt)),
+        "credit" => of_books_in(found, credit_in(found)),
         _ => service_in(name, found),
     }
 }
@@ -227,11 +229,25 @@ fn tariff_in<'a>(found: &ArgMatches<'a>) -> Option<BookRequest<'a>>
     ensures asked { IfSome result (IsOfBooks (codes "tariff") (rows_in found.now)) }
     ensures some { HasWord (rows_in found.now) known.file
         → HasWord (rows_in found.now) known.dry_run → HasWord (rows_in found.now) known.near
-        → IsSome result }
+        → HasWord (rows_in found.now) known.replace → IsSome result }
 {
     let file = text_in(found, "file")?;
     let near = flag_in(found, "near")?;
-    ruling_in(found, near, Ruling::Tariff { file })
+    let replace = flag_in(found, "replace")?;
+    ruling_in(found, near, submitted(replace, file))
+}
+
+/// A tariff, or one in the place of another.
+fn submitted<'a>(replace: bool, file: &'a str) -> Ruling<'a>
+    ensures ruling { (rows : _) → IsText rows (codes "file") file.entry
+        → IsFlag rows (codes "replace") replace → IsRuling (codes "tariff") rows result }
+    ensures near { (rows : _) (near : _) → IsFlag rows (codes "near") near
+        → IsNear rows result near }
+{
+    if replace {
+        return Ruling::Replace { file };
+    }
+    Ruling::Tariff { file }
 }
 
 fn close_in<'a>(found: &ArgMatches<'a>) -> Option<BookRequest<'a>>
@@ -245,6 +261,29 @@ fn close_in<'a>(found: &ArgMatches<'a>) -> Option<BookRequest<'a>>
     let date = text_in(found, "date")?;
     let near = flag_in(found, "near")?;
     ruling_in(found, near, Ruling::Close { period, date })
+}
+
+fn credit_in<'a>(found: &ArgMatches<'a>) -> Option<BookRequest<'a>>
+    ensures asked { IfSome result (IsOfBooks (codes "credit") (rows_in found.now)) }
+    ensures some { HasWord (rows_in found.now) known.period
+        → HasWord (rows_in found.now) known.credited → HasWord (rows_in found.now) known.amount
+        → HasWord (rows_in found.now) known.reason → HasWord (rows_in found.now) known.dry_run
+        → IsSome result }
+{
+    let period = number_in(found, "period")?;
+    let centre = text_in(found, "centre")?;
+    let amount = text_in(found, "amount")?;
+    let reason = text_in(found, "reason")?;
+    ruling_in(
+        found,
+        false,
+        Ruling::Credit {
+            period,
+            centre,
+            amount,
+            reason,
+        },
+    )
 }
 
 /// The ruling, or one that is made only where its day is not far.
@@ -272,48 +311,119 @@ fn ruling_in<'a>(found: &ArgMatches<'_>, near: bool, ruling: Ruling<'a>) -> Opti
     Some(ruled(near, ruling))
 }
 
-/// One choice, or those of the list that is named. With both, or neither, it is unclear.
+/// Choices, or that none of the works of a dump counts.
 fn choice_in<'a>(found: &ArgMatches<'a>) -> Option<Request<'a>>
     ensures request { IfSome result (IsOfCommand (codes "choose") (rows_in found.now)) }
     ensures some { HasWord (rows_in found.now) known.book
-        → HasWord (rows_in found.now) known.dry_run → HasWord (rows_in found.now) known.wait
+        → HasWord (rows_in found.now) known.layouts → HasWord (rows_in found.now) known.dry_run
+        → HasWord (rows_in found.now) known.none → HasWord (rows_in found.now) known.wait
         → IsSome result }
 {
+    match text_in(found, "dump") {
+        Some(file) => dumped_in(found, file),
+        None => chosen_in(found),
+    }
+}
+
+/// An argument was given.
+fn is_given(found: &ArgMatches<'_>, name: &str) -> bool
+    ensures { result ≡ is_some (first_of name.now (rows_in found.now)) }
+{
+    text_in(found, name).is_some()
+}
+
+/// A record is named, or a list of names.
+fn names_some(found: &ArgMatches<'_>) -> bool
+    ensures { result ≡ spec.names_some (rows_in found.now) }
+{
+    is_given(found, "sha256") || is_given(found, "from")
+}
+
+/// What is asked by a dump: that none of its works counts. Beside other choices, as a dry run or without
+/// `--none` it is unclear.
+fn dumped_in<'a>(found: &ArgMatches<'a>, file: &'a str) -> Option<Request<'a>>
+    ensures request { IsText (rows_in found.now) (codes "dump") file.entry
+        → IfSome result (IsOfCommand (codes "choose") (rows_in found.now)) }
+    ensures some { HasWord (rows_in found.now) known.book
+        → HasWord (rows_in found.now) known.layouts → HasWord (rows_in found.now) known.dry_run
+        → HasWord (rows_in found.now) known.none → HasWord (rows_in found.now) known.wait
+        → IsSome result }
+{
+    let layout = layout_in(found)?;
+    let tried = flag_in(found, "dry-run")?;
+    let none = flag_in(found, "none")?;
+    if !none {
+        return Some(Request::Unclear(Unclear::Dump));
+    }
+    if tried {
+        return Some(Request::Unclear(Unclear::Dump));
+    }
+    if names_some(found) {
+        return Some(Request::Unclear(Unclear::Dump));
+    }
+    of_books_in(found, Some(BookRequest::WithholdDump { file, layout }))
+}
+
+/// One choice, or those of the list that is named. With both, or neither, it is unclear.
+fn chosen_in<'a>(found: &ArgMatches<'a>) -> Option<Request<'a>>
+    ensures request { IsLeftOut (rows_in found.now) (codes "dump")
+        → IfSome result (IsOfCommand (codes "choose") (rows_in found.now)) }
+    ensures some { HasWord (rows_in found.now) known.book
+        → HasWord (rows_in found.now) known.dry_run → HasWord (rows_in found.now) known.none
+        → HasWord (rows_in found.now) known.wait → IsSome result }
+{
     let unclear = Some(Request::Unclear(Unclear::Choice));
+    let none = flag_in(found, "none")?;
     match text_in(found, "sha256") {
         Some(name) => match text_in(found, "from") {
             Some(_) => unclear,
-            None => of_books_in(found, ruling_in(found, false, Ruling::Choose { name })),
+            None => of_books_in(found, ruling_in(found, false, named_choice(none, name))),
         },
         None => match text_in(found, "from") {
-            Some(file) => listed_in(found, file),
+            Some(file) => listed_in(found, none, file),
             None => unclear,
         },
     }
 }
 
+/// The choice of a record, or that of none of its work.
+fn named_choice<'a>(none: bool, name: &'a str) -> Ruling<'a>
+    ensures ruling { (rows : _) → IsText rows (codes "sha256") name.entry
+        → IsLeftOut rows (codes "from") → IsLeftOut rows (codes "dump")
+        → IsFlag rows (codes "none") none → IsRuling (codes "choose") rows result }
+    ensures near { (rows : _) → IsNear rows result false }
+{
+    if none {
+        return Ruling::Withhold { name };
+    }
+    Ruling::Choose { name }
+}
+
 /// The choices of a list, or a dry run of them.
-fn listed<'a>(tried: bool, file: &'a str) -> BookRequest<'a>
+fn listed<'a>(tried: bool, none: bool, file: &'a str) -> BookRequest<'a>
     ensures { (rows : _) → IsLeftOut rows (codes "sha256") → IsText rows (codes "from") file.entry
-        → IsDryRun rows tried → IsOfBooks (codes "choose") rows result }
+        → IsLeftOut rows (codes "dump") → IsFlag rows (codes "none") none → IsDryRun rows tried
+        → IsOfBooks (codes "choose") rows result }
 {
     if tried {
-        return BookRequest::TryListed { file };
+        return BookRequest::TryListed { none, file };
     }
-    BookRequest::ChooseListed { file }
+    BookRequest::ChooseListed { none, file }
 }
 
 /// What is asked by a list.
-fn listed_in<'a>(found: &ArgMatches<'a>, file: &'a str) -> Option<Request<'a>>
+fn listed_in<'a>(found: &ArgMatches<'a>, none: bool, file: &'a str) -> Option<Request<'a>>
     ensures request { IsLeftOut (rows_in found.now) (codes "sha256")
         → IsText (rows_in found.now) (codes "from") file.entry
+        → IsLeftOut (rows_in found.now) (codes "dump")
+        → IsFlag (rows_in found.now) (codes "none") none
         → IfSome result (IsOfCommand (codes "choose") (rows_in found.now)) }
     ensures some { HasWord (rows_in found.now) known.book
         → HasWord (rows_in found.now) known.dry_run → HasWord (rows_in found.now) known.wait
         → IsSome result }
 {
     let tried = flag_in(found, "dry-run")?;
-    of_books_in(found, Some(listed(tried, file)))
+    of_books_in(found, Some(listed(tried, none, file)))
 }
 
 fn audit_in<'a>(found: &ArgMatches<'_>) -> Option<BookRequest<'a>>

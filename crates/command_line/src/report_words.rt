@@ -93,7 +93,10 @@ fn words_in<'a>(shape: Shape, found: &ArgMatches<'a>) -> Option<Words<'a>>
         Shape::OfOffice => Some(Words::OfOffice),
         Shape::OfDay => {
             let date = text_in(found, "date")?;
-            Some(Words::OfDay(date))
+            match text_in(found, "replaced") {
+                Some(digest) => Some(Words::OfReplaced { date, digest }),
+                None => Some(Words::OfDay(date)),
+            }
         }
         Shape::OfRecord => {
             let name = text_in(found, "sha256")?;

@@ -52,6 +52,9 @@ pub struct DumpFile<'a> {
 pub enum Unclear {
     /// Which records are chosen: a name and a list of names are given, or neither.
     Choice,
+    /// Of which works of a dump none counts: `--none` is not given, or a name, a list of names or a
+    /// dry run beside the dump.
+    Dump,
     /// What a trial prices by: a tariff and a rate are given.
     Prices,
     /// Which period: its number has a sign, or a 0 before other digits.
@@ -82,6 +85,26 @@ pub enum Ruling<'a> {
     },
     /// Identity rule 2 adopted for good.
     Adopt,
+    /// A tariff file submitted in the place of the tariff that begins on its first day.
+    Replace {
+        /// The path of the tariff.
+        file: &'a str,
+    },
+    /// None chosen of the work of a record.
+    Withhold {
+        /// Its name, as 64 hexadecimal digits.
+        name: &'a str,
+    },
+    /// A centre credited with an amount. Its texts may turn out to be none of these.
+    Credit {
+        /// The number of the period, which is to be open.
+        period: u16,
+        /// The name of the centre.
+        centre: &'a str,
+        /// The amount in money units, with four decimals.
+        amount: &'a str,
+        reason: &'a str,
+    },
 }
 
 /// The words that name a period, of the whole office or of one centre.
@@ -104,6 +127,12 @@ pub enum Words<'a> {
     OfOffice,
     /// The first day of a tariff, as `YYYY-MM-DD`.
     OfDay(&'a str),
+    /// That of a tariff which another took the place of.
+    OfReplaced {
+        date: &'a str,
+        /// The SHA-256 of its text, as 64 hexadecimal digits.
+        digest: &'a str,
+    },
     /// The name of a record, as 64 hexadecimal digits.
     OfRecord(&'a str),
 }
@@ -130,15 +159,26 @@ pub enum BookRequest<'a> {
     RuleNear(Ruling<'a>),
     /// A dump read into the books.
     Import(DumpFile<'a>),
-    /// The records of a list chosen, one after the other.
+    /// The records of a list chosen, or their works withheld, one after the other.
     ChooseListed {
+        /// Their works are withheld.
+        none: bool,
         /// The path of the list, which has a name a line.
         file: &'a str,
     },
     /// What the choices of a list would be answered printed, and nothing changed.
     TryListed {
+        /// Their works are withheld.
+        none: bool,
         /// The path of the list.
         file: &'a str,
+    },
+    /// The works of the records of a dump withheld, one after the other.
+    WithholdDump {
+        /// The path of the dump.
+        file: &'a str,
+        /// How its segments are laid out.
+        layout: Layout,
     },
     /// What a ruling would change printed, and nothing changed.
     DryRun(Ruling<'a>),

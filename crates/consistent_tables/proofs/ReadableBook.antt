@@ -7,19 +7,20 @@ use Rattle.std.proofs.lemmas.List.Elements.{All-weaker}
 use Rattle.std.proofs.lemmas.List.Sorted.{length_permutation}
 use Rattle.std.proofs.lemmas.Option.{same_Some}
 use Rattle.tariff_rules.specs.declared.priced.Priced.{Priced}
-use Rattle.book_model.specs.Words.{Book, Choice, IsPriced, IsSound, IsUsageRecord, Naming, has}
+use Rattle.book_model.specs.Words.{Book, Choice, Credit, IsPriced, IsSound, IsUsageRecord, Naming}
+use Rattle.book_model.specs.Words.{Replaced, has}
 use Rattle.book_model.specs.Words.{members, most_cost, most_held, open_by, price_in, total_of}
 use Rattle.table_model.specs.BookIn.{book_in, close_after, row_record}
 use Rattle.table_model.specs.DisputesRead.{NamedRow}
 use Rattle.table_model.specs.PeriodLists.{AreFramed, HasLines, IsApart}
-use Rattle.table_model.specs.Readable.{IsTimely, IsWithinLimits}
+use Rattle.table_model.specs.Readable.{IsCredited, IsReplaced, IsTimely, IsWithinLimits}
 use Rattle.table_model.specs.Tables.{RecordRow, Tables}
 use Rattle.table_model.specs.TablesOf.{tables_of}
 use Rattle.table_model.proofs.HeldPeriods.{period_apart}
 use Rattle.table_model.proofs.LateRows.{amount_is_read}
 use Rattle.table_model.proofs.RecordReading.{all_entries, all_permuted, records_of}
 use Rattle.table_model.proofs.RowsWhere.{members_held}
-use Rattle.consistent_tables.specs.Consistent.{AreConsistent, ruled}
+use Rattle.consistent_tables.specs.Consistent.{AreConsistent, IsOwnCredit, IsOwnReplaced, ruled}
 use Rattle.consistent_tables.specs.Laws.{ConsistentAreReadable}
 use Rattle.consistent_tables.proofs.ChargedSets.{days}
 use Rattle.consistent_tables.proofs.HeldRows.{held, row_of}
@@ -85,6 +86,8 @@ module _ (naming : Naming) (tables : Tables) (whole : AreConsistent naming table
     cost = subst (λ n. n ≤ most_cost) (whole.amount ∙ cost_is) whole.within;
     closes = whole.few_closes;
     choices = whole.few_choices;
+    credits = whole.few_credits;
+    replaced = whole.few_replaced;
   }
 
   -- the choices were made in periods that have begun
@@ -95,6 +98,25 @@ module _ (naming : Naming) (tables : Tables) (whole : AreConsistent naming table
       (IsTimely (book_in tables))
       (λ choice begun. record { numbered = begun.0; begun = begun.1 })
       (ruled tables).choices whole.timely
+
+  -- tariffs were replaced in periods that have begun, and credits were given in such ones
+  are_replaced : All (IsReplaced (book_in tables)) (ruled tables).replaced
+  are_replaced =
+      All-weaker (IsOwnReplaced (open_by (ruled tables))) (IsReplaced (book_in tables))
+      (λ (replaced : Replaced) own. record {
+        begun = record { numbered = own.begun.0; begun = own.begun.1 };
+        texted = own.texted;
+      })
+      (ruled tables).replaced whole.replaced_own
+
+  are_credited : All (IsCredited (book_in tables)) (ruled tables).credits
+  are_credited =
+      All-weaker (IsOwnCredit (open_by (ruled tables))) (IsCredited (book_in tables))
+      (λ (credit : Credit) own. record {
+        begun = record { numbered = own.begun.0; begun = own.begun.1 };
+        said = own.said;
+      })
+      (ruled tables).credits whole.credits_own
 
 -- the law
 pub consistent_are_readable : ConsistentAreReadable
@@ -110,5 +132,7 @@ consistent_are_readable naming tables whole = record {
   timely = are_timely naming tables whole;
   adopted = adopted naming tables whole;
   past = chain naming tables whole;
+  replaced = are_replaced naming tables whole;
+  credited = are_credited naming tables whole;
   limits = within_limits naming tables whole;
 }

@@ -5,18 +5,21 @@ use Rattle.std.proofs.Common.{unwrap_or, int_cmp}
 use Rattle.std.specs.FinMap.{from_entries}
 use Rattle.std.specs.List.Sorted.{IsStrictlySortedBy}
 use Rattle.std.proofs.lemmas.List.Elements.{All-weaker}
-use Rattle.book_model.specs.Words.{Book, IsDay, Naming, Rulings, first_rule, last_period}
-use Rattle.book_model.specs.Words.{most_choices, open_by, rows_of, second_rule}
+use Rattle.book_model.specs.Words.{Book, Credit, IsDay, Naming, Replaced, Rulings, first_rule}
+use Rattle.book_model.specs.Words.{last_period, most_choices, most_credits, most_replaced, open_by}
+use Rattle.book_model.specs.Words.{rows_of, second_rule}
 use Rattle.table_model.specs.DisputesRead.{NamedRow}
-use Rattle.table_model.specs.Readable.{IsBegun, IsReadable, IsTexted, IsTimely}
+use Rattle.table_model.specs.Readable.{IsBegun, IsCredited, IsReadable, IsReplaced, IsTexted}
+use Rattle.table_model.specs.Readable.{IsTimely}
 use Rattle.table_model.specs.Tables.{ChoiceRow, Tables, never_adopted}
 use Rattle.table_model.specs.TablesOf.{choice_row, close_entries, tables_of, tariff_entries}
-use Rattle.table_model.specs.TablesOf.{under_numbers}
+use Rattle.table_model.specs.TablesOf.{replaced_row, under_numbers}
 use Rattle.table_model.proofs.ChoiceReading.{choices_count}
 use Rattle.table_model.proofs.LateRows.{amount_is_read}
 use Rattle.table_model.proofs.RulingsReading.{tariffs_kept}
 use Rattle.table_model.proofs.UnderNumbers.{entries-numbers, values-numbers}
-use Rattle.consistent_tables.specs.Consistent.{AreConsistent, counted_entries}
+use Rattle.consistent_tables.specs.Consistent.{AreConsistent, IsOwnCredit, IsOwnReplaced}
+use Rattle.consistent_tables.specs.Consistent.{counted_entries}
 use Rattle.consistent_tables.specs.DueRows.{due_entry}
 use Rattle.consistent_tables.specs.Laws.{ReadableAreConsistent}
 use Rattle.consistent_tables.proofs.ChainTold.{ruled_back}
@@ -74,6 +77,26 @@ module _ (naming : Naming) (book : Book) (whole : IsReadable naming book) where
             (All-weaker (IsTimely book)
             (λ choice. (0 < choice.period) × (choice.period ≤ open_by book.rulings))
             (λ choice timely. (timely.numbered, timely.begun)) book.rulings.choices whole.timely);
+        replaced = entries-numbers (map replaced_row book.rulings.replaced)
+            ∙ ap (λ (rulings : Rulings). under_numbers 1 (map replaced_row rulings.replaced)) back;
+        replaced_own = subst (λ (rulings : Rulings).
+            All (IsOwnReplaced (open_by rulings)) rulings.replaced) back
+            (All-weaker (IsReplaced book) (IsOwnReplaced (open_by book.rulings))
+            (λ (replaced : Replaced) own. record {
+              begun = (own.begun.numbered, own.begun.begun);
+              texted = own.texted;
+            })
+            book.rulings.replaced whole.replaced);
+        credits = entries-numbers book.rulings.credits
+            ∙ ap (λ (rulings : Rulings). under_numbers 1 rulings.credits) back;
+        credits_own = subst (λ (rulings : Rulings).
+            All (IsOwnCredit (open_by rulings)) rulings.credits) back
+            (All-weaker (IsCredited book) (IsOwnCredit (open_by book.rulings))
+            (λ (credit : Credit) own. record {
+              begun = (own.begun.numbered, own.begun.begun);
+              said = own.said;
+            })
+            book.rulings.credits whole.credited);
         records = own_rows naming book whole;
         lines = own_lines naming book whole;
         days = days_due naming book whole
@@ -88,6 +111,10 @@ module _ (naming : Naming) (book : Book) (whole : IsReadable naming book) where
             whole.limits.closes;
         few_choices = subst (λ (rulings : Rulings). length rulings.choices ≤ most_choices) back
             whole.limits.choices;
+        few_replaced = subst (λ (rulings : Rulings). length rulings.replaced ≤ most_replaced) back
+            whole.limits.replaced;
+        few_credits = subst (λ (rulings : Rulings). length rulings.credits ≤ most_credits) back
+            whole.limits.credits;
       }
 
 -- the law

@@ -120,7 +120,7 @@ module _ (naming : Naming) (tables : Tables) (whole : AreConsistent naming table
         | Some found ↦ λ there all.
             let rest = rows_back rows (omega (arith, all)) in
             let name = its_name naming tables whole row.name found there in
-            λ i. record { name = sym name i; period = row.period } ∷ rest i
+            λ i. record { name = sym name i; counts = row.counts; period = row.period } ∷ rest i
       ] refl all
 
   -- so the choices are those of the book

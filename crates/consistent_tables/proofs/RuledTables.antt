@@ -102,3 +102,14 @@ module _ (naming : Naming) (tables : Tables) (whole : AreConsistent naming table
   closes_are =
       sym (made_again nat_cmp_total nat_cmp-IsAntisymmetric tables.closes)
       ∙ ap from_entries whole.closes
+
+  -- and so are those of the replaced tariffs and of the credits
+  pub replaced_are : tables.replaced ≡ (tables_of naming (book_in tables)).replaced
+  replaced_are =
+      sym (made_again nat_cmp_total nat_cmp-IsAntisymmetric tables.replaced)
+      ∙ ap from_entries whole.replaced
+
+  pub credits_are : tables.credits ≡ (tables_of naming (book_in tables)).credits
+  credits_are =
+      sym (made_again nat_cmp_total nat_cmp-IsAntisymmetric tables.credits)
+      ∙ ap from_entries whole.credits

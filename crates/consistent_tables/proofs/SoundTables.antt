@@ -20,7 +20,8 @@ use Rattle.consistent_tables.proofs.PeriodLinks.{book_past, ends, its_held, peri
 
 -- a choice, by its row and the row of its record
 abbrev pub choice_of : ChoiceRow → RecordRow → Choice
-choice_of row found = record { chosen = row_record found; period = row.period }
+choice_of row found =
+    record { chosen = row_record found; counts = row.counts; period = row.period }
 
 module _ (naming : Naming) (tables : Tables) (whole : AreConsistent naming tables) where
   -- how many closes there are

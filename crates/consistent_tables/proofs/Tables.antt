@@ -17,7 +17,8 @@ use Rattle.consistent_tables.proofs.LineTable.{lines_are}
 use Rattle.consistent_tables.proofs.ReadableBook.{as_many, consistent_are_readable, cost_is}
 use Rattle.consistent_tables.proofs.ReadableTables.{readable_are_consistent}
 use Rattle.consistent_tables.proofs.RecordTable.{choices_are, records_are}
-use Rattle.consistent_tables.proofs.RuledTables.{closes_are, own_rule, tariffs_are}
+use Rattle.consistent_tables.proofs.RuledTables.{closes_are, credits_are, own_rule, replaced_are}
+use Rattle.consistent_tables.proofs.RuledTables.{tariffs_are}
 
 module _ (one other : Tables) (closes : one.closes ≡ other.closes)
     (records : one.records ≡ other.records) (lines : one.lines ≡ other.lines) where
@@ -85,6 +86,8 @@ module _ (naming : Naming) (tables : Tables) (whole : AreConsistent naming table
         tariffs = tariffs_are naming tables whole i;
         closes = closes i;
         choices = choices_are naming tables whole i;
+        credits = credits_are naming tables whole i;
+        replaced = replaced_are naming tables whole i;
         records = records i;
         days = days i;
         lines = lines i;

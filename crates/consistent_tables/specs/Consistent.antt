@@ -8,13 +8,14 @@ use Rattle.std.specs.List.Sorted.{IsStrictlySortedBy}
 use Rattle.std.specs.Option.{option_map_or}
 use Rattle.std.specs.Ordering.{int_cmp}
 use Rattle.book_model.specs.Words.{IsDay, IsPriced, IsUsageRecord, Naming, Rulings, first_rule}
-use Rattle.book_model.specs.Words.{identity_by}
-use Rattle.book_model.specs.Words.{last_period, most_choices, most_cost, most_held, name_of}
+use Rattle.book_model.specs.Words.{Credit, IsCreditOf, Replaced, identity_by, last_period}
+use Rattle.book_model.specs.Words.{most_choices, most_cost, most_credits, most_held, most_replaced}
+use Rattle.book_model.specs.Words.{name_of}
 use Rattle.book_model.specs.Words.{open_by, price_in, rows_of, second_rule}
 use Rattle.table_model.specs.BookIn.{row_record, rulings_of_tables}
 use Rattle.table_model.specs.Readable.{IsTexted}
 use Rattle.table_model.specs.Tables.{BookRow, ChoiceRow, RecordRow, Tables, never_adopted}
-use Rattle.table_model.specs.TablesOf.{close_entries, tariff_entries, under_numbers}
+use Rattle.table_model.specs.TablesOf.{close_entries, replaced_row, tariff_entries, under_numbers}
 use Rattle.table_model.specs.Views.{is_due_in}
 use Rattle.consistent_tables.specs.DueRows.{due_entry, period_from}
 
@@ -52,9 +53,10 @@ abbrev pub is_counted_row : Tables → List ℕ × RecordRow → Bool
 is_counted_row tables entry =
     charged_back tables entry.0 (periods_after tables entry.1) entry.1.charged
 
--- A record's row: its name, its identity and its price are those of its bytes, and the price is what
--- one can be; it is charged if it is alone in its identity or was chosen last of it; its lines are in
--- turn; and it is posted if it is dated in a closed period and was charged before the open one.
+-- A record's row: its name, its identity and its price are those of its bytes, and the price is
+-- what one can be; it is charged if its work is not withheld, and it is alone in its identity or
+-- was named last of it; its lines are in turn; and it is posted if it is dated in a closed period
+-- and was charged before the open one.
 pub record IsOwnRow (naming : Naming) (tables : Tables) (name : List ℕ) (row : RecordRow) : Type 0
   where
     pub named : name ≡ name_of naming (row_record row)
@@ -85,12 +87,23 @@ IsOwnRule tables row =
 abbrev pub choice_numbers : Tables → List (ℕ × ChoiceRow)
 choice_numbers tables = under_numbers 1 (values tables.choices)
 
+-- a credit was given in a period that has begun, as a call submits one
+pub record IsOwnCredit (last : ℕ) (credit : Credit) : Type 0 where
+  pub begun : (0 < credit.period) × (credit.period ≤ last)
+  pub said : IsCreditOf credit.centre credit.amount credit.reason
+
+-- a tariff was replaced in a period that has begun, and its text says its terms
+pub record IsOwnReplaced (last : ℕ) (replaced : Replaced) : Type 0 where
+  pub begun : (0 < replaced.period) × (replaced.period ≤ last)
+  pub texted : IsTexted replaced.tariff
+
 -- the rows of the records that charge rows count, by name
 abbrev pub counted_entries : Tables → List (List ℕ × RecordRow)
 counted_entries tables = filter (is_counted_row tables) (entries tables.records)
 
--- All of it: tariffs, closes and choices are rulings that could be made, each record and each line
--- is right by them, and what is kept beside the records is what follows from these.
+-- All of it: tariffs, closes, choices, replaced tariffs and credits are rulings that could be
+-- made, each record and each line is right by them, and what is kept beside the records is what
+-- follows from these.
 pub record AreConsistent (naming : Naming) (tables : Tables) : Type 0 where
   pub texts : All IsTexted (ruled tables).tariffs
   pub tariffs : tariff_entries (ruled tables).tariffs ≡ entries tables.tariffs
@@ -103,6 +116,11 @@ pub record AreConsistent (naming : Naming) (tables : Tables) : Type 0 where
   pub timely :
       All (λ choice. (0 < choice.period) × (choice.period ≤ open_by (ruled tables)))
       (ruled tables).choices
+  pub replaced : entries tables.replaced
+      ≡ under_numbers 1 (map replaced_row (ruled tables).replaced)
+  pub replaced_own : All (IsOwnReplaced (open_by (ruled tables))) (ruled tables).replaced
+  pub credits : entries tables.credits ≡ under_numbers 1 (ruled tables).credits
+  pub credits_own : All (IsOwnCredit (open_by (ruled tables))) (ruled tables).credits
   pub records :
       (name : List ℕ) (row : RecordRow) → get tables.records name ≡ Some row
       → IsOwnRow naming tables name row
@@ -119,3 +137,5 @@ pub record AreConsistent (naming : Naming) (tables : Tables) : Type 0 where
   pub within : tables.book.amount ≤ most_cost
   pub few_closes : length (ruled tables).closes < last_period
   pub few_choices : length (ruled tables).choices ≤ most_choices
+  pub few_replaced : length (ruled tables).replaced ≤ most_replaced
+  pub few_credits : length (ruled tables).credits ≤ most_credits

@@ -4,7 +4,8 @@ use Rattle.std.proofs.Props.{props}
 use Rattle.streams.specs.InputOutput.{ReaderSeen, Input}
 use Rattle.book_model.specs.declared.fault.LedgerFault.{LedgerFault}
 use Rattle.book_model.specs.declared.fault.LedgerFault.TheVariants.{Memory, Store, Reopen}
-use Rattle.book_model.specs.Words.{Book, CloseAsked, Event, HasDay, Outcome, RulingAsked}
+use Rattle.book_model.specs.Words.{Book, CloseAsked, CreditAsked, Event, MayBeAsked, Outcome}
+use Rattle.book_model.specs.Words.{RulingAsked}
 use Rattle.book_core.specs.Calls.{Calls}
 use Rattle.book_core.specs.Ledgers.{Seen, Books}
 use Rattle.book_core.specs.Transition.{IsTransition}
@@ -71,19 +72,20 @@ pub as_asked : {books : Books} {asked : Asked} {answer : Result Answer LedgerFau
 as_asked {books = books} {answer = answer} same {input = input} is done =
     subst (λ asked. IsAsked asked answer books input) (sym is) done
 
--- there is at most one proof that a ruling has a day,
-day_once : (ruling : RulingAsked) → IsProp (HasDay ruling)
-day_once (CloseAsked period through) = hlevel props
-day_once other = hlevel props
+-- there is at most one proof that a ruling may be asked for,
+asked_once : (ruling : RulingAsked) → IsProp (MayBeAsked ruling)
+asked_once (CloseAsked period through) = hlevel props
+asked_once (CreditAsked period centre amount reason) = hlevel props
+asked_once other = hlevel props
 
 -- nor more than one that it may be asked,
 pub askable_once : (asked : Asked) → IsProp (IsAskableUnread asked)
-askable_once (Rule ruling) = day_once (ruling_of ruling)
+askable_once (Rule ruling) = asked_once (ruling_of ruling)
 askable_once other = hlevel props
 
 -- nor more than one that it is a ruling that may be
 pub ruling_once : (asked : Asked) → IsProp (IsAskableRuling asked)
-ruling_once (Rule ruling) = day_once (ruling_of ruling)
+ruling_once (Rule ruling) = asked_once (ruling_of ruling)
 ruling_once other = hlevel props
 
 -- a ruling may be asked with no reader at hand

@@ -1,7 +1,8 @@
 -- One request to the books, as work; what work leaves of an open ledger; the laws; requests one after
--- another; and choices one after another.
+-- another; choices one after another; and works that are withheld together.
 pub mod AskLemmas
 pub mod LeavingLemmas
 pub mod LawLemmas
 pub mod RunLemmas
 pub mod ChoiceLemmas
+pub mod WithholdingLemmas

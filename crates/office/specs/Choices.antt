@@ -5,24 +5,33 @@ use Rattle.std.specs.List.{flat_map}
 use Rattle.book_model.specs.declared.answer.Ruled.{Ruled}
 use Rattle.book_model.specs.declared.fault.LedgerFault.{LedgerFault}
 use Rattle.book_model.specs.declared.fault.LedgerFault.TheVariants.{Memory, Store}
-use Rattle.book_model.specs.Words.{Book, Event, Naming, Outcome, after_all, choose_outcome}
+use Rattle.book_model.specs.Words.{Book, ChoiceAsked, Event, Naming, Outcome, RulingAsked, after_all}
+use Rattle.book_model.specs.Words.{WithholdingAsked, rule_outcome}
 use Rattle.book_core.specs.Calls.{Calls, listed}
 use Rattle.book_core.specs.Transition.{Transition, NoEvent, Then}
 use Rattle.office.specs.Answers.{answer_text}
 use Rattle.office.specs.Requests.{Never, Ruling}
 
--- the record of a name was chosen, and that is the answer
-abbrev pub Chooses : Naming → List ℕ → Result Ruled LedgerFault → Transition
-Chooses naming name told = Calls (λ ruled. ruled) (choose_outcome naming name) told
+-- what is asked for by the name of a record: that it is chosen, or that its work is withheld
+abbrev pub choice_asked : Bool → List ℕ → RulingAsked
+choice_asked true name = WithholdingAsked name
+choice_asked false name = ChoiceAsked name
+
+abbrev pub named_outcome : Bool → Naming → List ℕ → Book → Outcome Ruled
+named_outcome withheld naming name = rule_outcome naming (choice_asked withheld name)
+
+-- the record of a name was chosen, or its work withheld, and that is the answer
+abbrev pub Chooses : Bool → Naming → List ℕ → Result Ruled LedgerFault → Transition
+Chooses withheld naming name told = Calls (λ ruled. ruled) (named_outcome withheld naming name) told
 
 -- The records of names were chosen in turn, each of the book that those before it left, and these are
 -- the answers: one for each name; or those before the first refusal, after which none is chosen.
-abbrev pub ChoosesEach : Naming → List (List ℕ) → List Ruled → Option LedgerFault → Transition
-ChoosesEach naming [] [] None = NoEvent
-ChoosesEach naming (name ∷ names) [] (Some refusal) = Chooses naming name (Err refusal)
-ChoosesEach naming (name ∷ names) (ruled ∷ answers) refusal =
-    Then (Chooses naming name (Ok ruled)) (ChoosesEach naming names answers refusal)
-ChoosesEach naming names answers refusal = Never
+abbrev pub ChoosesEach : Bool → Naming → List (List ℕ) → List Ruled → Option LedgerFault → Transition
+ChoosesEach withheld naming [] [] None = NoEvent
+ChoosesEach withheld naming (name ∷ names) [] (Some refusal) = Chooses withheld naming name (Err refusal)
+ChoosesEach withheld naming (name ∷ names) (ruled ∷ answers) refusal =
+    Then (Chooses withheld naming name (Ok ruled)) (ChoosesEach withheld naming names answers refusal)
+ChoosesEach withheld naming names answers refusal = Never
 
 -- a line for each answer
 abbrev pub answer_lines : List Ruled → List ℕ
@@ -50,10 +59,10 @@ choices_after outcome book later =
     choices_by outcome.answer event (later (after_all event book))
 
 -- what the definitions say of choices, by the book before them
-abbrev pub choices_outcome : Naming → List (List ℕ) → Book → ChoicesOutcome
-choices_outcome naming [] book = record { answers = []; refusal = None; events = [] }
-choices_outcome naming (name ∷ names) book =
-    choices_after (choose_outcome naming name book) book (choices_outcome naming names)
+abbrev pub choices_outcome : Bool → Naming → List (List ℕ) → Book → ChoicesOutcome
+choices_outcome withheld naming [] book = record { answers = []; refusal = None; events = [] }
+choices_outcome withheld naming (name ∷ names) book =
+    choices_after (named_outcome withheld naming name book) book (choices_outcome withheld naming names)
 
 -- a lack of memory, or a fault of the store, is in place of an answer
 abbrev pub are_hindered : Option LedgerFault → Bool

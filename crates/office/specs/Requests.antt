@@ -7,8 +7,9 @@ use Rattle.streams.specs.AnswerFlags.{NothingUnread}
 use Rattle.streams.specs.InputOutput.{ReaderSeen, Input}
 use Rattle.book_model.specs.declared.answer.Ruled as ruled
 use Rattle.book_model.specs.declared.fault.LedgerFault.{LedgerFault}
-use Rattle.book_model.specs.Words.{AdoptionAsked, Book, ChoiceAsked, CloseAsked, HasDay, Naming}
-use Rattle.book_model.specs.Words.{Outcome, RulingAsked, TariffAsked, rule_outcome}
+use Rattle.book_model.specs.Words.{AdoptionAsked, Book, ChoiceAsked, CloseAsked, MayBeAsked, Naming}
+use Rattle.book_model.specs.Words.{Outcome, RulingAsked, TariffAsked, rule_outcome, CreditAsked}
+use Rattle.book_model.specs.Words.{ReplacementAsked, WithholdingAsked}
 use Rattle.book_core.specs.Calls.{Calls}
 use Rattle.book_core.specs.Transition.{Transition, IsTransition}
 use Rattle.book_core.specs.Ledgers.{Books}
@@ -65,10 +66,15 @@ ruling_of (owned.Tariff text) = TariffAsked (string_bytes text)
 ruling_of (owned.Close period through) = CloseAsked period through
 ruling_of (owned.Choose name) = ChoiceAsked name
 ruling_of (owned.Adopt rule) = AdoptionAsked rule
+ruling_of (owned.Replace text) = ReplacementAsked (string_bytes text)
+ruling_of (owned.Withhold name) = WithholdingAsked name
+ruling_of (owned.Credit period centre amount reason) =
+    CreditAsked period centre amount (string_bytes reason)
 
--- What may be asked with a reader that has not been asked yet: a close is through a day.
+-- What may be asked with a reader that has not been asked yet: a close is through a day, and a credit
+-- is within the limits.
 abbrev pub IsAskableUnread : Asked → Type 0
-IsAskableUnread (Rule ruling) = HasDay (ruling_of ruling)
+IsAskableUnread (Rule ruling) = MayBeAsked (ruling_of ruling)
 IsAskableUnread asked = Unit {0}
 
 -- It may be asked of books with this reader: a dump is read from one that may be asked.
@@ -78,7 +84,7 @@ IsAskable asked reader = IsAskableUnread asked
 
 -- it is a ruling, and may be asked
 abbrev pub IsAskableRuling : Asked → Type 0
-IsAskableRuling (Rule ruling) = HasDay (ruling_of ruling)
+IsAskableRuling (Rule ruling) = MayBeAsked (ruling_of ruling)
 IsAskableRuling asked = ⊥
 
 -- the bytes of a dump were taken for this receipt, and no more than it needed

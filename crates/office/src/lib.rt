@@ -7,6 +7,7 @@ mod choosing;
 mod laws;
 mod request;
 mod running;
+mod withholding;
 
 pub use answering::{answer_lines, write_answer};
 pub use asking::{ask, ask_without_reader};
@@ -15,3 +16,4 @@ pub use choosing::{Chosen, choose_each};
 pub use laws::{answers_are_free, answers_follow_book, answers_follow_history, run_twice_is_once};
 pub use request::{Answer, Asked, OwnedRuling};
 pub use running::run;
+pub use withholding::{WorkCounts, WorksTold, withhold_each};

@@ -1,15 +1,16 @@
--- Figures of a period: how many records it counts, what it charges, adds and reverses, and what each
--- centre costs in it.
-use Rattle.std.specs.Prelude.{ℕ, ℤ, ◌+◌, ◌-◌, List, filter, length, map, sum_by, slice_get}
-use Rattle.std.specs.Prelude.{Option, option_map, unwrap_or}
+-- Figures of a period: how many records it counts, what it charges, adds and reverses, what its credits
+-- come to, and what each centre costs in it.
+use Rattle.std.specs.Prelude.{ℕ, ℤ, ◌+◌, ◌-◌, ◌||◌, Bool, List, filter, length, map, nat_lt, sum_by}
+use Rattle.std.specs.Prelude.{Option, option_map, slice_get, unwrap_or}
 use Rattle.std.specs.BTreeMap.{is_at}
 use Rattle.std.specs.Map.{lookup}
 use Rattle.std.specs.Ordering.{int_cmp, int_eq}
 use Rattle.book_model.specs.declared.line.Line.{Line}
 use Rattle.book_model.specs.declared.row.ChargeRow.{ChargeRow}
-use Rattle.book_model.specs.Words.{by_bytes, members, set_of}
+use Rattle.book_model.specs.Words.{Credit, by_bytes, members, set_of}
 use Rattle.report_texts.specs.AdjustmentLists.{charged_amount, reversed_amount, signed_text}
 use Rattle.report_texts.specs.CentreAmounts.{cost_of}
+use Rattle.report_texts.specs.Charges.{credits_together}
 use Rattle.coverage_texts.specs.Coverage.{days_between}
 use Rattle.page_texts.specs.declared.figures.PeriodFigures.{PeriodFigures}
 
@@ -53,6 +54,8 @@ pub record FiguresSeen : Type 0 where
   pub charged : ℕ
   pub added : ℕ
   pub reversed : ℕ
+  pub credited : ℕ
+  pub debited : ℕ
   pub costs : List (List ℕ × ℕ)
 
 abbrev pub figures_seen : PeriodFigures → FiguresSeen
@@ -61,20 +64,33 @@ figures_seen figures = record {
   charged = figures.charged;
   added = figures.added;
   reversed = figures.reversed;
+  credited = figures.credited;
+  debited = figures.debited;
   costs = figures.costs.entries;
 }
 
--- the figures of a period by its charge rows and its adjustment lines: the sums of the statement,
--- and what its adjustments add and what they reverse
-abbrev pub figures_of : List ChargeRow → List Line → FiguresSeen
-figures_of rows lines = record {
+-- the figures of a period by its charge rows, its adjustment lines and its credits: the sums of the
+-- statement, what its adjustments add and what they reverse, and what its credits take off and add
+abbrev pub figures_of : List ChargeRow → List Line → List Credit → FiguresSeen
+figures_of rows lines credits = record {
   records = sum_by (λ row. row.count) rows;
   charged = sum_by (λ row. row.amount) rows;
   added = sum_by charged_amount lines;
   reversed = sum_by reversed_amount lines;
+  credited = (credits_together credits).0;
+  debited = (credits_together credits).1;
   costs = costs_of rows;
 }
 
--- what is owed: what is charged and added, less what is reversed
+-- what is owed: what is charged and added, less what is reversed and credited
 unfoldable pub owed_text : FiguresSeen → List ℕ
-owed_text figures = signed_text (figures.charged + figures.added) figures.reversed
+owed_text figures =
+    signed_text (figures.charged + figures.added + figures.debited) (figures.reversed + figures.credited)
+
+-- some credit comes to something
+abbrev pub has_credits : FiguresSeen → Bool
+has_credits figures = nat_lt 0 figures.credited || nat_lt 0 figures.debited
+
+-- what is credited, less what credits below 0 add
+unfoldable pub credits_text : FiguresSeen → List ℕ
+credits_text figures = signed_text figures.credited figures.debited

@@ -7,12 +7,20 @@ use Rattle.report_texts.specs.Columns.{amount_text}
 use Rattle.coverage_texts.specs.Coverage.{gaps}
 use Rattle.coverage_texts.specs.declared.coverage_rows.CoverageRow.{CoverageRow}
 use Rattle.report_texts.specs.Periods.{head_text}
-use Rattle.page_texts.specs.Figures.{FiguresSeen, owed_text}
+use Rattle.page_texts.specs.Figures.{FiguresSeen, credits_text, has_credits, owed_text}
 use Rattle.page_texts.specs.Letterheads.{office_name}
 
 -- the title
 unfoldable pub period_title : ℕ → List ℕ
 period_title period = codes "Period " ++ decimal period
+
+-- what is credited, where the period has credits
+unfoldable pub credits_sum : FiguresSeen → List ℕ
+credits_sum figures =
+    codes "<div><dt>Credits</dt><dd>" ++ credits_text figures ++ codes "</dd></div>\n"
+
+unfoldable pub credits_figure : FiguresSeen → List ℕ
+credits_figure figures = if has_credits figures then credits_sum figures else []
 
 -- what stands above the parts of the page: the office's name, under its title whether the period is
 -- open, and its sums
@@ -25,7 +33,8 @@ period_head office title through figures =
     ∷ codes "</p>\n</header>\n<dl>\n<div><dt>Charged</dt><dd>" ∷ amount_text figures.charged
     ∷ codes "</dd></div>\n<div><dt>Added</dt><dd>" ∷ amount_text figures.added
     ∷ codes "</dd></div>\n<div><dt>Reversed</dt><dd>" ∷ amount_text figures.reversed
-    ∷ codes "</dd></div>\n<div><dt>Owed</dt><dd>" ∷ owed_text figures
+    ∷ codes "</dd></div>\n" ∷ credits_figure figures
+    ∷ codes "<div><dt>Owed</dt><dd>" ∷ owed_text figures
     ∷ codes "</dd></div>\n" ∷ [])
 
 -- how many gaps a coverage has, where anything is counted

@@ -38,10 +38,9 @@ pub(crate) fn push_money(out: &mut Draft, amount: u64)
 /// Appends what is charged less what is reversed, in units: a minus sign comes before what is below
 /// zero.
 #[tactic(auto, unfolding(report_texts::specs::AdjustmentLists::signed_text))]
-pub(crate) fn push_signed(out: &mut Draft, charged: u128, taken: u64)
+pub(crate) fn push_signed(out: &mut Draft, charged: u128, taken: u128)
     ensures { out.new ≡ out.old ++ lists.signed_text charged taken }
 {
-    let taken = u128::from(taken);
     if charged >= taken {
         push_amount(out, charged - taken);
         return;

@@ -2,14 +2,15 @@
 
 ghost use Rattle.std.specs.Prelude.{◌≡◌, ◌≤ℤ◌, ◌++◌, IfOk, IfSome, Some, map};
 ghost use Rattle.smf_text.specs.Day.{last_day};
-ghost use Rattle.book_model.specs.Words.{AreLines, AreRows};
+ghost use Rattle.book_model.specs.Words.{AreLines, AreRows, credit_shown};
+ghost use Rattle.report_texts.specs.Charges.{FitCredits, plain_credits};
 ghost use Rattle.coverage_texts.specs.Coverage.{days_between};
 ghost use Rattle.page_texts.specs.Figures as spec;
 
 use crate::amounts::push_signed;
 use crate::closes::day_after;
-use book_model::{ChargeRow, Line};
-use report_texts::figures_of;
+use book_model::{ChargeRow, Credit, Line};
+use report_texts::{credits_together, figures_of};
 use smf_text::Name;
 use std::alloc::{AllocError, Global};
 use std::collections::BTreeMap;
@@ -27,6 +28,10 @@ pub struct PeriodFigures {
     pub added: u64,
     /// What they reverse.
     pub reversed: u64,
+    /// What its credits take off.
+    pub credited: u64,
+    /// What those below 0 add.
+    pub debited: u64,
     /// What each centre is charged by the statement.
     pub costs: BTreeMap<Name, u64>,
 }
@@ -137,33 +142,58 @@ pub(crate) fn day_costs(alloc: Global, rows: &[ChargeRow]) -> Result<Vec<(i32, u
     costs_between(alloc, &sums, first, last)
 }
 
-/// The figures of a period, by all its charge rows and adjustment lines.
+/// The figures of a period, by all its charge rows, adjustment lines and credits.
 pub fn period_figures(
     alloc: Global,
     rows: &[ChargeRow],
     lines: &[Line],
+    credits: &[Credit],
 ) -> Result<PeriodFigures, AllocError>
     requires rows { AreRows rows.now }
     requires lines { AreLines lines.now }
-    ensures { IfOk result (λ figures.
-        spec.figures_seen figures ≡ spec.figures_of rows.now lines.now) }
+    requires credits { FitCredits (plain_credits (map credit_shown credits.now)) }
+    ensures { IfOk result (λ figures. spec.figures_seen figures
+        ≡ spec.figures_of rows.now lines.now (map credit_shown credits.now)) }
 {
     let sums = figures_of(rows, lines, 0);
+    let given = credits_together(alloc, credits)?;
     let costs = costs_of(alloc, rows)?;
     Ok(PeriodFigures {
         records: sums.records,
         charged: sums.statement,
         added: sums.added,
         reversed: sums.reversed,
+        credited: given.0,
+        debited: given.1,
         costs,
     })
 }
 
-/// Appends what is owed: what is charged and added, less what is reversed.
+/// Appends what is owed: what is charged and added, less what is reversed and credited.
 #[tactic(auto, unfolding(crate::specs::Figures::owed_text))]
 pub(crate) fn push_owed(out: &mut Draft, figures: &PeriodFigures)
     ensures { out.new ≡ out.old ++ spec.owed_text (spec.figures_seen figures.now) }
 {
     let charged = u128::from(figures.charged) + u128::from(figures.added);
-    push_signed(out, charged, figures.reversed);
+    let taken = u128::from(figures.reversed) + u128::from(figures.credited);
+    push_signed(out, charged + u128::from(figures.debited), taken);
+}
+
+/// Some credit comes to something.
+pub(crate) fn has_credits(figures: &PeriodFigures) -> bool
+    ensures { result ≡ spec.has_credits (spec.figures_seen figures.now) }
+{
+    0 < figures.credited || 0 < figures.debited
+}
+
+/// Appends what is credited, less what credits below 0 add.
+#[tactic(auto, unfolding(crate::specs::Figures::credits_text))]
+pub(crate) fn push_credits(out: &mut Draft, figures: &PeriodFigures)
+    ensures { out.new ≡ out.old ++ spec.credits_text (spec.figures_seen figures.now) }
+{
+    push_signed(
+        out,
+        u128::from(figures.credited),
+        u128::from(figures.debited),
+    );
 }

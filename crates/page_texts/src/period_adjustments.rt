@@ -33,7 +33,7 @@ fn push_signed_cell(out: &mut Draft, charged: u64, taken: u64)
     ensures { out.new ≡ out.old ++ cell (lists.signed_text charged taken) }
 {
     out.push_str("<td>");
-    push_signed(out, u128::from(charged), taken);
+    push_signed(out, u128::from(charged), u128::from(taken));
     out.push_str("</td>");
 }
 

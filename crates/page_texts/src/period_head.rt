@@ -7,7 +7,7 @@ ghost use Rattle.page_texts.specs.Figures.{figures_seen};
 ghost use Rattle.page_texts.specs.PeriodHead as spec;
 
 use crate::amounts::{push_head, push_money};
-use crate::figures::{PeriodFigures, push_owed};
+use crate::figures::{PeriodFigures, has_credits, push_credits, push_owed};
 use crate::letterheads::push_office_name;
 use coverage_texts::{CoverageRow, count_gaps};
 use std::alloc::Global;
@@ -32,6 +32,26 @@ pub(crate) fn period_title(alloc: Global, period: u16) -> Draft
     title.push_str("Period ");
     title.push_number(u64::from(period));
     title
+}
+
+/// Appends a sum of credits.
+#[tactic(auto, unfolding(crate::specs::PeriodHead::credits_sum))]
+fn push_credits_sum(out: &mut Draft, figures: &PeriodFigures)
+    ensures { out.new ≡ out.old ++ spec.credits_sum (figures_seen figures.now) }
+{
+    out.push_str("<div><dt>Credits</dt><dd>");
+    push_credits(out, figures);
+    out.push_str("</dd></div>\n");
+}
+
+/// Appends it where the period has credits.
+#[tactic(auto, unfolding(crate::specs::PeriodHead::credits_figure))]
+fn push_credits_figure(out: &mut Draft, figures: &PeriodFigures)
+    ensures { out.new ≡ out.old ++ spec.credits_figure (figures_seen figures.now) }
+{
+    if has_credits(figures) {
+        push_credits_sum(out, figures);
+    }
 }
 
 /// Appends what stands above the parts of the page: the office's name, under its title whether the
@@ -60,7 +80,9 @@ pub(crate) fn push_period_head(
     push_money(out, figures.added);
     out.push_str("</dd></div>\n<div><dt>Reversed</dt><dd>");
     push_money(out, figures.reversed);
-    out.push_str("</dd></div>\n<div><dt>Owed</dt><dd>");
+    out.push_str("</dd></div>\n");
+    push_credits_figure(out, figures);
+    out.push_str("<div><dt>Owed</dt><dd>");
     push_owed(out, figures);
     out.push_str("</dd></div>\n");
 }

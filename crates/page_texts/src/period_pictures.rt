@@ -1,7 +1,8 @@
 //! The pictures of a period's page: its cost by day, and by centre.
 
-ghost use Rattle.std.specs.Prelude.{◌≡◌, ◌++◌, All};
-ghost use Rattle.book_model.specs.Words.{IsDay};
+ghost use Rattle.std.specs.Prelude.{◌≡◌, ◌++◌, All, IfOk, map};
+ghost use Rattle.book_model.specs.Words.{AreLines, AreRows, IsDay, credit_shown};
+ghost use Rattle.report_texts.specs.Charges as charged;
 ghost use Rattle.report_texts.specs.Charges.{owed_text};
 ghost use Rattle.page_texts.specs.Bars.{greatest};
 ghost use Rattle.page_texts.specs.Markup.{cell};
@@ -11,17 +12,19 @@ use crate::amounts::push_signed;
 use crate::bars::{push_bar_cells, push_bar_row};
 use crate::frame::push_table_end;
 use crate::markup::push_money_cell;
+use book_model::{ChargeRow, Credit, Line};
 use html_text::push_escaped;
-use report_texts::{CentreCharges, Charges};
+use report_texts::{CentreCharges, Charges, each_charges, plain_credits, push_credits};
+use std::alloc::{AllocError, Global};
 use text_drafts::Draft;
 
 /// The other headings of days, and where their rows begin.
 const DAY_COLUMNS: &str = "</tr></thead>\n<tbody>";
 
-/// Those of centres.
-const CENTRE_COLUMNS: &str = "\
-    <th scope='col'>Late</th><th scope='col'>Reversed</th><th scope='col'>Owed</th>\
-    </tr></thead>\n<tbody>";
+/// Those of centres, before one of credits and behind it.
+const CENTRE_COLUMNS: &str = "<th scope='col'>Late</th><th scope='col'>Reversed</th>";
+
+const OWED_COLUMN: &str = "<th scope='col'>Owed</th></tr></thead>\n<tbody>";
 
 /// Appends what stands above the bars, under a caption and the heading of the first column.
 fn push_bars_head(out: &mut Draft, caption: &str, heading: &str)
@@ -42,12 +45,24 @@ fn push_day_columns(out: &mut Draft)
     out.push_str(DAY_COLUMNS);
 }
 
+/// Appends that of credits, where there is one.
+#[tactic(auto, unfolding(crate::specs::PeriodPictures::credits_column))]
+fn push_credits_column(out: &mut Draft, credited: bool)
+    ensures { out.new ≡ out.old ++ spec.credits_column credited }
+{
+    if credited {
+        out.push_str("<th scope='col'>Credits</th>");
+    }
+}
+
 /// Appends those of centres.
 #[tactic(auto, unfolding(crate::specs::PeriodPictures::centre_columns))]
-fn push_centre_columns(out: &mut Draft)
-    ensures { out.new ≡ out.old ++ spec.centre_columns }
+fn push_centre_columns(out: &mut Draft, credited: bool)
+    ensures { out.new ≡ out.old ++ spec.centre_columns credited }
 {
     out.push_str(CENTRE_COLUMNS);
+    push_credits_column(out, credited);
+    out.push_str(OWED_COLUMN);
 }
 
 /// What the day that costs most is charged.
@@ -75,6 +90,24 @@ fn push_day_rows(out: &mut Draft, costs: &[(i32, u64)])
     }
 }
 
+/// What each centre is charged that has rows, lines or credits. Rows are not told apart here: all of
+/// them stand as those of steps do on a bill.
+pub(crate) fn centre_costs(
+    alloc: Global,
+    rows: &[ChargeRow],
+    lines: &[Line],
+    credits: &[Credit],
+) -> Result<Vec<CentreCharges>, AllocError>
+    requires rows { AreRows rows.now }
+    requires lines { AreLines lines.now }
+    requires credits { charged.FitCredits (charged.plain_credits (map credit_shown credits.now)) }
+    ensures { IfOk result (λ costs. costs.items
+        ≡ spec.charges_by_centre rows.now lines.now (map credit_shown credits.now)) }
+{
+    let plain = plain_credits(alloc, credits)?;
+    each_charges(alloc, rows, &[], lines, &plain)
+}
+
 /// What the centre that costs most is charged.
 fn greatest_centre(costs: &[CentreCharges]) -> u64
     ensures { result ≡ greatest (λ cost. cost.charges.steps) costs.now }
@@ -87,22 +120,35 @@ fn greatest_centre(costs: &[CentreCharges]) -> u64
     most
 }
 
+/// Appends a cell of what is credited, where there is a column of that.
+#[tactic(auto, unfolding(crate::specs::Markup::cell, crate::specs::PeriodPictures::credits_cell))]
+fn push_credits_cell(out: &mut Draft, credited: bool, charges: &Charges)
+    ensures { out.new ≡ out.old ++ spec.credits_cell credited charges.now }
+{
+    if credited {
+        out.push_str("<td>");
+        push_credits(out, charges);
+        out.push_str("</td>");
+    }
+}
+
 /// Appends a cell of what is owed.
 #[tactic(auto, unfolding(crate::specs::Markup::cell, report_texts::specs::Charges::owed_text))]
 fn push_owed_cell(out: &mut Draft, charges: &Charges)
     ensures { out.new ≡ out.old ++ cell (owed_text charges.now) }
 {
     let work = u128::from(charges.steps) + u128::from(charges.jobs);
-    let charged = work + u128::from(charges.late);
+    let charged = work + u128::from(charges.late) + u128::from(charges.debited);
+    let taken = u128::from(charges.reversed) + u128::from(charges.credited);
     out.push_str("<td>");
-    push_signed(out, charged, charges.reversed);
+    push_signed(out, charged, taken);
     out.push_str("</td>");
 }
 
 /// Appends the row of a centre, whose bar has the whole width where it is charged the most.
-#[tactic(auto, unfolding(crate::specs::PeriodPictures::centre_row, crate::specs::Markup::table_row))]
-fn push_centre_row(out: &mut Draft, most: u64, cost: &CentreCharges)
-    ensures { out.new ≡ out.old ++ spec.centre_row most cost.now }
+#[tactic(auto, unfolding(crate::specs::PeriodPictures::centre_row))]
+fn push_centre_row(out: &mut Draft, credited: bool, most: u64, cost: &CentreCharges)
+    ensures { out.new ≡ out.old ++ spec.centre_row credited most cost.now }
 {
     let mut label = Draft::new(out.alloc());
     push_escaped(&mut label, cost.centre.text());
@@ -110,18 +156,19 @@ fn push_centre_row(out: &mut Draft, most: u64, cost: &CentreCharges)
     push_bar_cells(out, most, &label, cost.charges.steps);
     push_money_cell(out, cost.charges.late);
     push_money_cell(out, cost.charges.reversed);
+    push_credits_cell(out, credited, &cost.charges);
     push_owed_cell(out, &cost.charges);
     out.push_str("</tr>\n");
 }
 
 /// Appends the rows of centres, by what each is charged.
 #[tactic(auto, using(std::proofs::lemmas::List::flat_map_more))]
-fn push_centre_rows(out: &mut Draft, costs: &[CentreCharges])
-    ensures { out.new ≡ out.old ++ spec.centre_rows costs.now }
+fn push_centre_rows(out: &mut Draft, credited: bool, costs: &[CentreCharges])
+    ensures { out.new ≡ out.old ++ spec.centre_rows credited costs.now }
 {
     let most = greatest_centre(costs);
     for cost in costs {
-        push_centre_row(out, most, cost);
+        push_centre_row(out, credited, most, cost);
     }
 }
 
@@ -137,12 +184,12 @@ pub(crate) fn push_day_table(out: &mut Draft, costs: &[(i32, u64)])
     push_table_end(out);
 }
 
-/// Appends the picture of what centres cost.
-pub(crate) fn push_centre_table(out: &mut Draft, costs: &[CentreCharges])
-    ensures { out.new ≡ out.old ++ spec.centre_table costs.now }
+/// Appends the picture of what centres cost, with a column of credits or without.
+pub(crate) fn push_centre_table(out: &mut Draft, credited: bool, costs: &[CentreCharges])
+    ensures { out.new ≡ out.old ++ spec.centre_table credited costs.now }
 {
     push_bars_head(out, "Cost by centre", "Centre");
-    push_centre_columns(out);
-    push_centre_rows(out, costs);
+    push_centre_columns(out, credited);
+    push_centre_rows(out, credited, costs);
     push_table_end(out);
 }

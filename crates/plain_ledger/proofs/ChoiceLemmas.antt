@@ -1,5 +1,5 @@
--- The choices of a plain ledger: which record was chosen last of an identity, and which identities
--- are settled.
+-- The choices of a plain ledger: which record was chosen last of an identity, which identities are
+-- settled, and which works are withheld.
 use Rattle.std.proofs.Common.{◌≡◌, ◌∙◌, ◌++◌, ◌+◌, ◌<◌, ℕ, List, [], ◌∷◌, length, get_or, take}
 use Rattle.std.proofs.Common.{refl, sym, ap, map, Bool, true, false, cond, not, ◌||◌, ◌&&◌, Option}
 use Rattle.std.proofs.Common.{Some, None, append-nil, filter, find, reverse, BTreeSet, Global}
@@ -11,14 +11,15 @@ use Rattle.std.specs.declared.rc.RcSlice.{RcSlice}
 use Rattle.std.proofs.Math.Bool.{and-false, or-false, or-true}
 use Rattle.book_model.proofs.Std.{texts_ties, last_or, option_map_or, option_or, nat_list_eq_equiv}
 use Rattle.book_model.proofs.Std.{reverse-append, take_more, filter-append, find-append}
-use Rattle.book_model.proofs.Std.{list_any-append, map-map}
+use Rattle.book_model.proofs.Std.{list_any, list_any-append, map-append, map-map}
 use Rattle.book_model.specs.Words.{by_bytes, same_bytes, identity_by, is_chosen, is_settled, Choice}
-use Rattle.book_model.specs.Words.{Rulings}
+use Rattle.book_model.specs.Words.{Rulings, is_withheld, last_choice, share_identity, was_withheld}
 use Rattle.book_model.proofs.LatestLemmas.{or-none}
 use Rattle.book_model.proofs.Lemmas.{filter-map, last_or-behind, list_any-map}
 use Rattle.plain_ledger.specs.declared.chosen.ChosenRecord.{ChosenRecord}
 use Rattle.plain_ledger.specs.declared.held.HeldRecord.{HeldRecord}
-use Rattle.plain_ledger.specs.Choices.{AreLast, ByIdentity, choice_of, is_of, last_of}
+use Rattle.plain_ledger.specs.Choices.{AreLast, ByIdentity, Counts, DoCount, choice_of, is_of}
+use Rattle.plain_ledger.specs.Choices.{last_at, last_of, withholds}
 use Rattle.plain_ledger.specs.Plain.{record_of, rulings_of}
 
 -- the choices so far, and the next one
@@ -52,6 +53,10 @@ last_or-map : {X Y : Type 0} (f : X → Y) (was : Option X) (xs : List X)
     → last_or (option_map f was) (map f xs) ≡ option_map f (last_or was xs)
 last_or-map f was [] = refl
 last_or-map f was (x ∷ xs) = last_or-map f (Some x) xs
+
+-- a choice counts
+abbrev counts_of : Choice → Bool
+counts_of choice = choice.counts
 
 -- the bytes of a record that was chosen
 abbrev chosen_bytes : ChosenRecord → List ℕ
@@ -102,6 +107,69 @@ module _ (adopted : Option ℕ) where
           ≡ option_map_or (same_bytes (record_of held)) (option_map chosen_bytes found) false
       at_once None = refl
       at_once (Some choice) = refl
+
+  -- the last choice of a record's identity is the last one that is of it
+  pub last_choice-by : (choices : List ChosenRecord) (bytes identity : List ℕ)
+      (found : Option ChosenRecord) → identity ≡ identity_by (ruled []) bytes
+      → found ≡ find (of_it identity) (reverse choices)
+      → option_map choice_of found ≡ last_choice (ruled choices) bytes
+  last_choice-by choices bytes identity found own_is is =
+      let own : Choice → Bool =
+      λ choice. same_bytes identity (identity_by (ruled []) choice.chosen) in
+      ap (option_map choice_of)
+      (is ∙ sym (or-none (find (of_it identity) (reverse choices)))
+      ∙ sym (last-passing (of_it identity) None choices))
+      ∙ sym (last_or-map choice_of None (filter (of_it identity) choices))
+      ∙ ap (last_or None) (sym (filter-map own choice_of choices))
+      ∙ ap (λ identity. last_or None
+      (filter (λ (choice : Choice). same_bytes identity (identity_by (ruled []) choice.chosen))
+      (map choice_of choices))) own_is
+
+  -- so it determines whether the work is withheld
+  pub is_withheld-by : (choices : List ChosenRecord) (bytes identity : List ℕ)
+      (found : Option ChosenRecord) → identity ≡ identity_by (ruled []) bytes
+      → found ≡ find (of_it identity) (reverse choices)
+      → option_map_or (λ choice. not choice.counts) found false
+      ≡ is_withheld (ruled choices) bytes
+  is_withheld-by choices bytes identity found own_is is =
+      at_once found
+      ∙ ap (λ last. option_map_or (λ (choice : Choice). not choice.counts) last false)
+      (last_choice-by choices bytes identity found own_is is)
+    where
+      at_once : (found : Option ChosenRecord)
+          → option_map_or (λ choice. not choice.counts) found false
+          ≡ option_map_or (λ (choice : Choice). not choice.counts) (option_map choice_of found) false
+      at_once None = refl
+      at_once (Some choice) = refl
+
+  -- and whether it ever was, any of them
+  pub was_withheld-by : (choices : List ChosenRecord) (bytes identity : List ℕ)
+      → identity ≡ identity_by (ruled []) bytes
+      → list_any (withholds (ruled []) identity) choices ≡ was_withheld (ruled choices) bytes
+  was_withheld-by choices bytes identity own_is =
+      let none : Choice → Bool =
+      λ choice. not choice.counts && share_identity (ruled choices) bytes choice.chosen in
+      ap (λ identity. list_any (withholds (ruled []) identity) choices) own_is
+      ∙ sym (list_any-map none choice_of choices)
+
+  -- with one choice more, it is the last of its identity
+  last_at-more : (done : List ChosenRecord) (choice : ChosenRecord) (identity : List ℕ)
+      → option_map counts_of (last_at (ruled (done ++ choice ∷ [])) identity)
+      ≡ cond (of_it identity choice) (Some choice.counts)
+      (option_map counts_of (last_at (ruled done) identity))
+  last_at-more done choice identity =
+      let own : Choice → Bool = λ one. same_bytes identity (identity_by (ruled []) one.chosen) in
+      let before = filter own (map choice_of done) in
+      ap (λ all. option_map counts_of (last_or None (filter own all)))
+      (map-append choice_of done (choice ∷ []))
+      ∙ ap (λ all. option_map counts_of (last_or None all))
+      (filter-append own (map choice_of done) (choice_of choice ∷ []))
+      ∙ elim (of_it identity choice) as (λ b. option_map counts_of
+      (last_or None (before ++ cond b (choice_of choice ∷ []) []))
+      ≡ cond b (Some choice.counts) (option_map counts_of (last_or None before))) [
+        | true ↦ ap (option_map counts_of) (last_or-behind None before (choice_of choice))
+        | false ↦ ap (λ all. option_map counts_of (last_or None all)) (append-nil before)
+      ]
 
   -- with one choice more, its record is the last of its identity
   last_of-more : (done : List ChosenRecord) (choice : ChosenRecord) (identity : List ℕ)
@@ -163,6 +231,17 @@ module _ (adopted : Option ℕ) where
           | false ↦ are identity
         ]
         ∙ sym (last_of-more done choice identity)
+
+    -- so does a map that says whether it counts
+    pub counts-put : (counts next : Counts) → DoCount (ruled done) counts
+        → ((identity : List ℕ) → get by_bytes next identity
+        ≡ cond (is_at (by_bytes key) identity) (Some choice.counts) (get by_bytes counts identity))
+        → DoCount (ruled (done ++ choice ∷ [])) next
+    counts-put counts next are put identity =
+        put identity
+        ∙ ap (λ b. cond b (Some choice.counts) (get by_bytes counts identity)) (of_key identity)
+        ∙ ap (cond (of_it identity choice) (Some choice.counts)) (are identity)
+        ∙ sym (last_at-more done choice identity)
 
     -- a set of those that are not settled loses its identity
     pub unsettled-more : (shared : List ℕ → Bool) (before after : BTreeSet (List ℕ))

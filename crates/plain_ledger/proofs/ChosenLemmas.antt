@@ -1,7 +1,7 @@
 -- What a plain ledger answers to a choice, by the record that is meant.
 use Rattle.std.proofs.Common.{◌≡◌, ◌∙◌, ◌++◌, ℕ, List, [], ◌∷◌, length, refl, sym, ap, map, Bool}
 use Rattle.std.proofs.Common.{true, false, true≢false, cond, Option, Some, None, is_some, Result}
-use Rattle.std.proofs.Common.{Ok, Err, ◌≤◌, ◌<◌, subst, arith, if◌then◌else◌, All, nat_le}
+use Rattle.std.proofs.Common.{Ok, Err, ◌≤◌, ◌<◌, subst, arith, if◌then◌else◌, All, nat_le, not, ◌&&◌}
 use Rattle.std.specs.BTreeMap.{is_at}
 use Rattle.std.specs.Map.{keys_of, lookup}
 use Rattle.std.specs.Rc.{rc_slice_items}
@@ -12,23 +12,22 @@ use Rattle.book_model.specs.declared.answer.Ruled.TheVariants.{Done, Already}
 use Rattle.book_model.specs.declared.fault.LedgerFault.{LedgerFault}
 use Rattle.book_model.specs.declared.fault.LedgerFault.TheVariants.{Full, NoSuchRecord, NotDisputed}
 use Rattle.book_model.specs.Words.{Book, Choice, IsBookCall, Naming, Rulings, after_any, by_bytes}
-use Rattle.book_model.specs.Words.{if_done, choose_outcome, with_choice, chosen_answer, is_chosen}
-use Rattle.book_model.specs.Words.{is_unrivalled, most_choices, open_by, record_named}
+use Rattle.book_model.specs.Words.{if_done, choose_outcome, chosen_answer, is_chosen, is_withheld}
+use Rattle.book_model.specs.Words.{is_unrivalled, most_choices, open_by, record_named, with_named}
+use Rattle.book_model.specs.Words.{was_withheld, withheld_answer, withhold_outcome}
 use Rattle.book_model.proofs.AnswerLemmas.{answers_itself, ruling_calls}
 use Rattle.book_model.proofs.Lemmas.{named_held}
 use Rattle.plain_ledger.specs.declared.chosen.ChosenRecord.{ChosenRecord}
 use Rattle.plain_ledger.specs.declared.treatment.ClosedPeriod.{ClosedPeriod}
 use Rattle.plain_ledger.specs.declared.held.HeldRecord.{HeldRecord}
-use Rattle.book_core.specs.declared.rulings.Rulings.{Rulings as OfficeRulings}
 use Rattle.plain_ledger.specs.Choices.{choice_of}
-use Rattle.book_core.specs.Words.{ruled_in}
-use Rattle.plain_ledger.specs.Plain.{AreBooked, Entry, held_in, is_alone, record_of, ruled_by}
+use Rattle.plain_ledger.specs.Plain.{AreBooked, Entry, held_in, is_alone, record_of, with_choices}
 use Rattle.plain_ledger.specs.PlainBook.{book_with}
 use Rattle.plain_ledger.specs.Treatments.{Names, under_name}
 use Rattle.plain_ledger.proofs.ChargedLemmas.{each_unrivalled}
 use Rattle.plain_ledger.proofs.HeldLemmas.{bytes_of, has-found, named-held}
 use Rattle.book_core.proofs.NamedLemmas.{is_some-named, its_name, same_texts}
-use Rattle.book_core.proofs.RulingLemmas.{meant_by}
+use Rattle.book_core.proofs.RulingLemmas.{meant_by, withheld_by}
 
 -- what holds of each entry holds of the one that is found by a test that only its key passes
 pub found_holds : {K X : Type 0} (P : K × X → Type 0) (test : K → Bool) (key : K)
@@ -62,6 +61,24 @@ choose_calls naming name old new meant result found answer changed =
     ruling_calls (choose_outcome naming name) (meant_by (record_named naming old.held name)) old new
     result refl (answers_itself result _ (ap (chosen_answer old) found ∙ answer))
     (changed ∙ ap (λ one. after_any (if_done (meant_by one) result) old) (sym found))
+
+-- the answer to the choice of none, by the tests in their order
+abbrev pub none_by : Bool → Bool → Result Ruled LedgerFault
+none_by withheld full =
+    if withheld then Ok Already
+    else if full then Err Full
+    else Ok Done
+
+-- a choice of none that was asked for, by the record that is meant
+withhold_calls : (naming : Naming) (name : List ℕ) (old new : Book) (meant : Option (List ℕ))
+    (result : Result Ruled LedgerFault) → record_named naming old.held name ≡ meant
+    → withheld_answer old meant ≡ result
+    → new ≡ after_any (if_done (withheld_by meant) result) old
+    → IsBookCall (λ (value : Ruled). value) old new result (withhold_outcome naming name)
+withhold_calls naming name old new meant result found answer changed =
+    ruling_calls (withhold_outcome naming name) (withheld_by (record_named naming old.held name)) old
+    new result refl (answers_itself result _ (ap (withheld_answer old) found ∙ answer))
+    (changed ∙ ap (λ one. after_any (if_done (withheld_by one) result) old) (sym found))
 
 -- whether there are that many, by the comparison
 pub at_least : (most n : ℕ) → most ≤ n → true ≡ nat_le most n
@@ -118,8 +135,8 @@ module _ {naming : Naming} {rulings : Rulings} {entries : List Entry} {total : �
   -- and where one does, by the tests in their order
   pub choose_calls-found : (h : HeldRecord) (new : Book) (alone chosen full : Bool)
       → under_name name entries ≡ Some h
-      → alone ≡ is_alone rulings entries (name, h)
-      → chosen ≡ is_chosen rulings (record_of h)
+      → alone ≡ (is_alone rulings entries (name, h) && not (was_withheld rulings (record_of h)))
+      → chosen ≡ (is_chosen rulings (record_of h) && not (is_withheld rulings (record_of h)))
       → full ≡ nat_le most_choices (length rulings.choices)
       → new ≡ after_any (if_done (meant_by (Some (record_of h))) (chosen_by alone chosen full)) book
       → IsBookCall (λ (value : Ruled). value) book new (chosen_by alone chosen full)
@@ -132,17 +149,43 @@ module _ {naming : Naming} {rulings : Rulings} {entries : List Entry} {total : �
       (tells_apart exact_bytes name) entries h (each_unrivalled kept rising) found in
       choose_calls naming name book new (Some (record_of h)) (chosen_by alone chosen full)
       (named-found kept rising name h found)
-      (λ i. chosen_by ((unrivalled ∙ sym is_alone') i) (sym is_chosen' i) (sym is_full i))
+      (λ i. chosen_by
+      ((ap (λ b. b && not (was_withheld rulings (record_of h))) unrivalled ∙ sym is_alone') i)
+      (sym is_chosen' i) (sym is_full i))
+      changed
+
+  -- the choice of none, where no record has the name
+  pub withhold_calls-missing : under_name name entries ≡ None
+      → IsBookCall (λ (value : Ruled). value) book book (Err NoSuchRecord)
+      (withhold_outcome naming name)
+  withhold_calls-missing missing =
+      withhold_calls naming name book book None (Err NoSuchRecord)
+      (named-missing kept rising name missing) refl refl
+
+  -- and where one does
+  pub withhold_calls-found : (h : HeldRecord) (new : Book) (withheld full : Bool)
+      → under_name name entries ≡ Some h
+      → withheld ≡ is_withheld rulings (record_of h)
+      → full ≡ nat_le most_choices (length rulings.choices)
+      → new ≡ after_any (if_done (withheld_by (Some (record_of h))) (none_by withheld full)) book
+      → IsBookCall (λ (value : Ruled). value) book new (none_by withheld full)
+      (withhold_outcome naming name)
+  withhold_calls-found h new withheld full found is_withheld' is_full changed =
+      withhold_calls naming name book new (Some (record_of h)) (none_by withheld full)
+      (named-found kept rising name h found)
+      (λ i. none_by (sym is_withheld' i) (sym is_full i))
       changed
 
 -- the rulings with one choice more
-pub ruled-chosen : (rulings : OfficeRulings) (choices after : List ChosenRecord)
-    (choice : ChosenRecord) (bytes : List ℕ) → after ≡ choices ++ choice ∷ []
-    → rc_slice_items choice.bytes ≡ bytes → choice.period ≡ open_by (ruled_in rulings)
-    → ruled_by rulings after ≡ with_choice bytes (ruled_by rulings choices)
-ruled-chosen rulings choices after choice bytes is_all is_bytes is_open =
-    let one : choice_of choice ≡ record { chosen = bytes; period = open_by (ruled_in rulings) } =
-    λ i. record { chosen = is_bytes i; period = is_open i } in
-    ap (λ (all : List Choice). record (ruled_in rulings) { choices = all })
+pub ruled-chosen : (ruled : Rulings) (choices after : List ChosenRecord) (choice : ChosenRecord)
+    (counts : Bool) (bytes : List ℕ) → after ≡ choices ++ choice ∷ []
+    → rc_slice_items choice.bytes ≡ bytes → choice.counts ≡ counts
+    → choice.period ≡ open_by ruled
+    → with_choices after ruled ≡ with_named counts bytes (with_choices choices ruled)
+ruled-chosen ruled choices after choice counts bytes is_all is_bytes is_counts is_open =
+    let one : choice_of choice
+    ≡ record { chosen = bytes; counts = counts; period = open_by ruled } =
+    λ i. record { chosen = is_bytes i; counts = is_counts i; period = is_open i } in
+    ap (λ (all : List Choice). record ruled { choices = all })
     (ap (map choice_of) is_all ∙ map-append choice_of choices (choice ∷ [])
     ∙ ap (λ last. map choice_of choices ++ last ∷ []) one)

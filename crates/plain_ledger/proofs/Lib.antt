@@ -11,6 +11,8 @@ pub mod HeldLimits
 pub mod RepeatLemmas
 pub mod IdentityLemmas
 pub mod RepricingLemmas
+pub mod ReplacedList
+pub mod ReplacedRulings
 pub mod TariffLemmas
 pub mod NameLemmas
 pub mod TreatmentLemmas

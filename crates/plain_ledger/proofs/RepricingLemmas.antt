@@ -1,5 +1,4 @@
--- The records that are held, each at the price that it has under one more tariff: nothing else of
--- them changes.
+-- The records that are held, each at a new price: nothing else of them changes.
 use Rattle.std.proofs.Common.{◌≡◌, ◌∙◌, ℕ, List, [], ◌∷◌, refl, sym, ap, subst, map, Bool, true}
 use Rattle.std.proofs.Common.{false, cond, Option, Some, None, is_some, true≢false, filter, nat_lt}
 use Rattle.std.specs.BTreeMap.{get, is_at}
@@ -7,39 +6,40 @@ use Rattle.std.specs.BTreeSet.{contains}
 use Rattle.std.specs.Map.Calls.{RetainsPairs}
 use Rattle.std.proofs.lemmas.Map.Made.{is_some-lookup}
 use Rattle.book_model.proofs.Std.{list_any, map-map}
-use Rattle.book_model.specs.Words.{Rulings, Terms, most_cost, by_bytes, set_of}
+use Rattle.book_model.specs.Words.{Priced, Rulings, most_cost, by_bytes, set_of}
 use Rattle.book_model.proofs.Lemmas.{filter-map}
 use Rattle.plain_ledger.specs.declared.treatment.ClosedPeriod.{ClosedPeriod}
 use Rattle.plain_ledger.specs.declared.held.HeldRecord.{HeldRecord}
 use Rattle.plain_ledger.specs.Plain.{Entry, entry_records, held_in, record_of}
 use Rattle.plain_ledger.specs.PlainBook.{book_with}
-use Rattle.plain_ledger.specs.Repricing.{AreRepriced, price_anew, unpriced}
+use Rattle.plain_ledger.specs.Repricing.{AreRepriced, unpriced}
 use Rattle.book_core.specs.Words.{if_room}
 use Rattle.plain_ledger.specs.Treatments.{Names, AreNamed, is_counted, is_added, is_taken}
 use Rattle.plain_ledger.specs.Treatments.{has_name_in, period_with, records_where, treatment_closed}
 use Rattle.plain_ledger.specs.Treatments.{under_name}
 
 -- a call on a record that answers `true`, and leaves the record at its new price
-pub record Reprices (terms : Terms) (old new : HeldRecord) (answer : Bool) : Type 0 where
+pub record Reprices (price : HeldRecord → Priced) (old new : HeldRecord) (answer : Bool)
+    : Type 0 where
   pub answers : answer ≡ true
   pub bytes : record_of new ≡ record_of old
-  pub priced : new.priced ≡ price_anew terms old
+  pub priced : new.priced ≡ price old
 
 -- such calls on each entry, one after the other
 pub retain-reprices : {F : Type 0} (T : F → List ℕ → HeldRecord → Bool → HeldRecord → F → Type 0)
-    (terms : Terms) (f : F)
+    (price : HeldRecord → Priced) (f : F)
     → ((name : List ℕ) (old : HeldRecord) (answer : Bool) (new : HeldRecord) (next : F)
-    → T f name old answer new next → Reprices terms old new answer × (next ≡ f))
+    → T f name old answer new next → Reprices price old new answer × (next ≡ f))
     → (entries anew : List Entry) → RetainsPairs T f entries anew
-    → AreRepriced terms entries anew
-retain-reprices T terms f each [] anew is = record {
+    → AreRepriced price entries anew
+retain-reprices T price f each [] anew is = record {
   same = ap (map unpriced) is;
   priced = ap (map (λ (entry : Entry). entry.1.priced)) is;
 }
-retain-reprices {F} T terms f each (entry ∷ entries) anew is =
+retain-reprices {F} T price f each (entry ∷ entries) anew is =
     let one = each entry.0 entry.1 is.0 is.1 is.2 is.4 in
-    let call : Reprices terms entry.1 is.1 is.0 = one.0 in
-    let rest = retain-reprices T terms f each entries is.3
+    let call : Reprices price entry.1 is.1 is.0 = one.0 in
+    let rest = retain-reprices T price f each entries is.3
     (subst (λ (next : F). RetainsPairs T next entries is.3) one.1 is.5) in
     let all : anew ≡ (entry.0, is.1) ∷ is.3 =
     is.6 ∙ ap (λ b. cond b ((entry.0, is.1) ∷ is.3) is.3) call.answers in
@@ -55,7 +55,8 @@ none_found : {X : Type 0} (found other : Option X) → is_some found ≡ is_some
 none_found None other same none = refl
 none_found (Some x) other same none = absurd (true≢false (same ∙ ap is_some none))
 
-module _ {terms : Terms} {entries anew : List Entry} (is : AreRepriced terms entries anew) where
+module _ {price : HeldRecord → Priced} {entries anew : List Entry}
+    (is : AreRepriced price entries anew) where
   -- the names stay
   pub names_stay : map (λ (entry : Entry). entry.0) anew ≡ map (λ (entry : Entry). entry.0) entries
   names_stay =

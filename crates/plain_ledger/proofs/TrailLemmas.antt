@@ -11,15 +11,14 @@ use Rattle.book_model.specs.declared.fault.LedgerFault.TheVariants.{NoSuchRecord
 use Rattle.book_model.specs.Words.{Reckoning, Book, Choice, IsDay, Naming, TrailSeen, by_bytes}
 use Rattle.book_model.specs.Words.{choice_named, choices_among, day_of, identity_by, life_of}
 use Rattle.book_model.specs.Words.{period_on, reckoning_in, share_identity, trail_by}
-use Rattle.book_model.specs.Words.{trail_of, trail_outcome}
+use Rattle.book_model.specs.Words.{Rulings, trail_of, trail_outcome}
 use Rattle.book_model.proofs.Lemmas.{filter-map}
 use Rattle.plain_ledger.specs.declared.chosen.ChosenRecord.{ChosenRecord}
 use Rattle.plain_ledger.specs.declared.treatment.ClosedPeriod.{ClosedPeriod}
 use Rattle.plain_ledger.specs.declared.held.HeldRecord.{HeldRecord}
-use Rattle.book_core.specs.declared.rulings.Rulings.{Rulings as OfficeRulings}
 use Rattle.plain_ledger.specs.Choices.{choice_of, is_of}
-use Rattle.plain_ledger.specs.Plain.{AreBooked, Entry, entry_has_identity, record_of, ruled_by}
-use Rattle.plain_ledger.specs.Plain.{variant_at}
+use Rattle.plain_ledger.specs.Plain.{AreBooked, Entry, entry_has_identity, record_of}
+use Rattle.plain_ledger.specs.Plain.{variant_at, with_choices}
 use Rattle.plain_ledger.specs.PlainBook.{book_with}
 use Rattle.plain_ledger.specs.Treatments.{Names, under_name}
 use Rattle.plain_ledger.proofs.ChosenLemmas.{found_holds, named-found, named-missing}
@@ -51,13 +50,13 @@ members_dated p entries =
     All-map (λ (member : Variant). IsDay member.priced.day) variant_at (filter p entries)
     (λ k d within. (get_or (filter p entries) k d).1.priced_is.day)
 
-module _ {naming : Naming} (ruled : OfficeRulings) (choices : List ChosenRecord)
+module _ {naming : Naming} (ruled : Rulings) (choices : List ChosenRecord)
     {entries : List Entry} {total : ℕ}
-    (kept : AreBooked naming (ruled_by ruled choices) entries total)
+    (kept : AreBooked naming (with_choices choices ruled) entries total)
     (rising : IsStrictlySortedBy by_bytes (keys_of entries)) (posted : Names)
     (closed : List ClosedPeriod) (name : List ℕ) where
   abbrev book : Book
-  book = book_with (ruled_by ruled choices) entries posted closed
+  book = book_with (with_choices choices ruled) entries posted closed
 
   -- no record of the name is held
   pub trail-missing : under_name name entries ≡ None
@@ -69,28 +68,28 @@ module _ {naming : Naming} (ruled : OfficeRulings) (choices : List ChosenRecord)
   module _ (held : HeldRecord) (found : under_name name entries ≡ Some held) where
     -- which work its record measures
     abbrev own : List ℕ
-    own = identity_by (ruled_by ruled choices) (record_of held)
+    own = identity_by (with_choices choices ruled) (record_of held)
 
     -- the choices of its identity
-    choices-held : choices_among naming (ruled_by ruled choices) (record_of held)
+    choices-held : choices_among naming (with_choices choices ruled) (record_of held)
         ≡ map (λ choice. choice_named naming (choice_of choice))
-        (filter (is_of (ruled_by ruled choices) own) choices)
+        (filter (is_of (with_choices choices ruled) own) choices)
     choices-held =
         let shares : Choice → Bool =
-        λ choice. share_identity (ruled_by ruled choices) (record_of held) choice.chosen in
+        λ choice. share_identity (with_choices choices ruled) (record_of held) choice.chosen in
         ap (map (choice_named naming)) (filter-map shares choice_of choices)
         ∙ map-map (choice_named naming) choice_of
-        (filter (is_of (ruled_by ruled choices) own) choices)
+        (filter (is_of (with_choices choices ruled) own) choices)
 
     -- the trail, where its price came about so
     abbrev trail_with : Reckoning → TrailSeen
     trail_with reckoning = record {
       bytes = record_of held;
-      period = period_on (ruled_by ruled choices).closes held.priced.day;
+      period = period_on (with_choices choices ruled).closes held.priced.day;
       reckoning = reckoning;
-      members = map variant_at (filter (entry_has_identity (ruled_by ruled choices) own) entries);
+      members = map variant_at (filter (entry_has_identity (with_choices choices ruled) own) entries);
       choices = map (λ choice. choice_named naming (choice_of choice))
-          (filter (is_of (ruled_by ruled choices) own) choices);
+          (filter (is_of (with_choices choices ruled) own) choices);
       life = life_of book (record_of held);
     }
 
@@ -104,7 +103,7 @@ module _ {naming : Naming} (ruled : OfficeRulings) (choices : List ChosenRecord)
         let dispute = dispute_at-held kept rising own in
         λ i. record {
           bytes = record_of held;
-          period = period_on (ruled_by ruled choices).closes (sym day i);
+          period = period_on (with_choices choices ruled).closes (sym day i);
           reckoning = reckoning;
           members = (dispute i).members;
           choices = choices-held i;
@@ -113,7 +112,7 @@ module _ {naming : Naming} (ruled : OfficeRulings) (choices : List ChosenRecord)
 
     -- the answer, where it came about so, or not at all
     pub trail-answered : (by : Option Reckoning)
-        → by ≡ reckoning_in (ruled_by ruled choices) (record_of held)
+        → by ≡ reckoning_in (with_choices choices ruled) (record_of held)
         → (trail_outcome naming name book).answer
         ≡ ok_or (option_map trail_with by) NoSuchRecord
     trail-answered by is =

@@ -1,13 +1,14 @@
 -- Periods by the shares that they have in entries: which sets of records these are.
 use Rattle.std.proofs.Common.{◌≡◌, ◌∙◌, ℕ, List, [], map, refl, sym, ap, subst, Bool, true, false}
 use Rattle.std.proofs.Common.{not, ◌&&◌, ◌||◌, Option, Some, None, get_or, All, filter, sum_by, ℤ}
-use Rattle.std.proofs.Common.{int_lt, filter_map}
+use Rattle.std.proofs.Common.{int_lt, filter_map, option_map}
 use Rattle.std.specs.BTreeSet.{contains}
 use Rattle.std.specs.Map.{keys_of}
 use Rattle.std.proofs.Math.Bool.{and-true, not-not}
 use Rattle.book_model.proofs.Std.{IsDistinct, IsStrictlySortedBy, option_map_or, nat_list_cmp_total}
 use Rattle.book_model.proofs.Std.{nat_list_eq_equiv, All-filter, exact_bytes}
-use Rattle.book_model.specs.Words.{Priced, is_chosen, is_undisputed, is_dated_through}
+use Rattle.book_model.specs.Words.{Choice, Priced, is_chosen, is_undisputed, is_dated_through}
+use Rattle.book_model.specs.Words.{is_withheld}
 use Rattle.book_model.specs.Words.{is_dated_after, charged_by, identity_by, last_close, period_by}
 use Rattle.book_model.specs.Words.{Records, Naming, by_bytes, same_bytes, rows_for, rows_of}
 use Rattle.book_model.specs.Words.{Rulings, price_in, set_of, members, has, those, without}
@@ -21,8 +22,8 @@ use Rattle.plain_ledger.specs.Plain.{Entry, entry_identity, entry_records, held_
 use Rattle.plain_ledger.specs.Plain.{is_alone, rulings_of}
 use Rattle.plain_ledger.specs.Treatments.{treatment_of, is_counted, is_added, is_taken, charges}
 use Rattle.plain_ledger.specs.Treatments.{treatment_at, records_where, period_with, IsPeriodEnd}
-use Rattle.plain_ledger.specs.Treatments.{identity_at, is_choice}
-use Rattle.plain_ledger.specs.Choices.{last_of}
+use Rattle.plain_ledger.specs.Treatments.{identity_at, is_choice, is_none}
+use Rattle.plain_ledger.specs.Choices.{last_at, last_of}
 use Rattle.plain_ledger.proofs.HeldLemmas.{bytes_of, records_differ, held-alike, each_priced}
 use Rattle.plain_ledger.proofs.ChargedLemmas.{each_unrivalled}
 use Rattle.plain_ledger.proofs.TariffLemmas.{each_dated}
@@ -106,11 +107,29 @@ module _ {naming : Naming} {rulings : Rulings} {entries : List Entry} {total : �
       (ends.chosen (identity_at period_end entry.1)
       ∙ ap (last_of rulings) (identity-held through period_end ends entry))
 
-  -- its identity is shared by no other, or it is the choice, where it is undisputed
+  -- its work counts for nothing where it is withheld
+  none-held : (through : Option ℤ) (period_end : PeriodEnd) → IsPeriodEnd entries rulings through period_end
+      → (entry : Entry) → is_none period_end entry.1 ≡ is_withheld rulings (bytes_of entry)
+  none-held through period_end ends entry =
+      ap (λ found. option_map_or not found false)
+      (ends.counts (identity_at period_end entry.1)
+      ∙ ap (λ identity. option_map (λ (choice : Choice). choice.counts) (last_at rulings identity))
+      (identity-held through period_end ends entry))
+      ∙ by_last (last_at rulings (entry_identity rulings entry))
+    where
+      by_last : (last : Option Choice)
+          → option_map_or not (option_map (λ (choice : Choice). choice.counts) last) false
+          ≡ option_map_or (λ (choice : Choice). not choice.counts) last false
+      by_last None = refl
+      by_last (Some choice) = refl
+
+  -- its work is not withheld, and its identity is shared by no other, or it is the choice, where it
+  -- is undisputed
   undisputed-held : (through : Option ℤ) (period_end : PeriodEnd) → IsPeriodEnd entries rulings through period_end
       → All (λ (entry : Entry).
-      (not (contains by_bytes period_end.shared (identity_at period_end entry.1))
-      || is_choice period_end entry.1)
+      (not (is_none period_end entry.1)
+      && (not (contains by_bytes period_end.shared (identity_at period_end entry.1))
+      || is_choice period_end entry.1))
       ≡ is_undisputed rulings (held_in entries) (bytes_of entry)) entries
   undisputed-held through period_end ends k d within =
       let entry = get_or entries k d in
@@ -120,7 +139,8 @@ module _ {naming : Naming} {rulings : Rulings} {entries : List Entry} {total : �
       ∙ shared-not_alone rulings entries k d within)
       ∙ not-not (is_alone rulings entries entry)
       ∙ sym (each_unrivalled kept rising k d within) in
-      λ i. alone i || choice-held through period_end ends entry i
+      λ i. not (none-held through period_end ends entry i)
+      && (alone i || choice-held through period_end ends entry i)
 
   -- the entries that are charged at the end of a period are the records that the definitions charge
   pub charged-ends : (through : Option ℤ) (period_end : PeriodEnd)

@@ -7,3 +7,4 @@ pub mod Treatments
 pub mod PlainBook
 pub mod PlainDetails
 pub mod PlainLives
+pub mod Replacements

@@ -1,12 +1,16 @@
 -- What a plain ledger holds, as a book.
 use Rattle.std.specs.Prelude.{Bool, true, not, ◌&&◌, nat_eq, nat_le, filter, count_by, ◌≡◌, ◌≤◌, ℕ}
-use Rattle.std.specs.Prelude.{List, map, length, sum_by, Some, Option, Vec, All}
+use Rattle.std.specs.Prelude.{List, map, length, sum_by, Some, Option, Vec, All, ℤ}
 use Rattle.std.specs.BTreeSet.{BTreeSet, contains}
 use Rattle.std.specs.Global.{Global}
 use Rattle.std.specs.Rc.{rc_slice_items}
 use Rattle.book_model.specs.Words.{most_held, most_cost, Disputed, set_of, members, has, Records}
 use Rattle.book_model.specs.Words.{Naming, name_of, by_bytes, same_bytes, Rulings, are_rising}
 use Rattle.book_model.specs.Words.{no_rulings, price_in, identity_by, is_settled, variant_with}
+use Rattle.book_model.specs.Words.{Replaced, credit_shown}
+use Rattle.book_model.specs.Rulings as ruling
+use Rattle.book_model.specs.declared.bill.Credit.{Credit}
+use Rattle.plain_ledger.specs.declared.replaced.ReplacedTariff.{ReplacedTariff}
 use Rattle.plain_ledger.specs.declared.chosen.ChosenRecord.{ChosenRecord}
 use Rattle.plain_ledger.specs.declared.held.HeldRecord.{HeldRecord}
 use Rattle.plain_ledger.specs.declared.record_cache.RecordCache.{RecordCache}
@@ -45,9 +49,26 @@ CacheIsHeld entries cache = AllPass (has (held_in entries)) cache
 abbrev pub with_choices : List ChosenRecord → Rulings → Rulings
 with_choices choices rulings = record rulings { choices = map choice_of choices }
 
--- the rulings of a ledger that keeps these, and that made these choices
-abbrev pub ruled_by : OfficeRulings → List ChosenRecord → Rulings
-ruled_by rulings choices = with_choices choices (ruled_in rulings)
+-- a tariff that was replaced, as a ruling
+abbrev pub replaced_of : ReplacedTariff → Replaced
+replaced_of replaced = record { tariff = replaced.tariff; period = replaced.period }
+
+-- a credit of a period, as a ruling
+abbrev pub credit_with : ℕ → List ℕ → ℤ → List ℕ → ruling.Credit
+credit_with period centre amount reason =
+    record { centre = centre; amount = amount; reason = reason; period = period }
+
+-- the rulings of a ledger that keeps these, but for its choices
+abbrev pub ruled_beside : OfficeRulings → List ReplacedTariff → List Credit → Rulings
+ruled_beside rulings replaced credits = record (ruled_in rulings) {
+  replaced = map replaced_of replaced;
+  credits = map credit_shown credits;
+}
+
+-- with the choices that it made
+abbrev pub ruled_by : OfficeRulings → List ChosenRecord → List ReplacedTariff → List Credit → Rulings
+ruled_by rulings choices replaced credits =
+    with_choices choices (ruled_beside rulings replaced credits)
 
 -- the rulings that say which records are chosen: these choices, and the second rule of identity
 -- where it was adopted

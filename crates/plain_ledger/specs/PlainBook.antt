@@ -26,8 +26,9 @@ module _ {N : Type 0} {names : Ghosts N} where
 
   abbrev pub book_in : PlainLedger N names → Book
   book_in ledger =
-      book_with (ruled_by ledger.rulings ledger.choices.items) ledger.held.entries ledger.posted
-      ledger.closed.items
+      book_with
+      (ruled_by ledger.rulings ledger.choices.items ledger.replaced.items ledger.credits.items)
+      ledger.held.entries ledger.posted ledger.closed.items
 
   -- what is seen of the ledger as one that is kept in memory
   abbrev pub seen_in : PlainLedger N names → Seen

@@ -14,7 +14,7 @@ use Rattle.plain_ledger.specs.declared.period.Period.{Period as ReadPeriod}
 use Rattle.plain_ledger.specs.declared.period.Period.TheVariants.{Closed, Open}
 use Rattle.plain_ledger.specs.declared.treatment.Treatment.{Treatment}
 use Rattle.plain_ledger.specs.declared.treatment.Treatment.TheVariants.{Counted, Added, Taken}
-use Rattle.plain_ledger.specs.Choices.{AreLast, record_at}
+use Rattle.plain_ledger.specs.Choices.{AreLast, DoCount, record_at}
 use Rattle.plain_ledger.specs.Plain.{Entry, HasShared, entry_records, record_of, rulings_of}
 use Rattle.std.specs.BTreeMap as map
 use Rattle.std.specs.BTreeSet as set
@@ -65,13 +65,19 @@ is_choice period_end held =
     option_map_or (same_bytes (record_of held))
     (record_at period_end.chosen (identity_at period_end held)) false
 
--- the record is charged at the end of a period: its identity is shared by none, or it was chosen
--- last of that identity; and it is dated no later than the day through which the period ends, if it
--- ends through one
+-- the last choice of its identity says that none of its work counts
+abbrev pub is_none : PeriodEnd → HeldRecord → Bool
+is_none period_end held =
+    option_map_or not (map.get by_bytes period_end.counts (identity_at period_end held)) false
+
+-- the record is charged at the end of a period: its work is not withheld; its identity is shared by
+-- none, or it was chosen last of that identity; and it is dated no later than the day through which
+-- the period ends, if it ends through one
 abbrev pub charges : PeriodEnd → HeldRecord → Bool
 charges period_end held =
-    (not (set.contains by_bytes period_end.shared (identity_at period_end held))
-    || is_choice period_end held)
+    (not (is_none period_end held)
+    && (not (set.contains by_bytes period_end.shared (identity_at period_end held))
+    || is_choice period_end held))
     && is_through period_end.through held.priced.day
 
 -- the share of a record at the end of a period
@@ -132,11 +138,12 @@ pub record AreNamed (entries : List Entry) (names : Names) (closed : List Closed
 
 -- what decides how the open period ends over these entries by these rulings: the rule of identity
 -- in force, the identities that two or more of them have, the record that was chosen last of each
--- identity, the day of the close before, and the day through which it ends
+-- identity, and whether it counts, the day of the close before, and the day through which it ends
 pub record IsPeriodEnd (entries : List Entry) (rulings : Rulings) (day : Option ℤ) (period_end : PeriodEnd)
     : Type 0 where
   pub adopted : period_end.adopted ≡ rulings.adopted
   pub shared : HasShared rulings entries period_end.shared
   pub chosen : AreLast rulings period_end.chosen
+  pub counts : DoCount rulings period_end.counts
   pub last : period_end.last ≡ last_close rulings
   pub through : period_end.through ≡ day

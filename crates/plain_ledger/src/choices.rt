@@ -1,9 +1,12 @@
-//! Which records were chosen of an identity, and which of them was chosen last.
+//! Which records were chosen of an identity, which of them was chosen last, and which works are
+//! withheld.
 
-ghost use Rattle.std.specs.Prelude.{◌≡◌, [], IfOk, filter, find, map, option_copied, reverse};
+ghost use Rattle.std.specs.Prelude.{◌≡◌, ◌&&◌, not, [], IfOk, filter, find, map, option_copied};
+ghost use Rattle.std.specs.Prelude.{reverse};
 ghost use Rattle.book_model.specs.Charged as spec;
+ghost use Rattle.book_model.specs.RulingAnswers as answer;
 ghost use Rattle.book_model.specs.Words.{choice_named};
-ghost use Rattle.plain_ledger.specs.Choices.{AreLast, choice_of, is_of};
+ghost use Rattle.plain_ledger.specs.Choices.{AreLast, DoCount, choice_of, is_of};
 ghost use Rattle.plain_ledger.specs.Plain.{record_of, rulings_of};
 
 use crate::chosen::ChosenRecord;
@@ -40,6 +43,56 @@ pub(crate) fn is_chosen(choices: &[ChosenRecord], adopted: Option<u16>, held: &H
     }
 }
 
+/// Of the choices of a record's identity the last one says that none of its work counts.
+pub(crate) fn is_withheld(choices: &[ChosenRecord], adopted: Option<u16>, held: &HeldRecord) -> bool
+    ensures { result ≡ spec.is_withheld (rulings_of choices.now adopted) (record_of held.now) }
+{
+    match last_of(choices, adopted, &held.identity_by(adopted)) {
+        Some(choice) => !choice.counts,
+        None => false,
+    }
+}
+
+/// Some choice says that none of a record's work counts.
+pub(crate) fn was_withheld(
+    choices: &[ChosenRecord],
+    adopted: Option<u16>,
+    held: &HeldRecord,
+) -> bool
+    ensures { result ≡ answer.was_withheld (rulings_of choices.now adopted) (record_of held.now) }
+{
+    let identity = held.identity_by(adopted);
+    for choice in choices {
+        if choice.withholds(adopted, &identity) {
+            return true;
+        }
+    }
+    false
+}
+
+/// Of the choices of a record's identity the last one is the record's own, and it counts.
+pub(crate) fn is_current(choices: &[ChosenRecord], adopted: Option<u16>, held: &HeldRecord) -> bool
+    ensures { result ≡ (spec.is_chosen (rulings_of choices.now adopted) (record_of held.now)
+        && not (spec.is_withheld (rulings_of choices.now adopted) (record_of held.now))) }
+{
+    is_chosen(choices, adopted, held) && !is_withheld(choices, adopted, held)
+}
+
+/// Whether the last choice of each identity says that its record counts.
+pub(crate) fn last_counts(
+    alloc: Global,
+    choices: &[ChosenRecord],
+    adopted: Option<u16>,
+) -> Result<BTreeMap<Identity, bool>, AllocError>
+    ensures { IfOk result (λ counts. DoCount (rulings_of choices.now adopted) counts) }
+{
+    let mut counts = BTreeMap::new(alloc);
+    for choice in choices {
+        counts.insert(choice.identity_by(adopted), choice.counts)?;
+    }
+    Ok(counts)
+}
+
 /// The record that was chosen last of each identity.
 pub(crate) fn last_chosen(
     alloc: Global,
@@ -73,6 +126,7 @@ pub(crate) fn choices_with<N: Naming>(
             named.push(NamedChoice {
                 period: choice.period,
                 name: name_of(naming, &choice.bytes),
+                counts: choice.counts,
             })?;
         }
     }

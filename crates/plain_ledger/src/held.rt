@@ -4,6 +4,7 @@ ghost use Rattle.book_model.specs.Words.{identity_length, identity2_length, iden
 ghost use Rattle.book_model.specs.Words.{identity2_of, IsPriced, IsUsageRecord};
 
 use crate::identity::Identity;
+use book_core::{AcceptedTariff, is_last_begun};
 use smf_type30::Type30;
 use std::alloc::{AllocError, Global};
 use std::rc::RcSlice;
@@ -28,7 +29,7 @@ impl HeldRecord {
     ghost use Rattle.book_model.specs.Words as word;
     ghost use Rattle.book_model.specs.Words.{IsPriced, IsUsageRecord, identity_by};
     ghost use Rattle.plain_ledger.specs.Plain.{record_of, rulings_of};
-    ghost use Rattle.plain_ledger.specs.Repricing.{price_anew};
+    ghost use Rattle.plain_ledger.specs.Repricing.{price_anew, price_replaced};
 
     /// A copy of a record, with its price.
     pub(crate) fn new(
@@ -84,7 +85,28 @@ impl HeldRecord {
         }
     }
 
+    /// What the record costs under a tariff in the place of the one, of these, that begins on its
+    /// first day.
+    pub(crate) fn price_replaced(&self, tariffs: &[AcceptedTariff], tariff: &Tariff) -> Priced
+        ensures value { result ≡ price_replaced tariffs.now tariff.now self.now }
+        ensures bounds { IsPriced result }
+    {
+        if is_last_begun(tariffs, tariff, &self.usage()) {
+            self.price_by(tariff)
+        } else {
+            self.priced
+        }
+    }
+
     /// It costs that from now on.
+    pub(crate) fn replace_price(&mut self, tariffs: &[AcceptedTariff], tariff: &Tariff)
+        ensures bytes { record_of self.new ≡ record_of self.old }
+        ensures priced { self.new.priced ≡ price_replaced tariffs.now tariff.now self.old }
+    {
+        self.priced = self.price_replaced(tariffs, tariff);
+    }
+
+    /// It costs what it does under a tariff that begins later than every other one.
     pub(crate) fn reprice(&mut self, tariff: &Tariff)
         ensures bytes { record_of self.new ≡ record_of self.old }
         ensures priced { self.new.priced ≡ price_anew tariff.now self.old }

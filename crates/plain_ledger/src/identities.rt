@@ -1,15 +1,18 @@
 //! Which records are alone in their identity, and which are in dispute.
 
-ghost use Rattle.std.specs.Prelude.{◌≡◌, ℕ, List, [], IfOk, map, filter, find, count_by, nat_le};
+ghost use Rattle.std.specs.Prelude.{◌≡◌, ◌&&◌, not, ℕ, List, [], IfOk, map, filter, find, count_by};
+ghost use Rattle.std.specs.Prelude.{nat_le};
 ghost use Rattle.std.specs.BTreeMap.{values};
 ghost use Rattle.std.specs.BTreeSet.{contains};
 ghost use Rattle.std.specs.List.Sorted.{IsSorted};
 ghost use Rattle.book_model.specs.Words.{by_bytes, same_bytes, dispute_shown, identity_by};
 ghost use Rattle.book_model.specs.Words.{is_from};
+ghost use Rattle.book_model.specs.RulingAnswers as answer;
 ghost use Rattle.plain_ledger.specs.Plain as spec;
 ghost use Rattle.plain_ledger.specs.Plain.{disputes_among, group_shown, entry_has_identity};
 ghost use Rattle.plain_ledger.specs.Plain.{record_of, rulings_of, variant_at};
 
+use crate::choices::was_withheld;
 use crate::chosen::ChosenRecord;
 use crate::held::HeldRecord;
 use crate::identity::Identity;
@@ -76,6 +79,21 @@ pub(crate) fn is_lone(
         .filter(|kept| kept.identity_by(adopted) == *identity)
         .count()
         == 1
+}
+
+/// There is nothing to choose: a record is alone in its identity, and its work was never withheld.
+pub(crate) fn is_unopposed(
+    held: &BTreeMap<[u8; 32], HeldRecord>,
+    choices: &[ChosenRecord],
+    adopted: Option<u16>,
+    kept: &HeldRecord,
+) -> bool
+    ensures { result
+        ≡ (spec.is_lone (rulings_of [] adopted) held.now.entries
+        (identity_by (rulings_of [] adopted) (record_of kept.now))
+        && not (answer.was_withheld (rulings_of choices.now adopted) (record_of kept.now))) }
+{
+    is_lone(held, adopted, &kept.identity_by(adopted)) && !was_withheld(choices, adopted, kept)
 }
 
 /// The identities that two or more records have, where none was chosen.

@@ -4,6 +4,7 @@
 mod charge_rows;
 mod choices;
 mod chosen;
+mod credits;
 mod held;
 mod identities;
 mod identity;
@@ -12,6 +13,7 @@ mod period;
 mod period_end;
 mod plain;
 mod record_cache;
+mod replaced;
 mod repricing;
 mod shown;
 mod treatment;

@@ -1,6 +1,6 @@
 //! How the open period ends: now, or by a close.
 
-ghost use Rattle.std.specs.Prelude.{◌≡◌, IfOk};
+ghost use Rattle.std.specs.Prelude.{◌≡◌, ◌||◌, not, IfOk};
 ghost use Rattle.std.specs.BTreeSet.{contains};
 ghost use Rattle.book_model.specs.Words.{by_bytes};
 ghost use Rattle.plain_ledger.specs.Treatments as spec;
@@ -23,6 +23,8 @@ pub(crate) struct PeriodEnd {
     pub(crate) shared: BTreeSet<Identity>,
     /// The record that was chosen last of each identity.
     pub(crate) chosen: BTreeMap<Identity, RcSlice<u8>>,
+    /// Whether the last choice of each identity says that its record counts.
+    pub(crate) counts: BTreeMap<Identity, bool>,
     /// The day of the close before the period, if there was one.
     pub(crate) last: Option<i32>,
     /// The day through which it is closed; none where it stays open.
@@ -40,12 +42,31 @@ impl PeriodEnd {
         }
     }
 
+    /// The last choice of the record's identity says that none of its work counts.
+    fn is_none(&self, kept: &HeldRecord) -> bool
+        ensures { result ≡ spec.is_none self.now kept.now }
+    {
+        match self.counts.get(&kept.identity_by(self.adopted)) {
+            Some(counts) => !*counts,
+            None => false,
+        }
+    }
+
+    /// No other record has its identity, or it is the one that was chosen last of that.
+    fn is_preferred(&self, kept: &HeldRecord) -> bool
+        ensures { result
+            ≡ (not (contains by_bytes self.now.shared (spec.identity_at self.now kept.now))
+            || spec.is_choice self.now kept.now) }
+    {
+        let identity = kept.identity_by(self.adopted);
+        !self.shared.contains(&identity) || self.is_choice(kept)
+    }
+
     /// The record is charged at the end of the period.
     fn charges(&self, kept: &HeldRecord) -> bool
         ensures { result ≡ spec.charges self.now kept.now }
     {
-        let identity = kept.identity_by(self.adopted);
-        let is_undisputed = !self.shared.contains(&identity) || self.is_choice(kept);
+        let is_undisputed = !self.is_none(kept) && self.is_preferred(kept);
         is_undisputed && is_through(self.through, kept.priced.day)
     }
 

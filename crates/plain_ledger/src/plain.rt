@@ -2,15 +2,17 @@ ghost use Rattle.std.specs.Prelude.{◌≡◌, ◌≤◌, length};
 ghost use Rattle.std.specs.List.Sorted.{IsStrictlySortedBy};
 ghost use Rattle.std.specs.Map.{keys_of};
 ghost use Rattle.std.proofs.Props.{props};
-ghost use Rattle.book_model.specs.Words.{by_bytes, most_choices};
+ghost use Rattle.book_model.specs.Words.{by_bytes, most_choices, most_credits, most_replaced};
 ghost use Rattle.book_core.specs.OfficeRulings.{ruled_in};
 ghost use Rattle.plain_ledger.specs.Plain.{AreBooked, CacheIsHeld, ruled_by};
 ghost use Rattle.plain_ledger.specs.Treatments.{AreNamed};
 
 mod adoption;
 mod choices;
+mod credits;
 mod lists;
 mod records;
+mod replacements;
 mod ruling_list;
 mod rulings;
 mod trail;
@@ -18,11 +20,12 @@ mod trail;
 use crate::chosen::ChosenRecord;
 use crate::held::HeldRecord;
 use crate::record_cache::RecordCache;
+use crate::replaced::ReplacedTariff;
 use crate::treatment::ClosedPeriod;
 use book_core::{AcceptedTariff, Ledger, Rulings};
 use book_model::{
-    Accepted, ChargeRow, Detail, Dispute, LedgerFault, Line, ListedRuling, Naming, Ruled, Ruling,
-    Trail,
+    Accepted, ChargeRow, Credit, Detail, Dispute, LedgerFault, Line, ListedRuling, Naming, Ruled,
+    Ruling, Trail,
 };
 use smf_text::Name;
 use std::alloc::{AllocError, Global};
@@ -43,14 +46,19 @@ pub struct PlainLedger<N: Naming + Drop> {
     /// What each closed period does with the records.
     closed: Vec<ClosedPeriod>,
     choices: Vec<ChosenRecord>,
+    /// The tariffs that were replaced.
+    replaced: Vec<ReplacedTariff>,
+    credits: Vec<Credit>,
     alloc: Global,
     ghost rising: { IsStrictlySortedBy by_bytes (keys_of held.entries) } by { Prim.hlevel props },
     ghost kept: { AreBooked (N.name_of naming)
-        (ruled_by rulings choices.items) held.entries total },
+        (ruled_by rulings choices.items replaced.items credits.items) held.entries total },
     ghost recalls: { CacheIsHeld held.entries cache },
     ghost named: { AreNamed held.entries posted closed.items },
     ghost counted: { length closed.items ≡ length (ruled_in rulings).closes },
     ghost few: { length choices.items ≤ most_choices },
+    ghost few_replaced: { length replaced.items ≤ most_replaced },
+    ghost few_credits: { length credits.items ≤ most_credits },
 }
 
 impl<N: Naming + Drop> PlainLedger<N> {
@@ -92,6 +100,8 @@ impl<N: Naming + Drop> PlainLedger<N> {
             posted: BTreeSet::new(alloc),
             closed: Vec::new(alloc),
             choices: Vec::new(alloc),
+            replaced: Vec::new(alloc),
+            credits: Vec::new(alloc),
             alloc,
         }
     }
@@ -157,6 +167,10 @@ impl<N: Naming + Drop> Ledger for PlainLedger<N> {
 
     fn ruling(&mut self, number: u64) -> Result<Option<ListedRuling>, LedgerFault> {
         self.ruling_listed(number)
+    }
+
+    fn credit_given(&mut self, number: u64) -> Result<Option<Credit>, LedgerFault> {
+        self.credit_kept(number)
     }
 
     fn record_named(&mut self, alloc: Global, name: &[u8; 32]) -> Result<Vec<u8>, LedgerFault> {

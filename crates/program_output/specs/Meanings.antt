@@ -81,8 +81,8 @@ ledger_texts =
     ) ∷
     -- 4 Full
     (
-      codes "A limit is reached: 50,000,000 records, their total cost, 9,999 periods or "
-          ++ codes "1,000,000 choices.",
+      codes "A limit is reached: 50,000,000 records, their total cost, 9,999 periods, "
+          ++ codes "1,000,000 choices, or 10,000 credits or replaced tariffs.",
       codes "Begin new books; if a tariff was refused, submit one with lower prices; if a list of "
           ++ codes "names was, split it.",
     ) ∷
@@ -94,14 +94,16 @@ ledger_texts =
     ) ∷
     -- 6 TariffDate
     (
-      codes "The tariff begins no later than the last close or the last tariff.",
+      codes "The tariff begins no later than the last close or, without --replace, the last "
+          ++ codes "tariff.",
       codes "Date it later than both: what is dated by the last close can't be priced any more; "
           ++ codes "held records from its first day on are priced anew.",
     ) ∷
     -- 7 TariffExists
     (
       codes "Another tariff begins on the same day.",
-      codes "Date this one later.",
+      codes "Date this one later; or, while no period that has that day is closed, put it in "
+          ++ codes "that one's place with --replace.",
     ) ∷
     -- 8 RecordsDated
     (
@@ -131,7 +133,8 @@ ledger_texts =
     ) ∷
     -- 13 NotDisputed
     (
-      codes "No held record contradicts that one: it is charged already.",
+      codes "No held record contradicts that one, and its work was never withheld: it is "
+          ++ codes "charged already.",
       codes "Take the name from the list of disputes.",
     ) ∷
     -- 14 OldRule

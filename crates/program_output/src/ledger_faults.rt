@@ -55,8 +55,8 @@ const REOPEN: Explanation = Explanation {
 };
 
 const FULL: Explanation = Explanation {
-    meaning: "A limit is reached: 50,000,000 records, their total cost, 9,999 periods or 1,000,000 \
-         choices.",
+    meaning: "A limit is reached: 50,000,000 records, their total cost, 9,999 periods, 1,000,000 \
+         choices, or 10,000 credits or replaced tariffs.",
     advice: "Begin new books; if a tariff was refused, submit one with lower prices; if a list of \
          names was, split it.",
 };
@@ -68,14 +68,16 @@ const DIGEST_CLASH: Explanation = Explanation {
 };
 
 const TARIFF_DATE: Explanation = Explanation {
-    meaning: "The tariff begins no later than the last close or the last tariff.",
+    meaning: "The tariff begins no later than the last close or, without --replace, the last \
+         tariff.",
     advice: "Date it later than both: what is dated by the last close can't be priced any more; \
          held records from its first day on are priced anew.",
 };
 
 const TARIFF_EXISTS: Explanation = Explanation {
     meaning: "Another tariff begins on the same day.",
-    advice: "Date this one later.",
+    advice: "Date this one later; or, while no period that has that day is closed, put it in that \
+         one's place with --replace.",
 };
 
 const RECORDS_DATED: Explanation = Explanation {
@@ -104,7 +106,8 @@ const NO_SUCH_RECORD: Explanation = Explanation {
 };
 
 const NOT_DISPUTED: Explanation = Explanation {
-    meaning: "No held record contradicts that one: it is charged already.",
+    meaning: "No held record contradicts that one, and its work was never withheld: it is charged \
+         already.",
     advice: "Take the name from the list of disputes.",
 };
 

@@ -168,10 +168,14 @@ report_of_office report.Periods form = Some made.PeriodList
 report_of_office report.Rulings form = Some made.RulingList
 report_of_office name form = None
 
--- of the tariff of a day, and of a record
+-- of the tariff of a day, of one that another took the place of, and of a record
 abbrev pub report_of_day : ReportName → ℤ → Option Report
 report_of_day report.TariffText day = Some (made.TariffText day)
 report_of_day name day = None
+
+abbrev pub report_of_replaced : ReportName → ℤ → List ℕ → Option Report
+report_of_replaced report.TariffText day digest = Some (made.ReplacedText day digest)
+report_of_replaced name day digest = None
 
 abbrev pub report_of_record : ReportName → List ℕ → Option Report
 report_of_record report.Record record_name = Some (made.Record record_name)
@@ -183,4 +187,5 @@ report_about name form (about.OfCentre period centre) = report_of_centre name fo
 report_about name form (about.OfPeriod period) = report_of_period name form period
 report_about name form about.OfOffice = report_of_office name form
 report_about name form (about.OfDay day) = report_of_day name day
+report_about name form (about.OfReplaced day digest) = report_of_replaced name day digest
 report_about name form (about.OfRecord record_name) = report_of_record name record_name

@@ -18,6 +18,13 @@ pub enum About {
     OfOffice,
     /// The tariff that begins on a day, counted from 1970-01-01.
     OfDay(i32),
+    /// A tariff that another took the place of.
+    OfReplaced {
+        /// The day on which the tariff begins, counted from 1970-01-01.
+        day: i32,
+        /// The SHA-256 of its text.
+        digest: [u8; 32],
+    },
     /// The record of a name.
     OfRecord([u8; 32]),
 }

@@ -48,7 +48,7 @@ pub enum Shape {
     OfPeriod,
     /// The books.
     OfOffice,
-    /// The tariff that begins on a day.
+    /// The tariff that begins on a day, or one that another took the place of.
     OfDay,
     /// A record, by its name.
     OfRecord,
@@ -389,6 +389,10 @@ pub fn report_about(name: ReportName, form: StatementForm, about: About) -> Opti
         },
         About::OfDay(day) => match name {
             ReportName::TariffText => Some(Report::TariffText(day)),
+            _ => None,
+        },
+        About::OfReplaced { day, digest } => match name {
+            ReportName::TariffText => Some(Report::ReplacedText { day, digest }),
             _ => None,
         },
         About::OfRecord(record) => match name {

@@ -13,6 +13,7 @@ use Rattle.report_texts.specs.CentreAmounts.{AreCharges, charges_among, side_amo
 use Rattle.report_texts.specs.Charges.{centre_charges}
 use Rattle.report_texts.specs.declared.centre_amounts.CentreAmounts.{CentreAmounts}
 use Rattle.report_texts.specs.declared.charges.CentreCharges.{CentreCharges}
+use Rattle.report_texts.specs.declared.charges.CreditAmount.{CreditAmount}
 use Rattle.report_texts.proofs.AmountLemmas.{charged_within, reversed_within}
 use Rattle.report_texts.proofs.CentreLemmas.{filter_most}
 
@@ -90,11 +91,13 @@ charged_by amounts centre = record { centre = centre; charges = charges_among am
 
 -- that is what it is charged, where these are its amounts
 pub all_charged : (amounts : CentreAmounts) (steps jobs : List ChargeRow) (lines : List Line)
-    (centres : List (List ℕ)) → AreCharges amounts steps jobs lines
-    → map (charged_by amounts) centres ≡ map (centre_charges steps jobs lines) centres
-all_charged amounts steps jobs lines centres are = λ i. map (λ centre. one centre i) centres
+    (credits : List CreditAmount) (centres : List (List ℕ))
+    → AreCharges amounts steps jobs lines credits
+    → map (charged_by amounts) centres ≡ map (centre_charges steps jobs lines credits) centres
+all_charged amounts steps jobs lines credits centres are = λ i. map (λ centre. one centre i) centres
   where
-    one : (centre : List ℕ) → charged_by amounts centre ≡ centre_charges steps jobs lines centre
+    one : (centre : List ℕ)
+        → charged_by amounts centre ≡ centre_charges steps jobs lines credits centre
     one centre = λ i. record {
       centre = centre;
       charges = record {
@@ -102,5 +105,7 @@ all_charged amounts steps jobs lines centres are = λ i. map (λ centre. one cen
         jobs = are.jobs centre i;
         late = are.late centre i;
         reversed = are.reversed centre i;
+        credited = are.credited centre i;
+        debited = are.debited centre i;
       };
     }

@@ -8,10 +8,13 @@ use Rattle.book_model.specs.declared.bill.BilledLine.{BilledLine}
 use Rattle.book_model.specs.Words.{AreLines, BillSeen, IsDay, by_bytes, members, same_bytes, set_of}
 use Rattle.book_model.proofs.Lemmas.{members-empty, members-with, set_of-alike, SumsAlike}
 use Rattle.report_texts.proofs.Words.{Line, ChargeRow, charged_amount, FitCharges, plain_lines}
-use Rattle.report_texts.specs.Charges.{IsBill, centre_charges, centres_of, charges_of}
-use Rattle.report_texts.specs.Charges.{charges_of_centre, each_charges}
+use Rattle.report_texts.specs.AdjustmentLists.{reversed_amount}
+use Rattle.report_texts.specs.Charges.{IsBill, all_charges, centres_of, centres_on, charges_of}
+use Rattle.report_texts.specs.Charges.{charges_of_centre, charges_on, each_charges, plain_credits}
 use Rattle.report_texts.specs.declared.charges.CentreCharges.{CentreCharges}
-use Rattle.report_texts.proofs.AmountLemmas.{charged_within}
+use Rattle.report_texts.specs.declared.charges.CreditAmount.{CreditAmount}
+use Rattle.report_texts.proofs.AmountLemmas.{charged_within, credited_within, debited_within}
+use Rattle.report_texts.proofs.AmountLemmas.{reversed_within}
 use Rattle.report_texts.proofs.CentreLemmas.{filter_most}
 
 -- the records of a bill's lines are dated on days, where those of the plain lines are
@@ -24,33 +27,41 @@ billed_days billed are k one inside =
     (are.days k one.line (simp length-map inside))
 
 -- what a bill that can be shown charges fits
-pub bill_fits : (bill : BillSeen) → IsBill bill
-    → FitCharges (charges_of bill.steps bill.jobs (plain_lines bill.lines))
+pub bill_fits : (bill : BillSeen) → IsBill bill → FitCharges (all_charges bill)
 bill_fits bill is =
     let late = charged_within (plain_lines bill.lines) in
-    omega (arith, is.amount, is.lines.amount)
+    let back = reversed_within (plain_lines bill.lines) in
+    let credited = credited_within (plain_credits bill.credits) in
+    let debited = debited_within (plain_credits bill.credits) in
+    record {
+      charged = omega (arith, is.amount, is.lines.amount, is.credits, late, debited);
+      taken = omega (arith, is.lines.amount, is.credits, back, credited);
+    }
 
 -- what one centre is charged fits, where all does
 centre_fits : (centre : List ℕ) (steps jobs : List ChargeRow) (lines : List Line)
-    → FitCharges (charges_of steps jobs lines)
-    → FitCharges (charges_of_centre centre steps jobs lines)
-centre_fits centre steps jobs lines fits =
+    (credits : List CreditAmount) → FitCharges (charges_of steps jobs lines credits)
+    → FitCharges (charges_of_centre centre steps jobs lines credits)
+centre_fits centre steps jobs lines credits fits =
     let own_row = λ (row : ChargeRow). same_bytes row.centre centre in
+    let own_line = λ (line : Line). same_bytes line.priced.centre centre in
+    let own_credit = λ (credit : CreditAmount). same_bytes credit.centre centre in
     let own_steps = filter_most own_row (λ row. row.amount) steps in
     let own_jobs = filter_most own_row (λ row. row.amount) jobs in
-    let own_lines = filter_most (λ (line : Line). same_bytes line.priced.centre centre)
-    charged_amount lines in
-    omega arith
+    let own_late = filter_most own_line charged_amount lines in
+    let own_back = filter_most own_line reversed_amount lines in
+    let own_debits = filter_most own_credit (λ credit. credit.debited) credits in
+    let own_credits = filter_most own_credit (λ credit. credit.credited) credits in
+    record { charged = omega (arith, fits.charged); taken = omega (arith, fits.taken) }
 
 -- so what each centre of such a bill is charged fits
 pub each_fits : (bill : BillSeen) → IsBill bill
     → All (λ (one : CentreCharges). FitCharges one.charges) (each_charges bill)
 each_fits bill is =
-    let lines = plain_lines bill.lines in
-    let centres = centres_of bill.steps bill.jobs lines in
-    All-map (λ (one : CentreCharges). FitCharges one.charges)
-    (centre_charges bill.steps bill.jobs lines) centres
-    (λ k d within. centre_fits (get_or centres k d) bill.steps bill.jobs lines (bill_fits bill is))
+    let centres = centres_on bill in
+    All-map (λ (one : CentreCharges). FitCharges one.charges) (charges_on bill) centres
+    (λ k d within. centre_fits (get_or centres k d) bill.steps bill.jobs (plain_lines bill.lines)
+    (plain_credits bill.credits) (bill_fits bill is))
 
 -- one more name joins the others in its place
 pub one_more : (names : List (List ℕ)) (name : List ℕ)
@@ -81,20 +92,26 @@ joined_members name names (x ∷ xs) =
     ∙ joined_members name (names ++ name x ∷ []) xs
     ∙ ap (λ all. members (set_of by_bytes all)) (append_assoc names (name x ∷ []) (map name xs))
 
--- the centres of steps, jobs and lines, joined in this order
-pub centres_joined : (steps jobs : List ChargeRow) (lines : List Line)
-    (none by_steps by_jobs all : List (List ℕ)) → none ≡ []
+-- the centres of steps, jobs, lines and credits, joined in this order
+pub centres_joined : (steps jobs : List ChargeRow) (lines : List Line) (credits : List CreditAmount)
+    (none by_steps by_jobs by_lines all : List (List ℕ)) → none ≡ []
     → by_steps ≡ joined (λ (row : ChargeRow). row.centre) none steps
     → by_jobs ≡ joined (λ (row : ChargeRow). row.centre) by_steps jobs
-    → all ≡ joined (λ (line : Line). line.priced.centre) by_jobs lines
-    → all ≡ centres_of steps jobs lines
-centres_joined steps jobs lines none by_steps by_jobs all empty of_steps of_jobs of_lines =
+    → by_lines ≡ joined (λ (line : Line). line.priced.centre) by_jobs lines
+    → all ≡ joined (λ (credit : CreditAmount). credit.centre) by_lines credits
+    → all ≡ centres_of steps jobs lines credits
+centres_joined steps jobs lines credits none by_steps by_jobs by_lines all empty of_steps of_jobs
+    of_lines of_credits =
     let row_centre : ChargeRow → List ℕ = λ row. row.centre in
     let line_centre : Line → List ℕ = λ line. line.priced.centre in
+    let credit_centre : CreditAmount → List ℕ = λ credit. credit.centre in
     let first = of_steps
     ∙ ap (λ keys. joined row_centre keys steps) (empty ∙ sym (members-empty by_bytes))
     ∙ joined_members row_centre [] steps in
     let second = of_jobs ∙ ap (λ keys. joined row_centre keys jobs) first
     ∙ joined_members row_centre (map row_centre steps) jobs in
-    of_lines ∙ ap (λ keys. joined line_centre keys lines) second
-    ∙ joined_members line_centre (map row_centre steps ++ map row_centre jobs) lines
+    let third = of_lines ∙ ap (λ keys. joined line_centre keys lines) second
+    ∙ joined_members line_centre (map row_centre steps ++ map row_centre jobs) lines in
+    of_credits ∙ ap (λ keys. joined credit_centre keys credits) third
+    ∙ joined_members credit_centre
+    (map row_centre steps ++ map row_centre jobs ++ map line_centre lines) credits

@@ -1,5 +1,5 @@
--- Amounts by centre: what each centre has of a bill, as one pass over its rows and its lines adds it
--- up.
+-- Amounts by centre: what each centre has of a bill, as one pass over its rows, its lines and its
+-- credits adds it up.
 use Rattle.std.specs.Prelude.{◌≡◌, ℕ, ◌+◌, Bool, true, false, if◌then◌else◌, List, sum_by, unwrap_or}
 use Rattle.std.specs.BTreeMap.{is_at}
 use Rattle.std.specs.Map.{lookup}
@@ -7,9 +7,10 @@ use Rattle.book_model.specs.declared.line.Line.{Line}
 use Rattle.book_model.specs.declared.row.ChargeRow.{ChargeRow}
 use Rattle.book_model.specs.Words.{by_bytes, same_bytes}
 use Rattle.report_texts.specs.AdjustmentLists.{charged_amount, reversed_amount}
-use Rattle.report_texts.specs.Centres.{lines_of_centre, rows_of_centre}
+use Rattle.report_texts.specs.Centres.{credits_of_centre, lines_of_centre, rows_of_centre}
 use Rattle.report_texts.specs.declared.centre_amounts.CentreAmounts.{CentreAmounts}
 use Rattle.report_texts.specs.declared.charges.Charges.{Charges}
+use Rattle.report_texts.specs.declared.charges.CreditAmount.{CreditAmount}
 
 -- what a centre has among amounts by centre, nothing where it is not there
 abbrev pub cost_among : List (List ℕ × ℕ) → List ℕ → ℕ
@@ -35,13 +36,24 @@ side_amount false = charged_amount
 abbrev pub line_amount : Bool → List Line → List ℕ → ℕ
 line_amount is_reversed lines centre = sum_by (side_amount is_reversed) (lines_of_centre centre lines)
 
--- each centre has what it is charged of rows of steps, rows of jobs and lines
+-- what its credits add, and what they take off
+abbrev pub credit_side : Bool → CreditAmount → ℕ
+credit_side true credit = credit.debited
+credit_side false credit = credit.credited
+
+abbrev pub credit_amount : Bool → List CreditAmount → List ℕ → ℕ
+credit_amount is_debited credits centre =
+    sum_by (credit_side is_debited) (credits_of_centre centre credits)
+
+-- each centre has what it is charged of rows of steps, rows of jobs, lines and credits
 pub record AreCharges (amounts : CentreAmounts) (step_rows job_rows : List ChargeRow)
-    (lines : List Line) : Type 0 where
+    (lines : List Line) (credits : List CreditAmount) : Type 0 where
   pub steps : AreAmounts amounts.steps.entries (cost_of step_rows)
   pub jobs : AreAmounts amounts.jobs.entries (cost_of job_rows)
   pub late : AreAmounts amounts.late.entries (line_amount false lines)
   pub reversed : AreAmounts amounts.reversed.entries (line_amount true lines)
+  pub credited : AreAmounts amounts.credited.entries (credit_amount false credits)
+  pub debited : AreAmounts amounts.debited.entries (credit_amount true credits)
 
 -- what a centre is charged by the amounts
 abbrev pub charges_among : CentreAmounts → List ℕ → Charges
@@ -50,4 +62,6 @@ charges_among amounts centre = record {
   jobs = cost_among amounts.jobs.entries centre;
   late = cost_among amounts.late.entries centre;
   reversed = cost_among amounts.reversed.entries centre;
+  credited = cost_among amounts.credited.entries centre;
+  debited = cost_among amounts.debited.entries centre;
 }

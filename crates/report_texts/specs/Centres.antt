@@ -3,6 +3,7 @@ use Rattle.std.specs.Prelude.{ℕ, List, ◌++◌, codes, filter, Option, ℤ}
 use Rattle.book_model.specs.declared.line.Line.{Line}
 use Rattle.book_model.specs.declared.row.ChargeRow.{ChargeRow}
 use Rattle.book_model.specs.Words.{same_bytes}
+use Rattle.report_texts.specs.declared.charges.CreditAmount.{CreditAmount}
 use Rattle.report_texts.specs.Statements.{titled_statement}
 use Rattle.report_texts.specs.StatementTables.{statement_table}
 use Rattle.report_texts.specs.AdjustmentLists.{titled_adjustments}
@@ -15,6 +16,10 @@ rows_of_centre centre rows = filter (λ row. same_bytes row.centre centre) rows
 -- of adjustment lines, those of the centre
 abbrev pub lines_of_centre : List ℕ → List Line → List Line
 lines_of_centre centre lines = filter (λ line. same_bytes line.priced.centre centre) lines
+
+-- of credits, those of the centre
+abbrev pub credits_of_centre : List ℕ → List CreditAmount → List CreditAmount
+credits_of_centre centre credits = filter (λ credit. same_bytes credit.centre centre) credits
 
 -- the title of a report on the centre
 unfoldable pub centre_title : List ℕ → List ℕ → List ℕ

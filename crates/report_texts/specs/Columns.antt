@@ -1,6 +1,6 @@
 -- Texts in columns, and numbers with decimal places. A text is its bytes.
 use Rattle.std.specs.Prelude.{ℕ, ◌-◌, ◌/◌, ◌%◌, List, ◌++◌, length, replicate, codes, Option, Some}
-use Rattle.std.specs.Prelude.{None, decimal}
+use Rattle.std.specs.Prelude.{None, decimal, if◌then◌else◌, ℤ, pos, int_lt, unsigned_abs, []}
 use Rattle.std.specs.Str.{byte}
 
 abbrev pub newline : List ℕ
@@ -34,3 +34,8 @@ seconds_text hundredths = decimal (hundredths / 100) ++ codes "." ++ digits_in 2
 -- ten-thousandths of the money unit, in units
 unfoldable pub amount_text : ℕ → List ℕ
 amount_text amount = decimal (amount / 10_000) ++ codes "." ++ digits_in 4 (amount % 10_000)
+
+-- the same of an amount that may be below zero: a minus sign comes before it then
+unfoldable pub credit_text : ℤ → List ℕ
+credit_text amount =
+    (if int_lt amount (pos 0) then codes "-" else []) ++ amount_text (unsigned_abs amount)

@@ -13,6 +13,7 @@ use Rattle.report_texts.specs.Figures.{figures, period_open}
 use Rattle.report_texts.specs.RulingLists.{close_words}
 use Rattle.report_texts.specs.declared.dry_runs.TriedRuling.{TriedRuling}
 use Rattle.report_texts.specs.declared.dry_runs.TriedRuling.TheVariants.{Tariff, Close, Choose, Adopt}
+use Rattle.report_texts.specs.declared.dry_runs.TriedRuling.TheVariants.{Credit, Replace, Withhold}
 use Rattle.report_texts.specs.declared.figures.Figures.{Figures}
 
 -- the day of the ruling, where it has one, is a day
@@ -21,13 +22,24 @@ NamesDay (Tariff first) = IsDay first
 NamesDay (Close period through) = IsDay through
 NamesDay (Choose name) = Unit {0}
 NamesDay Adopt = Unit {0}
+NamesDay (Replace first) = IsDay first
+NamesDay (Withhold name) = Unit {0}
+NamesDay (Credit period centre) = Unit {0}
 
--- a ruling: a tariff by its first day, a close by its period and its day, a choice by the record's name
+-- a credit, by its period and its centre
+unfoldable pub credit_words : ℕ → List ℕ → List ℕ
+credit_words period centre = codes "CREDIT " ++ decimal period ++ codes " " ++ centre
+
+-- a ruling: a tariff by its first day, a close by its period and its day, a choice by the record's name,
+-- a credit by its period and its centre
 unfoldable pub ruling_words : TriedRuling → List ℕ
 ruling_words (Tariff first) = codes "TARIFF " ++ day_text_of first
 ruling_words (Close period through) = close_words period through
 ruling_words (Choose name) = codes "CHOOSE " ++ encode_lower name
 ruling_words Adopt = codes "ADOPT"
+ruling_words (Replace first) = codes "TARIFF " ++ day_text_of first ++ codes " REPLACE"
+ruling_words (Withhold name) = codes "CHOOSE NONE " ++ encode_lower name
+ruling_words (Credit period centre) = credit_words period centre
 
 -- what is answered to it
 abbrev pub answer_word : Ruled → List ℕ
@@ -73,15 +85,19 @@ adjustments_line period before after =
 unfoldable pub records_line : ℕ → ℕ → ℕ → List ℕ
 records_line period before after = count_line (figure_name (codes "RECORDS") period) before after
 
--- How many records that the period counts a tariff prices anew, of those dated on its first day or
--- later: none where it was in force already. (What is in dispute is priced anew too; no line of a
+-- the line of how many credits a period has
+unfoldable pub credits_line : ℕ → ℕ → ℕ → List ℕ
+credits_line period before after = count_line (figure_name (codes "CREDITS") period) before after
+
+-- How many records that the period counts a tariff prices anew, of those dated on days on which it is
+-- in force: none where it was in force already. (What is in dispute is priced anew too; no line of a
 -- dry run counts it.)
 abbrev pub priced_anew : Ruled → ℕ → ℕ
 priced_anew Done dated = dated
 priced_anew Already dated = 0
 
 -- the line of the ruling: the records of the period that a tariff prices anew, those of the period
--- after the one that is open, or the disputes
+-- after the one that is open, the disputes, or the credits of the period
 unfoldable pub own_line : TriedRuling → Ruled → ℕ → ℕ → ℕ → List ℕ
 own_line (Tariff first) answer period before after =
     count_line (codes "PRICED") 0 (priced_anew answer after)
@@ -89,6 +105,10 @@ own_line (Close number through) answer period before after =
     records_line (period + 1) before after
 own_line (Choose name) answer period before after = count_line (codes "DISPUTES") before after
 own_line Adopt answer period before after = count_line (codes "DISPUTES") before after
+own_line (Replace first) answer period before after =
+    count_line (codes "PRICED") 0 (priced_anew answer after)
+own_line (Withhold name) answer period before after = count_line (codes "DISPUTES") before after
+own_line (Credit number centre) answer period before after = credits_line period before after
 
 -- the lines of figures
 abbrev pub figure_lines : TriedRuling → Ruled → ℕ → Figures → Figures → List ℕ

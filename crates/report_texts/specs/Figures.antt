@@ -1,13 +1,15 @@
 -- Figures of a period: what a dry run shows of books before a ruling and after it.
-use Rattle.std.specs.Prelude.{ℕ, ◌+◌, nat_lt, ℤ, int_lt, if◌then◌else◌, List, [], length, sum_by}
+use Rattle.std.specs.Prelude.{ℕ, ◌+◌, ◌-◌, nat_lt, ℤ, int_lt, if◌then◌else◌, List, [], ◌∷◌}
+use Rattle.std.specs.Prelude.{length, sum_by, Option, Some, None}
 use Rattle.std.specs.Option.{option_map_or}
 use Rattle.book_model.specs.declared.line.Line.{Line}
 use Rattle.book_model.specs.declared.row.ChargeRow.{ChargeRow}
 use Rattle.book_model.specs.Words.{Book, Naming, disputes_in, last_period, lines_of, period_of}
-use Rattle.book_model.specs.Words.{rows_for}
+use Rattle.book_model.specs.Words.{RulingSeen, TariffSeen, credits_in, rows_for, tariffs_seen}
 use Rattle.report_texts.specs.AdjustmentLists.{charged_amount, reversed_amount}
 use Rattle.report_texts.specs.declared.dry_runs.TriedRuling.{TriedRuling}
 use Rattle.report_texts.specs.declared.dry_runs.TriedRuling.TheVariants.{Tariff, Close, Choose, Adopt}
+use Rattle.report_texts.specs.declared.dry_runs.TriedRuling.TheVariants.{Credit, Replace, Withhold}
 use Rattle.report_texts.specs.declared.figures.Figures.{Figures}
 
 -- how many records some rows count
@@ -21,6 +23,22 @@ count_from day row = if int_lt row.day day then 0 else row.count
 -- how many records of some rows are dated on that day or later
 abbrev pub record_count_from : ℤ → List ChargeRow → ℕ
 record_count_from day rows = sum_by (count_from day) rows
+
+-- how many of them are dated on the day of another tariff or later, if there is one
+abbrev pub count_after : Option ℤ → List ChargeRow → ℕ
+count_after None rows = 0
+count_after (Some next) rows = record_count_from next rows
+
+-- how many are dated on a day or later, and before the next tariff, if there is one
+abbrev pub record_count_under : ℤ → Option ℤ → List ChargeRow → ℕ
+record_count_under first next rows = record_count_from first rows - count_after next rows
+
+-- the first day of the first of some tariffs that begins after a day
+abbrev pub next_begin : ℤ → List RulingSeen → Option ℤ
+next_begin day [] = None
+next_begin day (TariffSeen first text ∷ later) =
+    if int_lt day first then Some first else next_begin day later
+next_begin day (other ∷ later) = next_begin day later
 
 -- The figures of a period by its charge rows and its adjustment lines: what its statement comes to,
 -- what its adjustments add and what they reverse, and how many records it counts. The last one is of
@@ -48,13 +66,18 @@ abbrev pub dispute_count : Naming → Book → ℕ
 dispute_count naming book = length (disputes_in naming book.rulings book.held)
 
 -- What is counted for one ruling and not for another: for a tariff the records of the period, by its
--- rows, that are dated on its first day or later, for a close those of the next period, and the
--- disputes where a ruling may settle some.
+-- rows, that are dated on its first day or later, and, where it takes the place of another, before the
+-- next one; for a close those of the next period; the disputes where a ruling may settle some; and for a
+-- credit those of the period.
 abbrev pub own_count : Naming → TriedRuling → ℕ → List ChargeRow → Book → ℕ
 own_count naming (Tariff first) period rows book = record_count_from first rows
 own_count naming (Close number through) period rows book = record_count (rows_in (period + 1) book)
 own_count naming (Choose name) period rows book = dispute_count naming book
 own_count naming Adopt period rows book = dispute_count naming book
+own_count naming (Replace first) period rows book =
+    record_count_under first (next_begin first (tariffs_seen book.rulings.tariffs)) rows
+own_count naming (Withhold name) period rows book = dispute_count naming book
+own_count naming (Credit number centre) period rows book = length (credits_in period book.rulings)
 
 -- the figures of a period of a book, whose charge rows these are
 abbrev pub figures_with : Naming → TriedRuling → ℕ → List ChargeRow → Book → Figures

@@ -1,6 +1,7 @@
 -- The text of a record: which it is, how its price came about, its rivals, the choices among them,
 -- and its life.
-use Rattle.std.specs.Prelude.{ℕ, not, List, ◌++◌, codes, filter, flat_map, length, decimal}
+use Rattle.std.specs.Prelude.{ℕ, not, if◌then◌else◌, List, [], ◌++◌, codes, filter, flat_map}
+use Rattle.std.specs.Prelude.{length, decimal}
 use Rattle.hex.specs.Hex.{encode_lower}
 use Rattle.book_model.specs.declared.dispute.Variant.{Variant}
 use Rattle.book_model.specs.declared.trail.NamedChoice.{NamedChoice}
@@ -25,10 +26,12 @@ unfoldable pub rival_lines : List Variant → List ℕ
 rival_lines rivals =
     codes "RIVALS " ++ decimal (length rivals) ++ newline ++ flat_map member_line rivals
 
--- the line of a choice: the period that was open then, and the record that was chosen
+-- the line of a choice: the period that was open then, the record that was named, and whether none
+-- of its work counts from then on
 unfoldable pub choice_line : NamedChoice → List ℕ
 choice_line choice =
-    codes "  " ++ period_column choice.period ++ codes " " ++ encode_lower choice.name ++ newline
+    codes "  " ++ period_column choice.period ++ codes " " ++ encode_lower choice.name
+    ++ (if choice.counts then [] else codes " NONE") ++ newline
 
 -- the number of choices, and a line for each
 unfoldable pub choice_lines : List NamedChoice → List ℕ

@@ -1,11 +1,12 @@
--- Lists of rulings: the tariffs, the closes, the choices and the adoption of the second rule, a line
--- for each. A tariff is shown by the SHA-256 of its file and by how many bytes that has.
+-- Lists of rulings: the tariffs, the closes, the choices, the adoption of the second rule, the tariffs
+-- that were replaced and the credits, a line for each. A tariff is shown by the SHA-256 of its file and
+-- by how many bytes that has.
 use Rattle.std.specs.Prelude.{ℕ, ℤ, List, ◌++◌, codes, flat_map, length, decimal}
 use Rattle.hex.specs.Hex.{encode_lower}
 use Rattle.sha2.specs.Sha256.{sha256}
 use Rattle.book_model.specs.Words.{day_text_of, RulingSeen, TariffSeen, CloseSeen, ChoiceSeen}
-use Rattle.book_model.specs.Words.{AdoptionSeen}
-use Rattle.report_texts.specs.Columns.{newline}
+use Rattle.book_model.specs.Words.{AdoptionSeen, CreditSeen, ReplacedSeen, WithheldSeen}
+use Rattle.report_texts.specs.Columns.{credit_text, newline}
 
 -- the file of a tariff, by its text
 unfoldable pub file_columns : List ℕ → List ℕ
@@ -20,15 +21,27 @@ unfoldable pub close_words : ℕ → ℤ → List ℕ
 close_words period through =
     codes "CLOSE " ++ decimal period ++ codes " " ++ day_text_of through
 
+-- the name of a record that was named, by the number of the choice and the period that was open then
+unfoldable pub choice_columns : ℕ → ℕ → List ℕ → List ℕ
+choice_columns number period name =
+    decimal number ++ codes " " ++ period_column period ++ codes " " ++ encode_lower name
+
 -- the line of a ruling
 unfoldable pub ruling_line : RulingSeen → List ℕ
 ruling_line (TariffSeen day text) =
     codes "TARIFF " ++ day_text_of day ++ codes " " ++ file_columns text ++ newline
 ruling_line (CloseSeen period through) = close_words period through ++ newline
 ruling_line (ChoiceSeen number period name) =
-    codes "CHOICE " ++ decimal number ++ codes " " ++ period_column period
-    ++ codes " " ++ encode_lower name ++ newline
+    codes "CHOICE " ++ choice_columns number period name ++ newline
 ruling_line (AdoptionSeen period) = codes "ADOPTED " ++ period_column period ++ newline
+ruling_line (WithheldSeen number period name) =
+    codes "NONE " ++ choice_columns number period name ++ newline
+ruling_line (ReplacedSeen day period text) =
+    codes "REPLACED " ++ day_text_of day ++ codes " " ++ period_column period ++ codes " "
+    ++ file_columns text ++ newline
+ruling_line (CreditSeen number period centre amount reason) =
+    codes "CREDIT " ++ decimal number ++ codes " " ++ period_column period ++ codes " " ++ centre
+    ++ codes " " ++ credit_text amount ++ codes " " ++ reason ++ newline
 
 -- what stands above the lines
 abbrev pub ruling_list_head : List ℕ

@@ -16,7 +16,7 @@ use text_drafts::Draft;
 /// Appends what is charged less what is reversed, in units: a minus sign comes before what is below
 /// zero.
 #[tactic(auto, unfolding(crate::specs::AdjustmentLists::signed_text))]
-pub(crate) fn push_difference(out: &mut Draft, charged: u64, taken: u64)
+pub fn push_difference(out: &mut Draft, charged: u64, taken: u64)
     ensures { out.new ≡ out.old ++ spec.signed_text charged taken }
 {
     if charged >= taken {

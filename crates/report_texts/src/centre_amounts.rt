@@ -4,9 +4,10 @@ ghost use Rattle.std.specs.Prelude.{◌≡◌, ◌+◌, ◌<◌, ◌^◌, IfOk, 
 ghost use Rattle.book_model.specs.Words.{AreLines, AreRows};
 ghost use Rattle.report_texts.specs.CentreAmounts as spec;
 ghost use Rattle.report_texts.specs.CentreAmounts.{AreAmounts, AreCharges};
+ghost use Rattle.report_texts.specs.Charges.{FitCredits};
 
 use crate::adjustment_lists::{charged_amount, reversed_amount};
-use crate::charges::Charges;
+use crate::charges::{Charges, CreditAmount};
 use book_model::{ChargeRow, Line};
 use smf_text::Name;
 use std::alloc::{AllocError, Global};
@@ -23,6 +24,10 @@ pub(crate) struct CentreAmounts {
     pub(crate) late: BTreeMap<Name, u64>,
     /// What was reversed.
     pub(crate) reversed: BTreeMap<Name, u64>,
+    /// What credits take off.
+    pub(crate) credited: BTreeMap<Name, u64>,
+    /// What credits below 0 add.
+    pub(crate) debited: BTreeMap<Name, u64>,
 }
 
 /// One more amount joins what its centre has.
@@ -84,27 +89,62 @@ fn line_amounts(
     Ok(amounts)
 }
 
-/// What each centre has of rows of steps, rows of jobs and lines.
+/// What a credit adds, or what it takes off.
+fn credit_side(is_debited: bool, credit: &CreditAmount) -> u64
+    ensures { result ≡ spec.credit_side is_debited credit.now }
+{
+    if is_debited {
+        credit.debited
+    } else {
+        credit.credited
+    }
+}
+
+/// What the credits of each centre add, or what they take off.
+fn credit_amounts(
+    alloc: Global,
+    is_debited: bool,
+    credits: &[CreditAmount],
+) -> Result<BTreeMap<Name, u64>, AllocError>
+    requires { FitCredits credits.now }
+    ensures { IfOk result (λ amounts.
+        AreAmounts amounts.entries (spec.credit_amount is_debited credits.now)) }
+{
+    let mut amounts = BTreeMap::new(alloc);
+    for credit in credits {
+        add_amount(&mut amounts, credit.centre, credit_side(is_debited, credit))?;
+    }
+    Ok(amounts)
+}
+
+/// What each centre has of rows of steps, rows of jobs, lines and credits.
 pub(crate) fn centre_amounts(
     alloc: Global,
     steps: &[ChargeRow],
     jobs: &[ChargeRow],
     lines: &[Line],
+    credits: &[CreditAmount],
 ) -> Result<CentreAmounts, AllocError>
     requires steps { AreRows steps.now }
     requires jobs { AreRows jobs.now }
     requires lines { AreLines lines.now }
-    ensures { IfOk result (λ amounts. AreCharges amounts steps.now jobs.now lines.now) }
+    requires credits { FitCredits credits.now }
+    ensures { IfOk result (λ amounts.
+        AreCharges amounts steps.now jobs.now lines.now credits.now) }
 {
     let of_steps = row_amounts(alloc, steps)?;
     let of_jobs = row_amounts(alloc, jobs)?;
     let late = line_amounts(alloc, false, lines)?;
     let reversed = line_amounts(alloc, true, lines)?;
+    let credited = credit_amounts(alloc, false, credits)?;
+    let debited = credit_amounts(alloc, true, credits)?;
     Ok(CentreAmounts {
         steps: of_steps,
         jobs: of_jobs,
         late,
         reversed,
+        credited,
+        debited,
     })
 }
 
@@ -124,5 +164,7 @@ pub(crate) fn charges_among(amounts: &CentreAmounts, centre: Name) -> Charges
         jobs: cost_among(&amounts.jobs, centre),
         late: cost_among(&amounts.late, centre),
         reversed: cost_among(&amounts.reversed, centre),
+        credited: cost_among(&amounts.credited, centre),
+        debited: cost_among(&amounts.debited, centre),
     }
 }

@@ -1,21 +1,21 @@
 //! What a bill charges, and what one centre has of that.
 
-ghost use Rattle.std.specs.Prelude.{◌≡◌, ◌++◌, All, IfOk, map};
-ghost use Rattle.book_model.specs.Words.{AreLines, AreRows, bill_shown};
+ghost use Rattle.std.specs.Prelude.{◌≡◌, ◌++◌, All, IfOk, map, sum_by};
+ghost use Rattle.book_model.specs.Words.{AreLines, AreRows, bill_shown, credit_shown};
 ghost use Rattle.report_texts.specs.Charges as spec;
-ghost use Rattle.report_texts.specs.Charges.{FitCharges, IsBill};
+ghost use Rattle.report_texts.specs.Charges.{FitCharges, FitCredits, IsBill};
 
 use crate::adjustment_lists::push_difference;
 use crate::centre_amounts::{centre_amounts, charges_among};
 use crate::{adjustment_lists, statements};
-use book_model::{Bill, BilledLine, ChargeRow, Line};
+use book_model::{Bill, BilledLine, ChargeRow, Credit, Line};
 use smf_text::Name;
 use std::alloc::{AllocError, Global};
 use std::collections::BTreeSet;
 use text_drafts::Draft;
 
-/// What is charged for steps and for jobs, what came late and what was reversed, in ten-thousandths of
-/// the money unit.
+/// What is charged for steps and for jobs, what came late, what was reversed and what is credited, in
+/// ten-thousandths of the money unit.
 #[derive(Clone, Copy)]
 pub struct Charges {
     /// For steps.
@@ -26,6 +26,20 @@ pub struct Charges {
     pub late: u64,
     /// What was reversed.
     pub reversed: u64,
+    /// What credits take off.
+    pub credited: u64,
+    /// What credits below 0 add.
+    pub debited: u64,
+}
+
+/// A credit by its centre, in ten-thousandths of the money unit.
+#[derive(Clone, Copy)]
+pub struct CreditAmount {
+    pub centre: Name,
+    /// What it takes off what is owed.
+    pub credited: u64,
+    /// What it adds to that, where it is below 0.
+    pub debited: u64,
 }
 
 /// What one centre is charged.
@@ -53,21 +67,89 @@ fn plain_lines(alloc: Global, billed: &[BilledLine]) -> Result<Vec<Line>, AllocE
     Ok(lines)
 }
 
-/// What rows of steps, rows of jobs and lines charge.
-fn charges_of(steps: &[ChargeRow], jobs: &[ChargeRow], lines: &[Line]) -> Charges
+/// A credit by its centre.
+pub fn plain_credit(credit: &Credit) -> CreditAmount
+    ensures { result ≡ spec.plain_credit (credit_shown credit.now) }
+{
+    let amount = credit.amount.unsigned_abs();
+    if credit.amount < 0 {
+        CreditAmount {
+            centre: credit.centre,
+            credited: 0,
+            debited: amount,
+        }
+    } else {
+        CreditAmount {
+            centre: credit.centre,
+            credited: amount,
+            debited: 0,
+        }
+    }
+}
+
+/// Credits by their centres.
+pub fn plain_credits(alloc: Global, credits: &[Credit]) -> Result<Vec<CreditAmount>, AllocError>
+    ensures { IfOk result (λ plain.
+        plain.items ≡ spec.plain_credits (map credit_shown credits.now)) }
+{
+    let mut plain = Vec::new(alloc);
+    for credit in credits {
+        plain.push(plain_credit(credit))?;
+    }
+    Ok(plain)
+}
+
+/// What credits take off, and what those below 0 add.
+#[tactic(auto, using(std::proofs::lemmas::List::Sums::sum_by_more_le, crate::proofs::AmountLemmas::credited_within, crate::proofs::AmountLemmas::debited_within))]
+fn credit_sums(credits: &[CreditAmount]) -> (u64, u64)
+    requires { FitCredits credits.now }
+    ensures { result ≡ (
+      sum_by (λ credit. credit.credited) credits.now,
+      sum_by (λ credit. credit.debited) credits.now,
+    ) }
+{
+    let mut credited = 0;
+    let mut debited = 0;
+    for credit in credits {
+        credited += credit.credited;
+        debited += credit.debited;
+    }
+    (credited, debited)
+}
+
+/// What credits take off together, and what those below 0 add.
+pub fn credits_together(alloc: Global, credits: &[Credit]) -> Result<(u64, u64), AllocError>
+    requires { FitCredits (spec.plain_credits (map credit_shown credits.now)) }
+    ensures { IfOk result (λ sums. sums ≡ spec.credits_together (map credit_shown credits.now)) }
+{
+    let plain = plain_credits(alloc, credits)?;
+    Ok(credit_sums(&plain))
+}
+
+/// What rows of steps, rows of jobs, lines and credits charge.
+fn charges_of(
+    steps: &[ChargeRow],
+    jobs: &[ChargeRow],
+    lines: &[Line],
+    credits: &[CreditAmount],
+) -> Charges
     requires steps { AreRows steps.now }
     requires jobs { AreRows jobs.now }
     requires lines { AreLines lines.now }
-    ensures { result ≡ spec.charges_of steps.now jobs.now lines.now }
+    requires credits { FitCredits credits.now }
+    ensures { result ≡ spec.charges_of steps.now jobs.now lines.now credits.now }
 {
     let (_, _, _, of_steps) = statements::row_sums(steps);
     let (_, _, _, of_jobs) = statements::row_sums(jobs);
     let (late, reversed) = adjustment_lists::sums(lines);
+    let (credited, debited) = credit_sums(credits);
     Charges {
         steps: of_steps,
         jobs: of_jobs,
         late,
         reversed,
+        credited,
+        debited,
     }
 }
 
@@ -78,18 +160,20 @@ pub fn bill_charges(alloc: Global, bill: &Bill) -> Result<Charges, AllocError>
     ensures fits { IfOk result (λ charges. FitCharges charges) }
 {
     let lines = plain_lines(alloc, &bill.lines)?;
-    Ok(charges_of(&bill.work.steps, &bill.work.jobs, &lines))
+    let credits = plain_credits(alloc, &bill.credits)?;
+    Ok(charges_of(&bill.work.steps, &bill.work.jobs, &lines, &credits))
 }
 
-/// The centres of rows and lines, each once and in order.
+/// The centres of rows, lines and credits, each once and in order.
 fn centres_of(
     alloc: Global,
     steps: &[ChargeRow],
     jobs: &[ChargeRow],
     lines: &[Line],
+    credits: &[CreditAmount],
 ) -> Result<Vec<Name>, AllocError>
     ensures { IfOk result (λ centres.
-        centres.items ≡ spec.centres_of steps.now jobs.now lines.now) }
+        centres.items ≡ spec.centres_of steps.now jobs.now lines.now credits.now) }
 {
     let mut centres = BTreeSet::new(alloc);
     for step in steps {
@@ -101,25 +185,30 @@ fn centres_of(
     for line in lines {
         centres.insert(line.priced.centre)?;
     }
+    for credit in credits {
+        centres.insert(credit.centre)?;
+    }
     centres.into_iter().collect(alloc)
 }
 
-/// What each centre of rows and lines is charged, in the order of the centres.
+/// What each centre of rows, lines and credits is charged, in the order of the centres.
 pub fn each_charges(
     alloc: Global,
     steps: &[ChargeRow],
     jobs: &[ChargeRow],
     lines: &[Line],
+    credits: &[CreditAmount],
 ) -> Result<Vec<CentreCharges>, AllocError>
     requires steps { AreRows steps.now }
     requires jobs { AreRows jobs.now }
     requires lines { AreLines lines.now }
+    requires credits { FitCredits credits.now }
     ensures { IfOk result (λ each. each.items ≡ map
-        (spec.centre_charges steps.now jobs.now lines.now)
-        (spec.centres_of steps.now jobs.now lines.now)) }
+        (spec.centre_charges steps.now jobs.now lines.now credits.now)
+        (spec.centres_of steps.now jobs.now lines.now credits.now)) }
 {
-    let centres = centres_of(alloc, steps, jobs, lines)?;
-    let amounts = centre_amounts(alloc, steps, jobs, lines)?;
+    let centres = centres_of(alloc, steps, jobs, lines, credits)?;
+    let amounts = centre_amounts(alloc, steps, jobs, lines, credits)?;
     let mut each = Vec::new(alloc);
     for centre in &centres {
         let charges = charges_among(&amounts, *centre);
@@ -140,17 +229,41 @@ pub fn office_charges(alloc: Global, bill: &Bill) -> Result<OfficeCharges, Alloc
     ensures all_fits { IfOk result (λ own. FitCharges own.all) }
 {
     let lines = plain_lines(alloc, &bill.lines)?;
-    let each = each_charges(alloc, &bill.work.steps, &bill.work.jobs, &lines)?;
-    let all = charges_of(&bill.work.steps, &bill.work.jobs, &lines);
+    let credits = plain_credits(alloc, &bill.credits)?;
+    let each = each_charges(alloc, &bill.work.steps, &bill.work.jobs, &lines, &credits)?;
+    let all = charges_of(&bill.work.steps, &bill.work.jobs, &lines, &credits);
     Ok(OfficeCharges { each, all })
 }
 
-/// Appends the sum owed: all that is charged, less what is reversed.
+/// All that is charged, with what credits below 0 add.
+pub fn charged_in(charges: &Charges) -> u64
+    requires { FitCharges charges.now }
+    ensures { result ≡ spec.charged_in charges.now }
+{
+    charges.steps + charges.jobs + charges.late + charges.debited
+}
+
+/// All that is taken off that.
+pub fn taken_in(charges: &Charges) -> u64
+    requires { FitCharges charges.now }
+    ensures { result ≡ spec.taken_in charges.now }
+{
+    charges.reversed + charges.credited
+}
+
+/// Appends what is credited, less what credits below 0 add.
+#[tactic(auto, unfolding(crate::specs::Charges::credits_text))]
+pub fn push_credits(out: &mut Draft, charges: &Charges)
+    ensures { out.new ≡ out.old ++ spec.credits_text charges.now }
+{
+    push_difference(out, charges.credited, charges.debited);
+}
+
+/// Appends the sum owed: all that is charged, less what is taken off.
 #[tactic(auto, unfolding(crate::specs::Charges::owed_text))]
 pub fn push_owed(out: &mut Draft, charges: &Charges)
     requires { FitCharges charges.now }
     ensures { out.new ≡ out.old ++ spec.owed_text charges.now }
 {
-    let charged = charges.steps + charges.jobs + charges.late;
-    push_difference(out, charged, charges.reversed);
+    push_difference(out, charged_in(charges), taken_in(charges));
 }

@@ -98,6 +98,17 @@ pub fn push_amount(out: &mut Draft, amount: u64)
     out.push_made(&amount, made);
 }
 
+/// Appends the same of an amount that may be below zero: a minus sign comes before it then.
+#[tactic(auto, unfolding(crate::specs::Columns::credit_text))]
+pub fn push_credit_amount(out: &mut Draft, amount: i64)
+    ensures { out.new ≡ out.old ++ spec.credit_text amount }
+{
+    if amount < 0 {
+        out.push('-');
+    }
+    push_amount(out, amount.unsigned_abs());
+}
+
 /// Appends ten-thousandths of the money unit, in units, at the right of a column.
 pub(crate) fn push_money(out: &mut Draft, width: usize, amount: u64)
     ensures { out.new ≡ out.old ++ spec.right_aligned width (spec.amount_text amount) }

@@ -10,6 +10,7 @@ use crate::columns::{push_count, push_left, push_left_aligned, push_money, push_
 use crate::figures::Figures;
 use crate::ruling_lists::push_close_words;
 use book_model::Ruled;
+use smf_text::Name;
 use std::alloc::{AllocError, Global};
 use text_drafts::Draft;
 
@@ -24,6 +25,23 @@ pub enum TriedRuling {
     Choose([u8; 32]),
     /// The adoption of the second rule of identity.
     Adopt,
+    /// A tariff with this first day, in days since 1970-01-01, in the place of another.
+    Replace(i32),
+    /// The choice of none of the work of the record that is held under a name.
+    Withhold([u8; 32]),
+    /// A credit of a period to a centre.
+    Credit { period: u16, centre: Name },
+}
+
+/// Appends a credit, by its period and its centre.
+#[tactic(auto, unfolding(crate::specs::DryRuns::credit_words))]
+fn push_credit_words(out: &mut Draft, period: u16, centre: Name)
+    ensures { out.new ≡ out.old ++ spec.credit_words period centre }
+{
+    out.push_str("CREDIT ");
+    out.push_number(u64::from(period));
+    out.push(' ');
+    out.push_str(centre.text());
 }
 
 /// Appends a ruling.
@@ -43,6 +61,16 @@ fn push_ruling(out: &mut Draft, ruling: TriedRuling)
             out.push_lower_hex(&name);
         }
         TriedRuling::Adopt => out.push_str("ADOPT"),
+        TriedRuling::Replace(first) => {
+            out.push_str("TARIFF ");
+            out.push_day(first);
+            out.push_str(" REPLACE");
+        }
+        TriedRuling::Withhold(name) => {
+            out.push_str("CHOOSE NONE ");
+            out.push_lower_hex(&name);
+        }
+        TriedRuling::Credit { period, centre } => push_credit_words(out, period, centre),
     }
 }
 
@@ -141,8 +169,20 @@ fn push_records(out: &mut Draft, period: u32, before: u64, after: u64)
     out.push('\n');
 }
 
-/// How many records that the period counts a tariff prices anew, of those dated on its first day
-/// or later.
+/// Appends the line of how many credits a period has.
+#[tactic(auto, unfolding(crate::specs::DryRuns::credits_line, crate::specs::DryRuns::figure_line))]
+fn push_credits(out: &mut Draft, period: u16, before: u64, after: u64)
+    ensures { out.new ≡ out.old ++ spec.credits_line period before after }
+{
+    push_figure_name(out, "CREDITS", u32::from(period));
+    push_count(out, 21, before);
+    out.push(' ');
+    push_count(out, 21, after);
+    out.push('\n');
+}
+
+/// How many records that the period counts a tariff prices anew, of those dated on days on which it
+/// is in force.
 fn priced_anew(answer: Ruled, dated: u64) -> u64
     ensures { result ≡ spec.priced_anew answer dated }
 {
@@ -153,7 +193,7 @@ fn priced_anew(answer: Ruled, dated: u64) -> u64
 }
 
 /// Appends the line of the ruling: the records of the period that a tariff prices anew, those of
-/// the period after the one that is open, or the disputes.
+/// the period after the one that is open, the disputes, or the credits of the period.
 #[tactic(auto, unfolding(crate::specs::DryRuns::own_line))]
 fn push_own(
     out: &mut Draft,
@@ -166,11 +206,14 @@ fn push_own(
     ensures { out.new ≡ out.old ++ spec.own_line ruling answer period before after }
 {
     match ruling {
-        TriedRuling::Tariff(_) => push_count_line(out, "PRICED", 0, priced_anew(answer, after)),
+        TriedRuling::Tariff(_) | TriedRuling::Replace(_) => {
+            push_count_line(out, "PRICED", 0, priced_anew(answer, after))
+        }
         TriedRuling::Close { .. } => push_records(out, u32::from(period) + 1, before, after),
-        TriedRuling::Choose(_) | TriedRuling::Adopt => {
+        TriedRuling::Choose(_) | TriedRuling::Withhold(_) | TriedRuling::Adopt => {
             push_count_line(out, "DISPUTES", before, after)
         }
+        TriedRuling::Credit { .. } => push_credits(out, period, before, after),
     }
 }
 

@@ -19,8 +19,9 @@ pub struct Figures {
     /// How many records it counts.
     pub records: u64,
     /// The count that is shown for this ruling and not for another: for a tariff the records of the
-    /// period that are dated on its first day or later, for a close those of the next period, for
-    /// a choice and the adoption the disputes.
+    /// period that are dated on its first day or later, or, in the place of another, before the
+    /// next one; for a close those of the next period; for a choice and the adoption the disputes;
+    /// for a credit those of the period.
     pub own: u64,
 }
 
@@ -70,4 +71,24 @@ pub fn record_count_from(rows: &[ChargeRow], day: i32) -> u64
         records += count_from(row, day);
     }
     records
+}
+
+/// How many of them are dated on the day of another tariff or later, if there is one.
+fn count_after(rows: &[ChargeRow], next: Option<i32>) -> u64
+    requires { AreRows rows.now }
+    ensures { result ≡ spec.count_after next rows.now }
+{
+    match next {
+        Some(next) => record_count_from(rows, next),
+        None => 0,
+    }
+}
+
+/// How many records of some charge rows are dated on a day or later, and before the next tariff, if
+/// there is one. Days are counted from 1970-01-01.
+pub fn record_count_under(rows: &[ChargeRow], first: i32, next: Option<i32>) -> u64
+    requires { AreRows rows.now }
+    ensures { result ≡ spec.record_count_under first next rows.now }
+{
+    record_count_from(rows, first).saturating_sub(count_after(rows, next))
 }

@@ -28,7 +28,7 @@ mod statements;
 mod usage_lines;
 mod what_ifs;
 
-pub use adjustment_lists::{adjustment_list_text, word_of};
+pub use adjustment_lists::{adjustment_list_text, push_difference, word_of};
 pub use adjustment_tables::adjustment_table;
 pub use centre_amounts::cost_among;
 pub use centres::{
@@ -36,11 +36,13 @@ pub use centres::{
     centre_statement_text, keep_lines, push_centre_title,
 };
 pub use charges::{
-    CentreCharges, Charges, OfficeCharges, bill_charges, each_charges, office_charges, push_owed,
+    CentreCharges, Charges, CreditAmount, OfficeCharges, bill_charges, charged_in,
+    credits_together, each_charges, office_charges, plain_credit, plain_credits, push_credits,
+    push_owed, taken_in,
 };
 pub use columns::{
-    push_amount, push_blanks, push_count, push_left, push_number, push_right_aligned, push_seconds,
-    seconds_text,
+    push_amount, push_blanks, push_count, push_credit_amount, push_left, push_number,
+    push_right_aligned, push_seconds, seconds_text,
 };
 pub use detail_lists::{detail_head, detail_total, push_detail_line};
 pub use detail_tables::{detail_row, detail_table_head};
@@ -54,7 +56,7 @@ pub use fields::{
     add_amount, add_day, add_key, add_name, add_number, add_number_or_dash, add_row, add_seconds,
     add_shown, add_signed,
 };
-pub use figures::{Figures, figures_of, record_count, record_count_from};
+pub use figures::{Figures, figures_of, record_count, record_count_from, record_count_under};
 pub use focus_tables::{FocusHead, focus_table};
 pub use life_lines::is_charge;
 pub use moments::push_time;

@@ -53,6 +53,9 @@ fn push_choice(out: &mut Draft, choice: &NamedChoice)
     push_period(out, choice.period);
     out.push(' ');
     out.push_lower_hex(&choice.name);
+    if !choice.counts {
+        out.push_str(" NONE");
+    }
     out.push('\n');
 }
 

@@ -3,11 +3,13 @@
 
 ghost use Rattle.std.specs.Prelude.{◌≡◌, ◌++◌, IfOk, OnOk, string_bytes};
 ghost use Rattle.book_model.specs.Words.{HasDays, IsDay, ruling_shown, ChoiceSeen, TariffSeen};
+ghost use Rattle.book_model.specs.Words.{CreditSeen, ReplacedSeen, WithheldSeen};
 ghost use Rattle.report_texts.specs.RulingLists as spec;
 
-use crate::columns::push_draft;
+use crate::columns::{push_credit_amount, push_draft};
 use book_model::ListedRuling;
 use sha2::{Digest, Sha256};
+use smf_text::Name;
 use std::alloc::{AllocError, Global};
 use text_drafts::Draft;
 
@@ -62,17 +64,69 @@ pub(crate) fn push_close_words(out: &mut Draft, period: u16, through: i32)
     out.push_day(through);
 }
 
+/// Appends the record that was named, by the number of the choice and its period.
+#[tactic(auto, unfolding(crate::specs::RulingLists::choice_columns))]
+fn push_named(out: &mut Draft, number: u32, period: u16, name: &[u8])
+    ensures { out.new ≡ out.old ++ spec.choice_columns number period name.now }
+{
+    out.push_number(u64::from(number));
+    out.push(' ');
+    push_period(out, period);
+    out.push(' ');
+    out.push_lower_hex(name);
+}
+
 /// Appends the line of a choice.
 #[tactic(auto, unfolding(crate::specs::RulingLists::ruling_line))]
 fn push_choice(out: &mut Draft, number: u32, period: u16, name: &[u8])
     ensures { out.new ≡ out.old ++ spec.ruling_line (ChoiceSeen number period name.now) }
 {
     out.push_str("CHOICE ");
+    push_named(out, number, period, name);
+    out.push('\n');
+}
+
+/// Appends the line of a choice of none.
+#[tactic(auto, unfolding(crate::specs::RulingLists::ruling_line))]
+fn push_withheld(out: &mut Draft, number: u32, period: u16, name: &[u8])
+    ensures { out.new ≡ out.old ++ spec.ruling_line (WithheldSeen number period name.now) }
+{
+    out.push_str("NONE ");
+    push_named(out, number, period, name);
+    out.push('\n');
+}
+
+/// Appends the line of a tariff that was replaced.
+#[tactic(auto, unfolding(crate::specs::RulingLists::ruling_line))]
+fn push_replaced(out: &mut Draft, day: i32, period: u16, text: &str)
+    requires { IsDay day }
+    ensures { out.new ≡ out.old ++ spec.ruling_line (ReplacedSeen day period text.now) }
+{
+    out.push_str("REPLACED ");
+    out.push_day(day);
+    out.push(' ');
+    push_period(out, period);
+    out.push(' ');
+    push_file(out, text);
+    out.push('\n');
+}
+
+/// Appends the line of a credit.
+#[tactic(auto, unfolding(crate::specs::RulingLists::ruling_line))]
+fn push_credit(out: &mut Draft, number: u32, period: u16, centre: Name, amount: i64, reason: &str)
+    ensures { out.new
+        ≡ out.old ++ spec.ruling_line (CreditSeen number period centre amount reason.now) }
+{
+    out.push_str("CREDIT ");
     out.push_number(u64::from(number));
     out.push(' ');
     push_period(out, period);
     out.push(' ');
-    out.push_lower_hex(name);
+    out.push_str(centre.text());
+    out.push(' ');
+    push_credit_amount(out, amount);
+    out.push(' ');
+    out.push_str(reason);
     out.push('\n');
 }
 
@@ -98,6 +152,21 @@ fn push_ruling(out: &mut Draft, ruling: &ListedRuling)
             push_period(out, *period);
             out.push('\n');
         }
+        ListedRuling::Withheld {
+            number,
+            period,
+            name,
+        } => push_withheld(out, *number, *period, name),
+        ListedRuling::Replaced { day, period, text } => {
+            push_replaced(out, *day, *period, text.as_str());
+        }
+        ListedRuling::Credit {
+            number,
+            period,
+            centre,
+            amount,
+            reason,
+        } => push_credit(out, *number, *period, *centre, *amount, reason.as_str()),
     }
 }
 

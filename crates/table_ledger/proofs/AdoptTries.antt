@@ -32,7 +32,8 @@ pub adopt_is_event : {naming : Naming} {view : View} (was : Summary) (rule : ℕ
     → period ≡ open_by (ruled_in was.rulings) → through ≡ last_close (ruled_in was.rulings)
     → (book : Book) → IsAt naming was view book
     → IsEvent (λ (ruled : Ruled). ruled) naming (adopt_outcome rule) Done
-    (Says (with_second_rule (ruled_in was.rulings)) was.choices was.held was.total) Always
+    (Says (with_second_rule (ruled_in was.rulings)) was.choices was.replaced was.credits was.held
+    was.total) Always
     (adopted_at period through) book
 adopt_is_event {naming = naming} was rule done period through period_is through_is book at =
     let adopts : adopt_answer book.rulings rule ≡ Ok Done =
@@ -50,6 +51,8 @@ adopt_is_event {naming = naming} was rule done period through period_is through_
       remembers = λ follows summary says. record {
         rulings = says.rulings ∙ ap with_second_rule at.remembers.rulings;
         choices = says.choices ∙ at.remembers.choices;
+        replaced = says.replaced ∙ at.remembers.replaced;
+        credits = says.credits ∙ at.remembers.credits;
         held = says.held ∙ at.remembers.held;
         total = says.total ∙ at.remembers.total;
       };

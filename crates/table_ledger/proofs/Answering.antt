@@ -5,8 +5,9 @@ use Rattle.book_model.specs.Words.{Book, Naming, Outcome}
 use Rattle.book_core.specs.Words.{LeavesOpen, Makes, listed}
 use Rattle.table_model.specs.Words.{Tables, tables_of}
 use Rattle.table_ledger.proofs.Words.{Ruled, Done, LedgerFault, Memory, Store, Reopen, State, Saw}
-use Rattle.table_ledger.proofs.Words.{AttemptsOne, IsAt}
+use Rattle.table_ledger.proofs.Words.{AttemptsOne, IsAt, StagesAs}
 use Rattle.table_ledger.specs.declared.summary.Summary.{Summary}
+use Rattle.table_ledger.proofs.StageLemmas.{stage_answered}
 use Rattle.table_ledger.proofs.TryLemmas.{try_answered}
 
 -- a refusal is answered, and makes no event
@@ -42,5 +43,18 @@ pub ruled_other : {naming : Naming} {was : Summary} (outcome : Book → Outcome 
     → AttemptsOne (λ (ruled : Ruled). ruled) naming was was old new outcome (Ok answer)
 ruled_other outcome {answer = answer} is plain other saw says none =
     try_answered outcome saw (subst LeavesOpen (sym is) plain) (λ book at known.
+    let said = says book at known ∙ sym is in
+    ruled_makes (outcome book) answer said other (λ already. none book (said ∙ already)))
+
+-- So is one inside a transaction.
+pub ruled_staged : {naming : Naming} {was : Summary} (outcome : Book → Outcome Ruled)
+    {old new : State} {Known : Tables → Type 0} {answer given : Result Ruled LedgerFault}
+    → answer ≡ given → LeavesOpen given → answer ≢ Ok Done → Saw old new Known
+    → ((book : Book) → IsAt naming was old.view book → Known (tables_of naming book)
+    → (outcome book).answer ≡ given)
+    → ((book : Book) → (outcome book).answer ≡ Ok Already → (outcome book).event ≡ None)
+    → StagesAs (λ tables. tables) (λ (ruled : Ruled). ruled) naming was was old new outcome (Ok answer)
+ruled_staged outcome {answer = answer} is plain other saw says none =
+    stage_answered (λ tables. tables) outcome saw (subst LeavesOpen (sym is) plain) (λ book at known.
     let said = says book at known ∙ sym is in
     ruled_makes (outcome book) answer said other (λ already. none book (said ∙ already)))

@@ -1,18 +1,20 @@
 -- A choice that is tried: what it answers, and what it writes.
 use Rattle.std.proofs.Common.{◌≡◌, ◌∙◌, ℕ, ◌+◌, List, length, refl, sym, ap, subst, Bool, Ok, Err}
 use Rattle.std.proofs.Common.{Option, None, Some, Result, arith, ℤ, nat_le, ◌==◌, length-append}
+use Rattle.std.proofs.Common.{◌&&◌, not}
 use Rattle.book_model.proofs.Std.{nat_cmp_total, get, get-from_entries, option_map_or}
 use Rattle.book_core.specs.Words.{choice_effects, ruled_in, LeavesOpen}
 use Rattle.book_core.specs.declared.effects.ChoiceEffects.{ChoiceEffects}
+use Rattle.book_core.specs.declared.effects.Effects.{Effects}
 use Rattle.book_model.specs.Words.{Book, Naming, RecordChosen, last_close, open_by, choose_answer}
 use Rattle.book_model.specs.Words.{choose_outcome, chosen_answer, if_done, most_choices}
 use Rattle.book_model.specs.Words.{RulingGiven, record_named}
 use Rattle.book_model.specs.declared.fault.LedgerFault.TheVariants.{NoSuchRecord}
 use Rattle.table_model.specs.Changed.{chosen_at}
 use Rattle.table_model.specs.Words.{put_choice, RecordRow, Tables, choice_entries, tables_of}
-use Rattle.table_model.specs.Words.{member_at, IsReadable}
+use Rattle.table_model.specs.Words.{apply, member_at, IsReadable}
 use Rattle.table_model.proofs.ChoiceChanges.{choice_free}
-use Rattle.table_model.specs.RulingsRead.{chosen_by, choose_row}
+use Rattle.table_model.specs.RulingsRead.{chosen_by, choose_row, was_withheld_in}
 use Rattle.table_model.proofs.ChoiceLemmas.{choices_follow}
 use Rattle.table_model.proofs.ChoiceReading.{choices_count}
 use Rattle.tree_tables.specs.Answers.{CountsSharing}
@@ -45,6 +47,20 @@ saw_shared {many = many} name stored is same looks shared =
       subst (λ identity. CountsSharing identity tables many) same known.1,
     ))
 
+-- and whether its work was ever withheld
+pub saw_asked : {first second third last : State} {found : Option StoredRecord} {many : ℕ}
+    {ever : Bool} {identity its : List ℕ} (name : List ℕ) (stored : StoredRecord)
+    → found ≡ Some stored → identity ≡ stored.identity.items → its ≡ stored.identity.items
+    → Looks (Ok found) first second (FindsRecord name)
+    → Looks (Ok many) second third (CountsSharing identity)
+    → Looks (Ok ever) third last (λ tables ever. ever ≡ was_withheld_in tables its)
+    → Saw first last (λ tables. (FindsRecord name tables (Some stored)
+    × CountsSharing stored.identity.items tables many)
+    × (ever ≡ was_withheld_in tables stored.identity.items))
+saw_asked {ever = ever} name stored is same its_same looks shared withheld =
+    saw_so (saw_then (saw_shared name stored is same looks shared) (saw_found withheld))
+    (λ tables known. (known.0, known.1 ∙ ap (was_withheld_in tables) its_same))
+
 -- the record that is meant by a choice that is Done
 chosen_one : (naming : Naming) (book : Book) (name : List ℕ)
     → choose_answer naming book name ≡ Ok Done
@@ -58,11 +74,17 @@ chosen_one naming book name done = by_found (record_named naming book.held name)
     by_found (Some bytes) is = (bytes, is)
 
 -- no choice has the next number
-next_is_new : (naming : Naming) (book : Book) (number : ℕ)
+pub next_is_new : (naming : Naming) (book : Book) (number : ℕ)
     → number ≡ length book.rulings.choices + 1 → IsNext number (tables_of naming book)
 next_is_new naming book number is =
     get-from_entries nat_cmp_total (choice_entries naming 1 book.rulings.choices) number
     ∙ choice_free naming 1 number book.rulings.choices (omega (arith, is))
+
+-- effects leave the choices alone
+pub same_choices : (period : ℕ) (withdrawn : Option Effects) (tables : Tables)
+    → (option_map_or (λ gone. apply period gone tables) withdrawn tables).choices ≡ tables.choices
+same_choices period None tables = refl
+same_choices period (Some gone) tables = refl
 
 -- ---- the answer
 
@@ -91,9 +113,10 @@ module _ (naming : Naming) (was : Summary) (name : List ℕ) (view : View) (book
       → choose_answer naming book name ≡ Err NoSuchRecord
   choose_none known = told None (none_found name (get tables.records name) known)
 
-  -- its row was found, and this many of its identity
+  -- its row was found, this many of its identity, and whether its work was ever withheld
   module _ (stored : StoredRecord) (known : FindsRecord name tables (Some stored)) {many : ℕ}
-      (shared : CountsSharing stored.identity.items tables many) where
+      (shared : CountsSharing stored.identity.items tables many) {ever : Bool}
+      (withheld : ever ≡ was_withheld_in tables stored.identity.items) where
     abbrev row : RecordRow
     row = (stored_entry stored).1
 
@@ -103,21 +126,22 @@ module _ (naming : Naming) (was : Summary) (name : List ℕ) (view : View) (book
 
     -- the answer by its tests
     pub choose_told : choose_answer naming book name
-        ≡ chosen_by (many == 1) stored.charged (nat_le most_choices was.choices)
+        ≡ chosen_by (many == 1 && not ever) stored.charged (nat_le most_choices was.choices)
     choose_told =
         let lone = choices_follow.lone tables.records row ∙ ap (λ n. n == 1) (sym shared) in
         let made = choices_count naming book ∙ sym ready.remembers.choices in
         told (Some row) found.0
-        ∙ (λ i. chosen_by (lone i) stored.charged (nat_le most_choices (made i)))
+        ∙ (λ i. chosen_by (lone i && not (sym withheld i)) stored.charged
+        (nat_le most_choices (made i)))
 
     -- A choice that is answered Done is an event.
     pub choose_is_event :
-        chosen_by (many == 1) stored.charged (nat_le most_choices was.choices) ≡ Ok Done
+        chosen_by (many == 1 && not ever) stored.charged (nat_le most_choices was.choices) ≡ Ok Done
         → (period : ℕ) (through : Option ℤ) (effects : ChoiceEffects)
         → period ≡ open_by (ruled_in was.rulings) → through ≡ last_close (ruled_in was.rulings)
         → FindsChoiceEffects through (stored_entry stored) tables effects
         → IsEvent (λ (ruled : Ruled). ruled) naming (choose_outcome naming name) Done
-        (Says (ruled_in was.rulings) (was.choices + 1) was.held was.total)
+        (Says (ruled_in was.rulings) (was.choices + 1) was.replaced was.credits was.held was.total)
         (IsNext (was.choices + 1)) (put_choice (was.choices + 1) period name effects) book
     choose_is_event tests period through effects period_is through_is effects_are =
         let done = choose_told ∙ tests in
@@ -146,31 +170,36 @@ module _ (naming : Naming) (was : Summary) (name : List ℕ) (view : View) (book
           remembers = λ follows summary says. record {
             rulings = says.rulings ∙ ready.remembers.rulings;
             choices = says.choices ∙ count ∙ sym (length-append book.rulings.choices _);
+            replaced = says.replaced ∙ ready.remembers.replaced;
+            credits = says.credits ∙ ready.remembers.credits;
             held = says.held ∙ ready.remembers.held;
             total = says.total ∙ ready.remembers.total;
           };
         }
 
 -- What a choice writes is staged, after the looks that its tests and its effects rest on.
-pub choose_staged : {first second third fourth last : State} {found : Option StoredRecord}
-    {identity : List ℕ} {effects : ChoiceEffects} {T : Type 0} {written : Result T StoreError}
-    {many : ℕ} (naming : Naming) (was : Summary) (name : List ℕ) (stored : StoredRecord)
-    (period : ℕ) (through : Option ℤ)
-    → found ≡ Some stored → identity ≡ stored.identity.items
+pub choose_staged : {first second third fourth fifth last : State} {found : Option StoredRecord}
+    {identity its : List ℕ} {effects : ChoiceEffects} {T : Type 0} {written : Result T StoreError}
+    {many : ℕ} {ever : Bool} (naming : Naming) (was : Summary) (name : List ℕ)
+    (stored : StoredRecord) (period : ℕ) (through : Option ℤ)
+    → found ≡ Some stored → identity ≡ stored.identity.items → its ≡ stored.identity.items
     → Looks (Ok found) first second (FindsRecord name)
     → Looks (Ok many) second third (CountsSharing identity)
-    → Looks (Ok effects) third fourth (FindsChoiceEffects through (stored_entry stored))
-    → Does written fourth last (IsNext (was.choices + 1))
+    → Looks (Ok ever) third fourth (λ tables ever. ever ≡ was_withheld_in tables its)
+    → Looks (Ok effects) fourth fifth (FindsChoiceEffects through (stored_entry stored))
+    → Does written fifth last (IsNext (was.choices + 1))
     (put_choice (was.choices + 1) period name effects)
-    → chosen_by (many == 1) stored.charged (nat_le most_choices was.choices) ≡ Ok Done
+    → chosen_by (many == 1 && not ever) stored.charged (nat_le most_choices was.choices) ≡ Ok Done
     → period ≡ open_by (ruled_in was.rulings) → through ≡ last_close (ruled_in was.rulings)
     → StagesBy (λ tables. tables) (λ (done : T). Ok Done)
     (MakesOf (λ (ruled : Ruled). ruled) (choose_outcome naming name))
     (LeavesOne (choose_outcome naming name)) naming was
-    (Says (ruled_in was.rulings) (was.choices + 1) was.held was.total) first last written
-choose_staged {effects = effects} {written = written} naming was name stored period through is same
-    looks shared seen writes tests period_is through_is =
+    (Says (ruled_in was.rulings) (was.choices + 1) was.replaced was.credits was.held was.total)
+    first last written
+choose_staged {effects = effects} {written = written} {ever = ever} naming was name stored period
+    through is same its_same looks shared withheld seen writes tests period_is through_is =
     stage_steps written
-    (saw_then (saw_shared name stored is same looks shared) (saw_found seen)) writes
-    (λ book at known. choose_is_event naming was name _ book at stored known.0.0 known.0.1 tests
-    period through effects period_is through_is known.1)
+    (saw_then (saw_asked name stored is same its_same looks shared withheld) (saw_found seen))
+    writes
+    (λ book at known. choose_is_event naming was name _ book at stored known.0.0.0 known.0.0.1
+    known.0.1 tests period through effects period_is through_is known.1)

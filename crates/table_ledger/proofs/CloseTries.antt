@@ -53,7 +53,8 @@ pub close_is_event : {naming : Naming} (was : Summary) {view : View} (number : �
     (last : Option ℤ) → IsDay day → close_answer (ruled_in was.rulings) number day ≡ Ok Done
     → last ≡ last_close (ruled_in was.rulings) → (book : Book) → IsAt naming was view book
     → IsEvent (λ (ruled : Ruled). ruled) naming (close_outcome number day) Done
-    (Says (with_close day (ruled_in was.rulings)) was.choices was.held was.total)
+    (Says (with_close day (ruled_in was.rulings)) was.choices was.replaced was.credits was.held
+    was.total)
     (CanClose number last) (closed_at number day) book
 close_is_event {naming = naming} was number day last is_day answer last_is book at =
     let done : close_answer book.rulings number day ≡ Ok Done =
@@ -77,6 +78,8 @@ close_is_event {naming = naming} was number day last is_day answer last_is book 
       remembers = λ follows summary says. record {
         rulings = says.rulings ∙ ap (with_close day) at.remembers.rulings;
         choices = says.choices ∙ at.remembers.choices;
+        replaced = says.replaced ∙ at.remembers.replaced;
+        credits = says.credits ∙ at.remembers.credits;
         held = says.held ∙ at.remembers.held;
         total = says.total ∙ at.remembers.total;
       };

@@ -16,8 +16,8 @@ use Rattle.table_model.proofs.WalkLemmas.{or_turn}
 use Rattle.tree_tables.specs.Passes.{HasRecordsLeft, TakesFirst, TakesNext}
 use Rattle.table_ledger.proofs.Words.{find, View, Row, ListsLines, record_columns, signed_name}
 use Rattle.table_ledger.proofs.Words.{StoredLine, names_of, uncounted}
-use Rattle.table_ledger.specs.FirstForm.{AddsCounted, count_each, names_by, names_read}
-use Rattle.table_ledger.specs.FirstForm.{with_details}
+use Rattle.table_ledger.specs.OldForms.{AddsCounted, count_each, names_by, names_read}
+use Rattle.table_ledger.specs.OldForms.{with_details}
 use Rattle.table_ledger.specs.declared.upgrading.Counted.{Counted}
 use Rattle.table_ledger.proofs.CountTestLemmas.{lines_on}
 

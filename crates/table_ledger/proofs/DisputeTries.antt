@@ -1,27 +1,38 @@
 -- The next identity in dispute, where identities that were settled are passed over, and its dispute.
 use Rattle.std.proofs.Common.{◌≡◌, ◌∙◌, ◌+◌, ℕ, List, [], ◌∷◌, ◌++◌, true, false, not, true≢false}
-use Rattle.std.proofs.Common.{None, Some, Ok, map, sym, ap, subst, All, Option}
-use Rattle.book_model.proofs.Std.{list_any, All-map}
+use Rattle.std.proofs.Common.{None, Some, Ok, map, sym, ap, subst, All, Option, Bool, ◌&&◌, ◌||◌}
+use Rattle.std.proofs.Common.{refl}
+use Rattle.book_model.proofs.Std.{All-map}
 use Rattle.book_model.specs.Words.{Book, Disputed, IsDay, IsDispute, Naming, Outcome}
 use Rattle.book_model.specs.Words.{dispute_outcome, dispute_shown, is_from}
 use Rattle.book_model.proofs.FromLemmas.{after_others, from_then, longer_from, next_from, same_from}
-use Rattle.table_model.specs.Words.{Tables, tables_of, rows_with, FindsDisputed, NamedRow}
+use Rattle.table_model.specs.Words.{Tables, tables_of, FindsDisputed, NamedRow, is_unsettled}
 use Rattle.table_model.specs.Words.{variant_read, IsReadable}
 use Rattle.table_model.specs.DisputesRead.{IsDisputedFrom, IsNextDisputed}
 use Rattle.table_model.proofs.DisputeLemmas.{disputes_follow}
 use Rattle.tree_tables.specs.Answers.{IsNextUncharged, IsUnchargedFrom}
-use Rattle.table_ledger.proofs.Words.{View, Dispute, Variant, ListsSharing, is_charged}
+use Rattle.table_ledger.proofs.Words.{View, Dispute, Variant, ListsSharing}
 use Rattle.table_ledger.proofs.Words.{stored_entry, StoredRecord, IsIdentity, IsShownRow, IsAt}
-use Rattle.table_ledger.specs.DisputeReads.{dispute_made}
+use Rattle.table_ledger.specs.DisputeReads.{dispute_made, is_settled_in}
 use Rattle.table_ledger.specs.declared.summary.Summary.{Summary}
 
 -- ---- identities that are passed over
+
+-- neither of two tests holds where not one of them does
+neither : (a b : Bool) → (not a && not b) ≡ not (a || b)
+neither true b = refl
+neither false b = refl
+
+-- a row's identity is in dispute where it is not settled
+pub unsettled_is : (tables : Tables) (row : NamedRow)
+    → is_unsettled tables row ≡ not (is_settled_in tables row.1.identity)
+unsettled_is tables row = neither _ _
 
 -- What is known where a walk has come to some bytes: they are from its first ones on, and each row in
 -- dispute from there on is from them on.
 pub record PassedTo (from at : List ℕ) (tables : Tables) : Type 0 where
   pub beyond : is_from from at ≡ true
-  pub passed : (row : NamedRow) → IsDisputedFrom from tables.records row
+  pub passed : (row : NamedRow) → IsDisputedFrom from tables row
       → is_from at row.1.identity ≡ true
 
 -- none is passed at first
@@ -30,7 +41,7 @@ passed_none from tables = record { beyond = same_from from; passed = λ row is. 
 
 module _ (from at : List ℕ) (tables : Tables) (so_far : PassedTo from at tables) where
   -- a row in dispute is not charged
-  not_charged : (row : NamedRow) → IsDisputedFrom from tables.records row
+  not_charged : (row : NamedRow) → IsDisputedFrom from tables row
       → IsUnchargedFrom at tables row
   not_charged row is =
       record { there = is.there; uncharged = is.uncharged; reached = so_far.passed row is }
@@ -42,16 +53,15 @@ module _ (from at : List ℕ) (tables : Tables) (so_far : PassedTo from at table
         from_then from at identity so_far.beyond
         (ap (is_from at) (sym next.own) ∙ next.uncharged.reached)
 
-    -- it is in dispute where none of its records is charged
-    pub next_is : list_any is_charged (rows_with identity tables.records) ≡ false
-        → IsNextDisputed from tables.records identity
+    -- it is in dispute where it is not settled
+    pub next_is : is_settled_in tables identity ≡ false → IsNextDisputed from tables identity
     next_is open_still = record {
       row = next.row;
       disputed = record {
         there = next.uncharged.there;
         uncharged = next.uncharged.uncharged;
-        unsettled = ap (λ k. not (list_any is_charged (rows_with k tables.records))) next.own
-            ∙ ap not open_still;
+        unsettled = unsettled_is tables next.row
+            ∙ ap (λ k. not (is_settled_in tables k)) next.own ∙ ap not open_still;
         reached = ap (is_from from) next.own ∙ identity_from;
       };
       own = next.own;
@@ -60,17 +70,15 @@ module _ (from at : List ℕ) (tables : Tables) (so_far : PassedTo from at table
 
     -- and else it is passed
     pub passed_on : (more : List ℕ) → more ≡ identity ++ 0 ∷ []
-        → list_any is_charged (rows_with identity tables.records) ≡ true
-        → PassedTo from more tables
+        → is_settled_in tables identity ≡ true → PassedTo from more tables
     passed_on more is_more settled =
         subst (λ at. PassedTo from at tables) (sym is_more) (record {
           beyond = from_then from identity (identity ++ 0 ∷ []) identity_from
               (longer_from identity);
           passed = λ row is. next_from identity row.1.identity
               (after_others identity row.1.identity (next.least row (not_charged row is))
-              (λ same. true≢false (sym is.unsettled
-              ∙ ap (λ k. not (list_any is_charged (rows_with k tables.records))) same
-              ∙ ap not settled)));
+              (λ same. true≢false (sym is.unsettled ∙ unsettled_is tables row
+              ∙ ap (λ k. not (is_settled_in tables k)) same ∙ ap not settled)));
         })
 
 -- ---- the dispute of an identity
@@ -96,7 +104,7 @@ module _ {naming : Naming} {summary : Summary} {view : View} {book : Book}
   whole = at.kept.readable
 
   -- no dispute is left
-  pub none_left : FindsDisputed from (tables_of naming book).records None
+  pub none_left : FindsDisputed from (tables_of naming book) None
       → (dispute_outcome naming from book).answer ≡ Ok None
   none_left none =
       ap (λ (of : Outcome (Option Disputed)). of.answer)
@@ -104,7 +112,7 @@ module _ {naming : Naming} {summary : Summary} {view : View} {book : Book}
 
   -- or this one is the first
   pub one_left : (identity : List ℕ) (made : Dispute) (rows : List StoredRecord)
-      → FindsDisputed from (tables_of naming book).records (Some identity)
+      → FindsDisputed from (tables_of naming book) (Some identity)
       → ListsSharing identity (tables_of naming book) rows
       → dispute_shown made ≡ dispute_made identity rows
       → (dispute_outcome naming from book).answer ≡ Ok (Some (dispute_shown made))

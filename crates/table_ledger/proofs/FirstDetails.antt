@@ -5,7 +5,7 @@ use Rattle.book_model.specs.Words.{Book, Naming, by_bytes, set_of}
 use Rattle.table_model.specs.Words.{first_line, IsReadable, Tables, tables_of}
 use Rattle.table_model.proofs.CountedFirst.{names_told}
 use Rattle.table_model.proofs.UnderNumbers.{values-numbers}
-use Rattle.table_ledger.specs.FirstForm.{names_by, open_read, uncounted, with_details}
+use Rattle.table_ledger.specs.OldForms.{names_by, open_read, uncounted, with_details}
 
 -- there is one period more than closes
 open_of : (naming : Naming) (book : Book)

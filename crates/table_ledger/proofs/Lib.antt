@@ -14,10 +14,15 @@ mod ManyLemmas
 mod SumLemmas
 mod ServedWork
 mod OneCall
-mod LastChoice
+mod WithheldStages
+mod LastNumbers
 mod TariffTries
+mod ReplaceTries
 mod CloseTries
 mod ChoiceTries
+mod WithheldReads
+mod WithholdTries
+mod CreditTries
 mod KeptNames
 mod Walks
 mod WalksOf

@@ -17,9 +17,10 @@ use Rattle.table_ledger.proofs.Words.{tariff_of, Close, Stores, Remembers, IsClo
 use Rattle.table_ledger.proofs.Words.{SaysTariff, seen_on, LeavesTheLast}
 use Rattle.table_ledger.specs.Loaded.{IsLoaded, IsStoreFault, Reads, SummarizesRows}
 use Rattle.table_ledger.specs.Loaded.{SummarizesTables}
+use Rattle.table_ledger.specs.Ready.{without_lists}
 use Rattle.table_ledger.specs.declared.summary.Summary.{Summary}
 use Rattle.table_ledger.proofs.OpenLemmas.{opened}
-use Rattle.table_ledger.proofs.LastChoice.{last_counts}
+use Rattle.table_ledger.proofs.LastNumbers.{last_counts, last_credit, last_replaced}
 use Rattle.table_ledger.proofs.UnchangedStores.{holds_on, rest_on}
 
 -- tariffs that rows give are those that are read from them
@@ -58,19 +59,24 @@ said_rule row closes None says =
 said_rule row closes (Some period) says =
     λ i. if sym says.0 i == second_rule then Some (sym says.1 i) else None
 
--- rows are those of tables: of the book, of the tariffs and the closes, and of the last choice
+-- rows are those of tables: of the book, of the tariffs and the closes, and of the last choice, the
+-- last replaced tariff and the last credit
 pub record AreRowsIn (tables : Tables) (row : Stored) (texts : List StoredTariff)
-    (days : List Close) (choices : ℕ) : Type 0 where
+    (days : List Close) (choices replaced credits : ℕ) : Type 0 where
   pub book : book_entry row ≡ tables.book
   pub tariffs : map tariff_of texts ≡ entries tables.tariffs
   pub closes : map close_entry days ≡ entries tables.closes
   pub made : choices ≡ last_number tables.choices
+  pub replaced : replaced ≡ last_number tables.replaced
+  pub credits : credits ≡ last_number tables.credits
 
 -- a summary that rows show is that of the tables that have these rows,
 pub recalled : (summary : Summary) (tables : Tables) (row : Stored) (tariffs : List StoredTariff)
-    (closes : List Close) (choices : ℕ) → SummarizesRows row tariffs closes choices summary
-    → AreRowsIn tables row tariffs closes choices → SummarizesTables summary tables
-recalled summary tables row tariffs closes choices shows are =
+    (closes : List Close) (choices replaced credits : ℕ)
+    → SummarizesRows row tariffs closes choices replaced credits summary
+    → AreRowsIn tables row tariffs closes choices replaced credits
+    → SummarizesTables summary tables
+recalled summary tables row tariffs closes choices replaced credits shows are =
     let ruled = sym (tariffs_said tariffs (ruled_in summary.rulings).tariffs shows.tariffs)
     ∙ ap (filter_map tariff_read) are.tariffs in
     let closed = sym (days_had closes (ruled_in summary.rulings).closes shows.closes)
@@ -84,19 +90,21 @@ recalled summary tables row tariffs closes choices shows are =
         adopted = adopted i;
       };
       choices = shows.made ∙ are.made;
+      replaced = shows.replaced ∙ are.replaced;
+      credits = shows.credits ∙ are.credits;
       held = shows.held ∙ ap (λ (kept : BookRow). kept.held) are.book;
       total = shows.total ∙ ap (λ (kept : BookRow). kept.amount) are.book;
     }
 
 -- so is what is answered from the rows
 pub recalled_by : (answer : Result Summary LedgerFault) (tables : Tables) (row : Stored)
-    (texts : List StoredTariff) (days : List Close) (choices : ℕ)
-    → IfOk answer (SummarizesRows row texts days choices)
-    → IfErr answer IsStoreFault → AreRowsIn tables row texts days choices
+    (texts : List StoredTariff) (days : List Close) (choices replaced credits : ℕ)
+    → IfOk answer (SummarizesRows row texts days choices replaced credits)
+    → IfErr answer IsStoreFault → AreRowsIn tables row texts days choices replaced credits
     → IsLoaded tables answer
-recalled_by (Ok summary) tables row texts days choices shows kinds are =
-    recalled summary tables row texts days choices shows are
-recalled_by (Err fault) tables row texts days choices shows kinds are = kinds
+recalled_by (Ok summary) tables row texts days choices replaced credits shows kinds are =
+    recalled summary tables row texts days choices replaced credits shows are
+recalled_by (Err fault) tables row texts days choices replaced credits shows kinds are = kinds
 
 -- a summary of the tables of a book is one of the book
 pub remembered : (naming : Naming) (book : Book) (summary : Summary) → IsReadable naming book
@@ -104,8 +112,10 @@ pub remembered : (naming : Naming) (book : Book) (summary : Summary) → IsReada
 remembered naming book summary whole recalls =
     let back = ap (λ (book : Book). book.rulings) (book_follows naming book whole) in
     record {
-      rulings = recalls.rulings ∙ ap (λ (rulings : Rulings). record rulings { choices = [] }) back;
+      rulings = recalls.rulings ∙ ap without_lists back;
       choices = recalls.choices ∙ last_counts naming book whole;
+      replaced = recalls.replaced ∙ last_replaced naming book;
+      credits = recalls.credits ∙ last_credit naming book;
       held = recalls.held;
       total = recalls.total;
     }

@@ -22,7 +22,7 @@ use Rattle.table_ledger.proofs.UnchangedStores.{stands_then}
 use Rattle.book_model.proofs.Lemmas.{no_length}
 
 -- a refusal that leaves the books open makes no event
-refused_none : {V A : Type 0} (view : V → A) (outcome : Outcome A) (fault : LedgerFault)
+pub refused_none : {V A : Type 0} (view : V → A) (outcome : Outcome A) (fault : LedgerFault)
     (events : List Event) → LeavesOpen {V = V} (Err fault) → Makes view outcome (Err fault) events
     → events ≡ []
 refused_none view outcome Memory events plain makes = makes

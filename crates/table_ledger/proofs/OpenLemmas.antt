@@ -47,20 +47,23 @@ opened naming state summary book last clean readable keeping remembers =
 -- new books are open, when nothing is remembered
 pub created : (naming : Naming) (state : State) (summary : Summary)
     → LeavesTheLast state.view state.may_leave → HasCleanDisk state → Stores state.view new_tables
-    → ruled_in summary.rulings ≡ no_rulings → summary.choices ≡ 0 → summary.held ≡ 0 → summary.total ≡ 0
+    → ruled_in summary.rulings ≡ no_rulings → summary.choices ≡ 0 → summary.replaced ≡ 0
+    → summary.credits ≡ 0 → summary.held ≡ 0 → summary.total ≡ 0
     → IsOpenAt naming new_book (seen_on (record {
       naming = naming;
       state = state;
       must_reopen = false;
       summary = summary;
     }))
-created naming state summary last clean keeping none choices held total =
+created naming state summary last clean keeping none choices replaced credits held total =
     opened naming state summary new_book last clean
     (calls_read naming new_book (calls_stay.start naming))
     (subst (Stores state.view) (new_follow naming) keeping)
     (record {
       rulings = none;
       choices = choices;
+      replaced = replaced;
+      credits = credits;
       held = held ∙ ap (λ (tables : Tables). tables.book.held) (new_follow naming);
       total = total ∙ ap (λ (tables : Tables). tables.book.amount) (new_follow naming);
     })

@@ -1,4 +1,5 @@
--- What a ledger remembers of the rulings of its book: everything but which records were chosen.
+-- What a ledger remembers of the rulings of its book: everything but its choices, what was replaced
+-- and its credits, of which it has the counts.
 use Rattle.std.proofs.Common.{◌≡◌, ◌∙◌, ℕ, sym, ap, subst}
 use Rattle.book_model.specs.Words.{Book, Rulings}
 use Rattle.book_core.specs.OfficeRulings.{ruled_in}
@@ -6,11 +7,19 @@ use Rattle.table_ledger.specs.Ready.{Remembers}
 use Rattle.table_ledger.specs.declared.summary.Summary.{Summary}
 
 module _ {summary : Summary} {book : Book} (remembers : Remembers summary book) where
-  -- the rulings of the book are what is remembered, with its choices
+  -- the rulings of the book are what is remembered, with those that are not
   pub rulings_are :
-      book.rulings ≡ record (ruled_in summary.rulings) { choices = book.rulings.choices }
+      book.rulings ≡ record (ruled_in summary.rulings) {
+        choices = book.rulings.choices;
+        replaced = book.rulings.replaced;
+        credits = book.rulings.credits;
+      }
   rulings_are =
-      ap (λ (rulings : Rulings). record rulings { choices = book.rulings.choices })
+      ap (λ (rulings : Rulings). record rulings {
+        choices = book.rulings.choices;
+        replaced = book.rulings.replaced;
+        credits = book.rulings.credits;
+      })
       (sym remembers.rulings)
 
   pub tariffs_are : (ruled_in summary.rulings).tariffs ≡ book.rulings.tariffs
@@ -21,11 +30,14 @@ module _ {summary : Summary} {book : Book} (remembers : Remembers summary book) 
 
 -- a summary that says the same remembers the same
 pub remembers_same : {was is : Summary} → ruled_in is.rulings ≡ ruled_in was.rulings
-    → is.choices ≡ was.choices → is.held ≡ was.held → is.total ≡ was.total → (book : Book)
+    → is.choices ≡ was.choices → is.replaced ≡ was.replaced → is.credits ≡ was.credits
+    → is.held ≡ was.held → is.total ≡ was.total → (book : Book)
     → Remembers was book → Remembers is book
-remembers_same rulings choices held total book remembers = record {
+remembers_same rulings choices replaced credits held total book remembers = record {
   rulings = rulings ∙ remembers.rulings;
   choices = choices ∙ remembers.choices;
+  replaced = replaced ∙ remembers.replaced;
+  credits = credits ∙ remembers.credits;
   held = held ∙ remembers.held;
   total = total ∙ remembers.total;
 }
@@ -36,9 +48,13 @@ pub remembers_as : {is summary : Summary} {book : Book} → Remembers is book �
 remembers_as {book = book} remembers same =
     subst (λ told. Remembers told book) (sym same) remembers
 
--- a summary says this: the rulings, how many choices and records there are, and what they cost
-pub record Says (ruled : Rulings) (made count cost : ℕ) (is : Summary) : Type 0 where
-  pub rulings : ruled_in is.rulings ≡ ruled
-  pub choices : is.choices ≡ made
-  pub held : is.held ≡ count
-  pub total : is.total ≡ cost
+-- A summary says this: the rulings; how many choices, replaced tariffs, credits and records there
+-- are; and what the records cost.
+pub record Says (ruled : Rulings) (made replaced given count cost : ℕ) (is : Summary) : Type 0
+  where
+    pub rulings : ruled_in is.rulings ≡ ruled
+    pub choices : is.choices ≡ made
+    pub replaced : is.replaced ≡ replaced
+    pub credits : is.credits ≡ given
+    pub held : is.held ≡ count
+    pub total : is.total ≡ cost

@@ -2,10 +2,13 @@
 use Rattle.std.proofs.Common.{◌≡◌, ◌∙◌, ℕ, ◌<◌, ◌≤◌, List, Bool, true, false, cond, Option, Some}
 use Rattle.std.proofs.Common.{None, refl, sym, ap, arith, int_lt, nat_lt}
 use Rattle.book_model.proofs.Std.{option_map_or, nat_tests, get}
-use Rattle.book_model.specs.Words.{Priced, Terms, most_cost, price_by, record_with}
+use Rattle.book_model.specs.Words.{AcceptedTerms, Priced, Terms, is_under, most_cost, price_by}
+use Rattle.book_model.specs.Words.{record_with}
 use Rattle.book_core.specs.Words.{if_room}
 use Rattle.table_model.specs.Words.{add_price, price_at, take_price, reprice, reprice_step}
 use Rattle.table_model.specs.Words.{RecordRow, Tables}
+use Rattle.table_model.specs.TableChanges.{replace_step}
+use Rattle.table_ledger.specs.Replacing.{price_in_place}
 use Rattle.table_ledger.specs.Repricing.{StandsPriced, tariff_price}
 use Rattle.table_ledger.proofs.Words.{not_none, some_is}
 
@@ -35,6 +38,23 @@ module _ (period : ℕ) (name : List ℕ) (row : RecordRow) (tables : Tables)
       option_map_or (λ (priced : Priced). reprice period name row priced tables)
       (cond early None (Some costs)) tables
       ≡ cond early tables (reprice period name row costs tables)) [
+        | true ↦ refl
+        | false ↦ refl
+      ])
+
+  -- the same by the price that a tariff gives it in the place of another, if its day has that
+  pub replaced_by : (tariffs : List AcceptedTerms) (terms : Terms) (found : Option Priced)
+      → found ≡ price_in_place tariffs terms row
+      → option_map_or (λ (priced : Priced). reprice period name row priced tables) found tables
+      ≡ replace_step period tariffs terms name tables
+  replaced_by tariffs terms found is =
+      let costs : Priced = price_by terms (record_with row.data_bytes) in
+      ap (λ (found : Option Priced).
+      option_map_or (λ (priced : Priced). reprice period name row priced tables) found tables) is
+      ∙ rw there (elim (is_under tariffs terms row.priced.day) as (λ under.
+      option_map_or (λ (priced : Priced). reprice period name row priced tables)
+      (cond under (Some costs) None) tables
+      ≡ cond under (reprice period name row costs tables) tables) [
         | true ↦ refl
         | false ↦ refl
       ])

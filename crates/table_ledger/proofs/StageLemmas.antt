@@ -8,7 +8,7 @@ use Rattle.table_model.proofs.EventLemmas.{event_follows}
 use Rattle.tree_rows.proofs.Calls.{only_looks}
 use Rattle.tree_tables.proofs.Looking.{does_err}
 use Rattle.table_ledger.proofs.Words.{StoreError, LedgerFault, kept_after_look, Holds, State}
-use Rattle.table_ledger.proofs.Words.{HasCleanDisk, Survives, Does, KeepsLastCommit, kept_last}
+use Rattle.table_ledger.proofs.Words.{HasCleanDisk, Survives, Does, KeepsLastCommit, Looks, kept_last}
 use Rattle.table_ledger.proofs.Words.{only_both, Saw, Remembers, IsAtAs, LeavesOne, MakesOf}
 use Rattle.table_ledger.proofs.Words.{StagesAs, StagesBy}
 use Rattle.table_ledger.specs.Ready.{IsStoredAs}
@@ -88,6 +88,16 @@ module _ {V T : Type 0} {answered : T → Result V LedgerFault}
       kept_last (kept_after_look (saw.seen (clean_before does.survives clean)).same
       (does.refused clean)))
 
+  -- or a look after looks.
+  pub stage_unseen : {B : Type 0} {old middle new : State} {Known : Tables → Type 0}
+      {Answers : Tables → B → Type 0} {error : StoreError} (staged : Result T StoreError)
+      → IsErr staged → Saw old middle Known → Looks {A = B} (Err error) middle new Answers
+      → StagesBy written answered Made Leaves naming was Is old new staged
+  stage_unseen staged failed saw looks =
+      unstaged staged failed (survives_then saw.survives looks.survives) (λ clean book at.
+      kept_last (kept_after_look (saw.seen (clean_before looks.survives clean)).same
+      (looks.refused clean)))
+
   -- What was staged is answered, and this summary remembers the book.
   pub staged_so : {old new : State} {done : T} (is : Summary) → Is is
       → StagesBy written answered Made Leaves naming was Is old new (Ok done)
@@ -153,7 +163,7 @@ stage_steps {naming = naming} {first = first} {middle = middle} {last = last} {w
       let changes = does.done clean in
       let whole = at.kept.readable in
       let follows =
-      event_follows naming book event.event whole.sound whole.usage event.answered in
+      event_follows naming book event.event whole.sound whole.usage event.answered whole.rising in
       record {
         events = event.event ∷ [];
         made = (event.answer, ap listed (sym event.is));

@@ -92,7 +92,8 @@ module _ (summary : Summary) (text : List ℕ) (terms : Terms) where
       pub tariff_is_event : (amount : ℕ) → Found (Some amount) → IsUtf8 text
           → IsDay terms.effective → (period : ℕ) → period ≡ open_by ruled
           → IsEvent (λ (ruled : Ruled). ruled) naming (tariff_outcome text) Done
-          (Says (with_tariff (Some text) terms ruled) summary.choices summary.held amount)
+          (Says (with_tariff (Some text) terms ruled) summary.choices summary.replaced
+          summary.credits summary.held amount)
           (λ tables. TakesTariff period terms tables × CountsRecords summary.held tables)
           (tariff_at period (Some text) terms amount) book
       tariff_is_event amount known utf8 day period number_is =
@@ -129,6 +130,8 @@ module _ (summary : Summary) (text : List ℕ) (terms : Terms) where
             remembers = λ follows other says. record {
               rulings = says.rulings ∙ ap (with_tariff (Some text) terms) ready.remembers.rulings;
               choices = says.choices ∙ ready.remembers.choices;
+              replaced = says.replaced ∙ ready.remembers.replaced;
+              credits = says.credits ∙ ready.remembers.credits;
               held = says.held ∙ ready.remembers.held;
               total = says.total ∙ cost_is.1
                   ∙ ap (λ (tables : Tables). tables.book.amount) (sym follows);

@@ -44,7 +44,7 @@ pub use Rattle.table_ledger.specs.Attempts.{Finishes}
 pub use Rattle.table_ledger.specs.Commits.{IsAtRest, Saw, Stores}
 pub use Rattle.table_ledger.specs.DetailReads.{seeks}
 pub use Rattle.table_ledger.specs.DisputeReads.{IsIdentity, IsShownRow}
-pub use Rattle.table_ledger.specs.FirstForm.{names_of, uncounted}
+pub use Rattle.table_ledger.specs.OldForms.{names_of, uncounted}
 pub use Rattle.table_ledger.specs.LedgerState.{LedgerState, ledger_state, seen_on, state_on}
 pub use Rattle.table_ledger.specs.LineReads.{lines_stored}
 pub use Rattle.table_ledger.specs.Loaded.{IsCloseDay, SaysRule, SaysTariff}

@@ -1,9 +1,12 @@
 -- Records as disputes are made from them, and the next identity in dispute.
-use Rattle.std.specs.Prelude.{◌≡◌, ◌⊎◌, ℕ, List, Option, Vec, filter, length, map, option_map}
+use Rattle.std.specs.Prelude.{◌≡◌, ◌⊎◌, ◌||◌, ℕ, Bool, List, Option, Vec, filter, length, map}
+use Rattle.std.specs.Prelude.{option_map}
 use Rattle.std.specs.Global.{Global}
+use Rattle.std.specs.List.{list_any}
 use Rattle.book_model.specs.Words.{Disputed, IsDay, identity_length, identity2_length}
-use Rattle.table_model.specs.Words.{Tables, FindsDisputed, NamedRow, grouped, has_none_charged}
-use Rattle.table_model.specs.Words.{variant_read}
+use Rattle.table_model.specs.Words.{Tables, FindsDisputed, NamedRow, grouped, is_unsettled}
+use Rattle.table_model.specs.Words.{is_withheld_in, rows_with, variant_read}
+use Rattle.tree_tables.specs.Answers.{is_charged}
 use Rattle.tree_tables.specs.Stored.{stored_entry}
 use Rattle.tree_tables.specs.declared.stored_record.StoredRecord.{StoredRecord}
 
@@ -22,12 +25,16 @@ abbrev pub dispute_made : List ℕ → List StoredRecord → Disputed
 dispute_made identity rows =
     record { identity = identity; members = map variant_read (map stored_entry rows) }
 
--- rows in groups, each of one identity, but for those of whose identity a record is charged
+-- an identity is settled: a record of it is charged, or it is withheld
+abbrev pub is_settled_in : Tables → List ℕ → Bool
+is_settled_in tables identity =
+    list_any is_charged (rows_with identity tables.records) || is_withheld_in tables identity
+
+-- rows in groups, each of one identity, but for those of an identity that is settled
 abbrev pub FindsGroups : List NamedRow → Tables → List Disputed → Type 0
-FindsGroups rows tables found =
-    found ≡ grouped (filter (has_none_charged tables.records) rows)
+FindsGroups rows tables found = found ≡ grouped (filter (is_unsettled tables) rows)
 
 -- the least identity in dispute from some bytes on, if there is one
 abbrev pub FindsNext : List ℕ → Tables → Option (Vec ℕ Global) → Type 0
 FindsNext from tables found =
-    FindsDisputed from tables.records (option_map (λ (identity : Vec ℕ Global). identity.items) found)
+    FindsDisputed from tables (option_map (λ (identity : Vec ℕ Global). identity.items) found)

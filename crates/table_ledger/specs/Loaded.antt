@@ -1,6 +1,6 @@
 -- What is read from a store when its books are opened.
 use Rattle.std.specs.Prelude.{◌≡◌, ◌⊎◌, ◌↔◌, ◌≤◌, ◌<◌, ◌+◌, IfErr, IfOk, Option, Some, None, Bool}
-use Rattle.std.specs.Prelude.{Result, Ok, [], Err, List, ℕ, ℤ, int_lt, length, false, true}
+use Rattle.std.specs.Prelude.{Result, Ok, Err, List, ℕ, ℤ, int_lt, length, false, true}
 use Rattle.sqlite_trees.specs.View.{View}
 use Rattle.book_model.specs.Std.{AllZip, last_or, option_map_or}
 use Rattle.tree_tables.specs.States.{State, HasCleanDisk, Survives}
@@ -9,6 +9,7 @@ use Rattle.book_model.specs.Words.{second_rule, first_rule}
 use Rattle.book_model.specs.declared.fault.LedgerFault.{LedgerFault}
 use Rattle.book_model.specs.declared.fault.LedgerFault.TheVariants.{Memory, NotBooks, Store}
 use Rattle.book_core.specs.Words.{IsOpenAt, Seen, ruled_in}
+use Rattle.book_core.specs.declared.listed_rulings.RulingCounts.{RulingCounts}
 use Rattle.table_model.specs.Words.{Tables, never_adopted, tables_of, tariff_read, IsReadable}
 use Rattle.table_model.specs.BookIn.{rulings_of_tables}
 use Rattle.tree_tables.specs.Answers.{last_number}
@@ -19,6 +20,7 @@ use Rattle.tree_tables.specs.declared.book_row.StoredBook.{StoredBook as Stored}
 use Rattle.tree_tables.specs.declared.closed_rows.Close.{Close}
 use Rattle.tree_tables.specs.declared.tariff_rows.StoredTariff.{StoredTariff}
 use Rattle.table_ledger.specs.Commits.{Stores}
+use Rattle.table_ledger.specs.Ready.{without_lists}
 use Rattle.table_ledger.specs.declared.summary.Summary.{Summary}
 
 -- out of memory, or another fault of the store
@@ -56,20 +58,30 @@ SaysRule closes row None = (row.rule ≡ first_rule) × (row.adopted ≡ never_a
 SaysRule closes row (Some period) =
     (row.rule ≡ second_rule) × (row.adopted ≡ period) × (0 < period) × (period ≤ closes + 1)
 
+-- how many rulings tables keep beside the tariffs and closes, by the last of their numbers
+pub record CountsRulings (tables : Tables) (counts : RulingCounts) : Type 0 where
+  pub choices : counts.choices ≡ last_number tables.choices
+  pub replaced : counts.replaced ≡ last_number tables.replaced
+  pub credits : counts.credits ≡ last_number tables.credits
+
 -- the summary is what the rows show
-pub record SummarizesRows (row : Stored) (texts : List StoredTariff) (days : List Close) (choices : ℕ)
-    (summary : Summary) : Type 0 where
+pub record SummarizesRows (row : Stored) (texts : List StoredTariff) (days : List Close)
+    (choices replaced credits : ℕ) (summary : Summary) : Type 0 where
   pub tariffs : AllZip SaysTariff texts (ruled_in summary.rulings).tariffs
   pub closes : AllZip IsCloseDay days (ruled_in summary.rulings).closes
   pub made : summary.choices ≡ choices
+  pub replaced : summary.replaced ≡ replaced
+  pub credits : summary.credits ≡ credits
   pub adopted : SaysRule (length (ruled_in summary.rulings).closes) row (ruled_in summary.rulings).adopted
   pub held : summary.held ≡ row.held
   pub total : summary.total ≡ row.amount
 
 -- the summary is what the tables say
 pub record SummarizesTables (summary : Summary) (tables : Tables) : Type 0 where
-  pub rulings : ruled_in summary.rulings ≡ record (rulings_of_tables tables) { choices = [] }
+  pub rulings : ruled_in summary.rulings ≡ without_lists (rulings_of_tables tables)
   pub choices : summary.choices ≡ last_number tables.choices
+  pub replaced : summary.replaced ≡ last_number tables.replaced
+  pub credits : summary.credits ≡ last_number tables.credits
   pub held : summary.held ≡ tables.book.held
   pub total : summary.total ≡ tables.book.amount
 

@@ -24,11 +24,17 @@ CanCost terms row =
     int_lt row.priced.day terms.effective ≡ false
     → IsPriced (price_by terms (record_with row.data_bytes))
 
--- what all records then cost together, if the books can hold as much; and each of them can cost so
-pub record CostUnder (terms : Terms) (tables : Tables) (found : Option ℕ) : Type 0 where
-  pub cost : found ≡ if_room (sum_by (amount_under terms) (values tables.records))
+-- what all records cost together by such amounts, if the books can hold as much; and each of them
+-- can cost so
+pub record CostBy (amount : RecordRow → ℕ) (Can : RecordRow → Type 0) (tables : Tables)
+    (found : Option ℕ) : Type 0 where
+  pub cost : found ≡ if_room (sum_by amount (values tables.records))
   pub can : IsSome found → (name : List ℕ) (row : RecordRow)
-      → get tables.records name ≡ Some row → CanCost terms row
+      → get tables.records name ≡ Some row → Can row
+
+-- the same under the tariff
+abbrev pub CostUnder : Terms → Tables → Option ℕ → Type 0
+CostUnder terms tables found = CostBy (amount_under terms) (CanCost terms) tables found
 
 -- the book counts this many records
 abbrev pub CountsRecords : ℕ → Tables → Type 0

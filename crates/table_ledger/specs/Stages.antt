@@ -35,6 +35,8 @@ IsAt = IsAtAs (λ tables. tables)
 pub record KeepsRulings (was is : Summary) : Type 0 where
   pub rulings : ruled_in is.rulings ≡ ruled_in was.rulings
   pub choices : is.choices ≡ was.choices
+  pub replaced : is.replaced ≡ was.replaced
+  pub credits : is.credits ≡ was.credits
 
 -- what was staged makes such events of the book, and each such summary remembers the book then
 pub record IsStaged (written : Tables → Tables) (Made Leaves : Book → List Event → Type 0)

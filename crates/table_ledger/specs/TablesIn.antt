@@ -9,7 +9,8 @@ use Rattle.sqlite_value.specs.declared.value.Value.{Value}
 use Rattle.sqlite_value.specs.declared.value.Value.TheVariants.{Int, Text}
 use Rattle.book_model.specs.declared.row.ChargeRow.{ChargeRow}
 use Rattle.book_model.specs.declared.row.RowKey.{RowKey}
-use Rattle.table_model.specs.Tables.{BookRow, ChoiceRow, RecordRow, Tables}
+use Rattle.book_model.specs.Words.{Credit}
+use Rattle.table_model.specs.Tables.{BookRow, ChoiceRow, RecordRow, ReplacedRow, Tables}
 
 -- the number that a value is
 abbrev pub int_value : Value → ℤ
@@ -79,8 +80,31 @@ abbrev pub line_in : Row → (ℕ × List ℕ) × Bool
 line_in row = ((count_in row 0, bytes (column row 1)), mark_in row 2)
 
 abbrev pub choice_in : Row → ℕ × ChoiceRow
-choice_in row =
-    (count_in row 0, record { name = bytes (column row 1); period = count_in row 2 })
+choice_in row = (
+  count_in row 0,
+  record { name = bytes (column row 1); counts = mark_in row 3; period = count_in row 2 },
+)
+
+abbrev pub credit_in : Row → ℕ × Credit
+credit_in row = (
+  count_in row 0,
+  record {
+    centre = bytes (column row 2);
+    amount = int_value (column row 3);
+    reason = bytes (column row 4);
+    period = count_in row 1;
+  },
+)
+
+abbrev pub replaced_row_in : Row → ℕ × ReplacedRow
+replaced_row_in row = (
+  count_in row 0,
+  record {
+    day = int_value (column row 1);
+    text = text_value (column row 3);
+    period = count_in row 2;
+  },
+)
 
 -- the row of the book, by the first row of its tree
 abbrev pub book_row_in : List Row → BookRow
@@ -99,6 +123,8 @@ tables_in trees = record {
   tariffs = from_entries (map tariff_in (trees 1));
   closes = from_entries (map closed_in (trees 2));
   choices = from_entries (map choice_in (trees 8));
+  credits = from_entries (map credit_in (trees 11));
+  replaced = from_entries (map replaced_row_in (trees 12));
   records = from_entries (map record_in (trees 3));
   days = from_entries (map day_in (trees 4));
   lines = from_entries (map line_in (trees 5));

@@ -8,27 +8,43 @@ use Rattle.book_model.specs.Std.{FinMap, empty, entries, from_entries, get, get-
 use Rattle.book_model.specs.Std.{get-from_entries, same_map, AllByRecursion, Ordering}
 use Rattle.book_model.specs.declared.row.ChargeRow.{ChargeRow}
 use Rattle.book_model.specs.declared.row.RowKey.{RowKey}
+use Rattle.table_model.specs.Tables.{ChoiceRow, ReplacedRow}
 use Rattle.table_model.specs.Words.{row_key, RecordRow, Tables}
 use Rattle.tree_rows.specs.Layouts.{Layout, row_of, rows_of}
-use Rattle.tree_tables.specs.Columns.{day_columns, flag, line_columns, record_columns}
-use Rattle.tree_tables.specs.Columns.{tariff_columns}
+use Rattle.tree_tables.specs.Columns.{choice_columns, day_columns, flag, line_columns}
+use Rattle.tree_tables.specs.Columns.{record_columns, replaced_columns, tariff_columns}
+use Rattle.tree_tables.specs.Columns.{tariff_value}
 use Rattle.tree_tables.specs.Holds.{Holds}
-use Rattle.tree_tables.proofs.Layouts.{choice_layout, closed_layout, day_layout, line_layout}
-use Rattle.tree_tables.proofs.Layouts.{record_layout, tariff_layout}
+use Rattle.tree_tables.proofs.Layouts.{choice_layout, closed_layout, credit_layout, day_layout}
+use Rattle.tree_tables.proofs.Layouts.{line_layout, record_layout, replaced_layout, tariff_layout}
 use Rattle.tree_tables.proofs.RowsRead.{all_entries}
 use Rattle.table_ledger.specs.TablesIn.{tables_in, tariff_in, closed_in, record_in, day_in, line_in}
-use Rattle.table_ledger.specs.TablesIn.{book_row_in, choice_in}
+use Rattle.table_ledger.specs.TablesIn.{book_row_in, choice_in, credit_in, replaced_row_in}
+use Rattle.table_ledger.specs.TablesIn.{text_value}
 
 -- a mark is read back
 mark_back : (marked : Bool) → not (flag marked == 0) ≡ marked
 mark_back true = refl
 mark_back false = refl
 
--- each kind of row is read back from its columns: tariffs,
+-- and so is a text, if there is one
+text_back : (text : Option (List ℕ)) → text_value (tariff_value text) ≡ text
+text_back None = refl
+text_back (Some text) = refl
+
+-- each kind of row is read back from its columns: tariffs and those that were replaced,
 tariff_back : (day : ℤ) (text : Option (List ℕ))
     → tariff_in (tariff_columns (day, text)) ≡ (day, text)
-tariff_back day None = refl
-tariff_back day (Some text) = refl
+tariff_back day text = λ i. (day, text_back text i)
+
+replaced_back : (number : ℕ) (row : ReplacedRow)
+    → replaced_row_in (replaced_columns (number, row)) ≡ (number, row)
+replaced_back number row = λ i. (number, record row { text = text_back row.text i })
+
+-- choices,
+choice_back : (number : ℕ) (row : ChoiceRow)
+    → choice_in (choice_columns (number, row)) ≡ (number, row)
+choice_back number row = λ i. (number, record row { counts = mark_back row.counts i })
 
 -- records, lines,
 record_back : (name : List ℕ) (row : RecordRow)
@@ -83,8 +99,12 @@ tables_read trees tables holds = λ i. record {
       (λ day text there. tariff_back day text) holds.tariffs i;
   closes = table_back closed_layout closed_in tables.closes (λ number day there. refl)
       holds.closes i;
-  choices = table_back choice_layout choice_in tables.choices (λ number row there. refl)
-      holds.choices i;
+  choices = table_back choice_layout choice_in tables.choices
+      (λ number row there. choice_back number row) holds.choices i;
+  credits = table_back credit_layout credit_in tables.credits (λ number credit there. refl)
+      holds.credits i;
+  replaced = table_back replaced_layout replaced_row_in tables.replaced
+      (λ number row there. replaced_back number row) holds.replaced i;
   records = table_back record_layout record_in tables.records
       (λ name row there. record_back name row) holds.records i;
   days = table_back day_layout day_in tables.days

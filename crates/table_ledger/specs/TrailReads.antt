@@ -33,7 +33,8 @@ pub record AreInOrder (found sorted : List StoredChoice) : Type 0 where
 
 -- a choice as a trail shows it
 abbrev pub choice_told : StoredChoice → NamedChoice
-choice_told choice = record { period = choice.period; name = choice.name }
+choice_told choice =
+    record { period = choice.period; name = choice.name; counts = choice.counts }
 
 -- these are the choices of each identity that the records have, if they are all that have it
 abbrev pub ListsKinChoices : List StoredRecord → Tables → List NamedChoice → Type 0

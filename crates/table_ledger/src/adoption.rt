@@ -22,7 +22,8 @@ use sqlite_trees::store::Store;
 use std::alloc::Global;
 use tree_tables::{MOST_STEPS, SECOND_RULE, StoredRecord, TreeTables};
 
-/// A record is to be charged: it is alone in its identity, or is the one that was chosen last.
+/// A record is to be charged: its work is not withheld, and it is alone in its identity, or is the
+/// one that was named last.
 fn is_due<S: Store>(
     tables: &mut TreeTables<S>,
     alloc: Global,
@@ -33,6 +34,9 @@ fn is_due<S: Store>(
         (λ tables due. IsAsRead stored.now tables → IsLast chosen.now tables
         → due ≡ is_due_in tables stored.now.name) }
 {
+    if chosen.withholds(&stored.identity) {
+        return Ok(false);
+    }
     if chosen.is_last(&stored.identity, &stored.name) {
         return Ok(true);
     }

@@ -1,6 +1,6 @@
 //! Choices among the records of an identity.
 
-ghost use Rattle.std.specs.Prelude.{◌≡◌, ◌<◌, ◌==◌, Ok, nat_le};
+ghost use Rattle.std.specs.Prelude.{◌≡◌, ◌<◌, ◌==◌, ◌&&◌, Ok, nat_le, not};
 ghost use Rattle.std.specs.Option.{option_map_or};
 ghost use Rattle.book_model.specs.Words.{choose_outcome, most_choices, Naming};
 ghost use Rattle.table_model.specs.TableChanges as change;
@@ -15,6 +15,7 @@ ghost use Rattle.table_ledger.specs.Stages.{AttemptsOne};
 use crate::commits::{commit_written, write_counted, write_effects};
 use crate::effects::member_of;
 use crate::summary::Summary;
+use crate::withheld::was_withheld;
 use book_core::{ChoiceEffects, Effects, LedgerFault, MAX_CHOICES, Ruled, is_done, plan_choice};
 use sqlite_trees::error::StoreError;
 use sqlite_trees::store::Store;
@@ -50,7 +51,7 @@ fn look_for_choice<S: Store>(
 }
 
 /// The record that was charged until now, if there was one, is no longer charged.
-fn withdraw<S: Store>(
+pub(crate) fn withdraw<S: Store>(
     tables: &mut TreeTables<S>,
     period: u16,
     withdrawn: &Option<Effects>,
@@ -86,18 +87,23 @@ fn write_choice<S: Store>(tables: &mut TreeTables<S>, choice: &Choice) -> Result
 {
     withdraw(tables, choice.period, &choice.effects.withdrawn)?;
     charge(tables, choice.period, &choice.name, &choice.effects.chosen)?;
-    tables.put_choice(choice.number, &choice.name, choice.period)
+    tables.put_choice(choice.number, &choice.name, true, choice.period)
 }
 
-/// The answer to the choice of a record, by how many were found of its identity, and how many
-/// choices were made: of two or more records of one identity, the one that is charged is the choice
-/// now.
-fn choice_answer(stored: &StoredRecord, sharing: usize, made: u32) -> Result<Ruled, LedgerFault>
-    ensures answer { result ≡ chosen_by (sharing == 1) stored.now.charged
+/// The answer to the choice of a record, by how many were found of its identity, whether its work
+/// was ever withheld, and how many choices were made: of two or more records of one identity, or of
+/// one that was withheld, the one that is charged is the choice now.
+fn choice_answer(
+    stored: &StoredRecord,
+    sharing: usize,
+    ever: bool,
+    made: u32,
+) -> Result<Ruled, LedgerFault>
+    ensures answer { result ≡ chosen_by (sharing == 1 && not ever) stored.now.charged
         (nat_le most_choices made) }
     ensures room { result ≡ Ok Ruled.Done → made < most_choices }
 {
-    if sharing == 1 {
+    if sharing == 1 && !ever {
         return Err(LedgerFault::NotDisputed);
     }
     if stored.charged {
@@ -110,7 +116,7 @@ fn choice_answer(stored: &StoredRecord, sharing: usize, made: u32) -> Result<Rul
 }
 
 /// Answers the choice of a record by its name, and keeps it if the record is one of two or more
-/// of its identity and is not the one that is chosen now.
+/// of its identity, or its work was withheld, and it is not the one that is chosen now.
 pub(crate) fn try_choose<S: Store>(
     tables: &mut TreeTables<S>,
     alloc: Global,
@@ -124,7 +130,8 @@ pub(crate) fn try_choose<S: Store>(
         return Ok(Err(LedgerFault::NoSuchRecord));
     };
     let sharing = tables.count_sharing(alloc, &stored.identity)?;
-    let answer = choice_answer(&stored, sharing, summary.choices);
+    let ever = was_withheld(tables, alloc, &stored.identity)?;
+    let answer = choice_answer(&stored, sharing, ever, summary.choices);
     if !is_done(&answer) {
         return Ok(answer);
     }

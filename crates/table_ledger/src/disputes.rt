@@ -1,4 +1,4 @@
-//! Identities that two or more records have, and for which none was chosen.
+//! Identities that two or more records have, for which none was chosen and that are not withheld.
 
 ghost use Rattle.std.specs.Prelude.{◌≡◌, All, IfOk, IsTrue, false, map, option_map};
 ghost use Rattle.tree_tables.specs.States.{state_of};
@@ -8,11 +8,14 @@ ghost use Rattle.tree_tables.specs.Stored.{stored_entry};
 ghost use Rattle.table_model.specs.DisputesRead.{join_last, dispute_of_one, variant_read};
 ghost use Rattle.tree_tables.specs.Steps.{Looks};
 ghost use Rattle.table_ledger.specs.DisputeReads.{FindsGroups, FindsNext, IsIdentity, IsShownRow};
-ghost use Rattle.table_ledger.specs.DisputeReads.{dispute_made};
+ghost use Rattle.table_ledger.specs.DisputeReads.{dispute_made, is_settled_in};
+ghost use Rattle.table_ledger.specs.Adoptions.{IsLast};
 ghost use Rattle.table_ledger.specs.Stages.{AttemptsOne};
 
+use crate::chosen::{Chosen, look_for_chosen};
 use crate::days::is_day;
 use crate::summary::Summary;
+use crate::withheld::is_withheld;
 use book_core::{Dispute, LedgerFault, Variant, copied};
 use smf_type30::Type30;
 use sqlite_trees::error::StoreError;
@@ -99,22 +102,40 @@ fn join(alloc: Global, found: &mut Vec<Dispute>, stored: &StoredRecord) -> Resul
     Ok(())
 }
 
+/// An identity is settled: a record of it is charged, which was chosen, or its work is withheld, by
+/// the last choice of each identity.
+fn is_settled_by<S: Store>(
+    tables: &mut TreeTables<S>,
+    chosen: &Chosen,
+    identity: &[u8],
+) -> Result<bool, StoreError>
+    ensures looks { Looks result (state_of tables.old) (state_of tables.new)
+        (λ tables settled. IsLast chosen.now tables → settled ≡ is_settled_in tables identity.now) }
+{
+    if chosen.withholds(identity) {
+        return Ok(true);
+    }
+    let charged = tables.has_charged(identity)?;
+    Ok(charged)
+}
+
 /// Records that are not charged and in order, in groups: neighbours of one identity are one
-/// dispute. If another of the identity is charged, that one was chosen, and they are left out.
+/// dispute. If their identity is settled, they are left out.
 fn grouped<S: Store>(
     tables: &mut TreeTables<S>,
     alloc: Global,
+    chosen: &Chosen,
     rows: &[StoredRecord],
 ) -> Result<Vec<Dispute>, StoreError>
     requires shown { All (λ row. IsShownRow (stored_entry row)) rows.now }
     ensures looks { Looks result (state_of tables.old) (state_of tables.new)
-        (λ tables found. FindsGroups (map stored_entry rows.now) tables
-        (map dispute_shown found.items)) }
+        (λ tables found. IsLast chosen.now tables
+        → FindsGroups (map stored_entry rows.now) tables (map dispute_shown found.items)) }
     ensures shown { IfOk result (λ found. AreDisputes (map dispute_shown found.items)) }
 {
     let mut found = Vec::new(alloc);
     for stored in rows {
-        if !tables.has_charged(&stored.identity)? {
+        if !is_settled_by(tables, chosen, &stored.identity)? {
             join(alloc, &mut found, stored)?;
         }
     }
@@ -138,11 +159,29 @@ pub(crate) fn try_disputes<S: Store>(
     if !can_show(&rows) {
         return Err(StoreError::Corrupt);
     }
-    Ok(Ok(grouped(tables, alloc, &rows)?))
+    let chosen = look_for_chosen(tables, alloc)?;
+    Ok(Ok(grouped(tables, alloc, &chosen, &rows)?))
 }
 
-/// The least identity in dispute that is these bytes or comes after them. An identity of which a
-/// record is charged is passed over: that one was chosen.
+/// An identity is settled: a record of it is charged, which was chosen, or its work is withheld.
+fn is_settled<S: Store>(
+    tables: &mut TreeTables<S>,
+    alloc: Global,
+    identity: &[u8],
+) -> Result<bool, StoreError>
+    ensures looks { Looks result (state_of tables.old) (state_of tables.new)
+        (λ tables settled. settled ≡ is_settled_in tables identity.now) }
+{
+    let charged = tables.has_charged(identity)?;
+    if charged {
+        return Ok(true);
+    }
+    let withheld = is_withheld(tables, alloc, identity)?;
+    Ok(withheld)
+}
+
+/// The least identity in dispute that is these bytes or comes after them. An identity that is
+/// settled is passed over.
 fn next_disputed<S: Store>(
     tables: &mut TreeTables<S>,
     alloc: Global,
@@ -155,7 +194,7 @@ fn next_disputed<S: Store>(
         let Some(mut identity) = tables.find_uncharged(alloc, &reached)? else {
             return Ok(None);
         };
-        let settled = tables.has_charged(&identity)?;
+        let settled = is_settled(tables, alloc, &identity)?;
         if !settled {
             return Ok(Some(identity));
         }

@@ -1,6 +1,6 @@
 //! The ledger: each call is tried on the store, and then settled.
 
-ghost use Rattle.std.specs.Prelude.{◌≡◌, ◌<◌, length, take};
+ghost use Rattle.std.specs.Prelude.{◌≡◌, ◌<◌, ◌≤◌, length, take};
 ghost use Rattle.table_ledger.specs.Stages.{most_in_commit};
 
 mod creating;
@@ -12,6 +12,7 @@ use crate::charges::try_charges;
 use crate::details::try_next_detail;
 use crate::disputes::{try_dispute, try_disputes};
 use crate::finish::finish;
+use crate::given_credits::try_credit_given;
 use crate::listed_rulings::try_ruling;
 use crate::named_records::try_record;
 use crate::other_prices::try_charges_under;
@@ -19,16 +20,17 @@ use crate::periods::try_periods;
 use crate::rulings::try_rule;
 use crate::summary::Summary;
 use crate::trails::try_trail_of;
+use crate::withheld_together::try_withhold_many;
 use book_core::{
-    Accepted, ChargeRow, Detail, Dispute, Ledger, LedgerFault, Line, ListedRuling, Name, Naming,
-    Ruled, Ruling, Trail,
+    Accepted, ChargeRow, Credit, Detail, Dispute, Ledger, LedgerFault, Line, ListedRuling, Name,
+    Naming, Ruled, Ruling, Trail, Withheld,
 };
 use sqlite_trees::store::Store;
 use std::alloc::Global;
 use tariff_rules::Tariff;
 use tree_tables::TreeTables;
 
-/// The most records that one commit takes.
+/// The most records that one commit takes, and the most works that one withholds.
 const MOST_IN_COMMIT: usize = 8_000;
 
 /// Books that are stored in the trees of a store.
@@ -54,6 +56,20 @@ fn first_records(records: &[Vec<u8>]) -> &[Vec<u8>]
     }
 }
 
+/// The works that one commit withholds: those of the first of these names.
+fn first_names(names: &[[u8; 32]]) -> &[[u8; 32]]
+    ensures first { result.now ≡ take most_in_commit names.now }
+    ensures some { 0 < length names.now → 0 < length result.now }
+    ensures few { length result.now ≤ most_in_commit }
+    ensures within { length result.now ≤ length names.now }
+{
+    if names.len() > MOST_IN_COMMIT {
+        &names[..MOST_IN_COMMIT]
+    } else {
+        names
+    }
+}
+
 impl<S: Store, N: Naming + Drop> Ledger for TableLedger<S, N> {
     ghost use Rattle.std.specs.Prelude.{All, IfOk};
     ghost use Rattle.book_model.specs.Words.{IsUsageRecord};
@@ -70,6 +86,15 @@ impl<S: Store, N: Naming + Drop> Ledger for TableLedger<S, N> {
             return Err(LedgerFault::Reopen);
         }
         let tried = try_rule(&mut self.tables, self.alloc, &mut self.summary, ruling);
+        finish(&mut self.tables, &mut self.must_reopen, tried)
+    }
+
+    fn withhold_many(&mut self, names: &[[u8; 32]]) -> Result<Withheld, LedgerFault> {
+        if self.must_reopen {
+            return Err(LedgerFault::Reopen);
+        }
+        let first = first_names(names);
+        let tried = try_withhold_many(&mut self.tables, self.alloc, &mut self.summary, first);
         finish(&mut self.tables, &mut self.must_reopen, tried)
     }
 
@@ -180,6 +205,14 @@ impl<S: Store, N: Naming + Drop> Ledger for TableLedger<S, N> {
             return Err(LedgerFault::Reopen);
         }
         let tried = try_ruling(&mut self.tables, &self.summary, self.alloc, number);
+        finish(&mut self.tables, &mut self.must_reopen, tried)
+    }
+
+    fn credit_given(&mut self, number: u64) -> Result<Option<Credit>, LedgerFault> {
+        if self.must_reopen {
+            return Err(LedgerFault::Reopen);
+        }
+        let tried = try_credit_given(&mut self.tables, &self.summary, self.alloc, number);
         finish(&mut self.tables, &mut self.must_reopen, tried)
     }
 

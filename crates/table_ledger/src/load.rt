@@ -6,9 +6,10 @@ ghost use Rattle.std.specs.List.{AllZip, last_or};
 ghost use Rattle.tree_tables.specs.Holds.{has_book};
 ghost use Rattle.tree_tables.specs.States.{HasCleanDisk, state_of};
 ghost use Rattle.book_model.specs.Words.{are_rising, last_period, most_choices, most_cost};
-ghost use Rattle.book_model.specs.Words.{most_held};
+ghost use Rattle.book_model.specs.Words.{most_credits, most_held, most_replaced};
 ghost use Rattle.tree_tables.specs.Steps.{Looks};
-ghost use Rattle.table_ledger.specs.Loaded.{IsCloseDay, IsBookRow, IsNextClose, IsOpenFault};
+ghost use Rattle.table_ledger.specs.Loaded.{CountsRulings, IsBookRow, IsCloseDay, IsNextClose};
+ghost use Rattle.table_ledger.specs.Loaded.{IsOpenFault};
 ghost use Rattle.table_ledger.specs.Loaded.{IsLoaded, IsStoreFault, Reads, SaysRule, SaysTariff};
 ghost use Rattle.table_ledger.specs.Loaded.{SummarizesRows, ReadsByRow, TellsBooks};
 
@@ -16,7 +17,8 @@ use crate::days::is_day;
 use crate::finish::fault_of;
 use crate::summary::Summary;
 use book_core::{
-    AcceptedTariff, LAST_PERIOD, LedgerFault, MAX_CHOICES, MAX_COST, MAX_HELD, are_before, is_after,
+    AcceptedTariff, LAST_PERIOD, LedgerFault, MAX_CHOICES, MAX_COST, MAX_CREDITS, MAX_HELD,
+    MAX_REPLACED, RulingCounts, are_before, is_after,
 };
 use sqlite_trees::error::StoreError;
 use sqlite_trees::store::Store;
@@ -132,30 +134,43 @@ fn is_kept(row: &StoredBook) -> bool
     row.held <= MAX_HELD as u64 && row.amount <= MAX_COST
 }
 
-/// There are fewer closes than possible periods, and no more choices than the most possible.
-fn are_few(closes: &[i32], choices: u32) -> bool
-    ensures few { result ≡ true → length closes.now < last_period }
-    ensures chosen { result ≡ true → choices ≤ most_choices }
-    ensures many { result ≡ false
-        → (last_period ≤ length closes.now) ⊎ (most_choices < choices) }
+/// There are no more choices, replaced tariffs and credits than the most possible.
+fn may_be_counted(counts: &RulingCounts) -> bool
+    ensures choices { result ≡ true → counts.now.choices ≤ most_choices }
+    ensures replaced { result ≡ true → counts.now.replaced ≤ most_replaced }
+    ensures credits { result ≡ true → counts.now.credits ≤ most_credits }
+    ensures many { result ≡ false → (most_choices < counts.now.choices)
+        ⊎ (most_replaced < counts.now.replaced) ⊎ (most_credits < counts.now.credits) }
 {
-    closes.len() < LAST_PERIOD as usize && choices as usize <= MAX_CHOICES
+    counts.choices as usize <= MAX_CHOICES
+        && counts.replaced as usize <= MAX_REPLACED
+        && counts.credits as usize <= MAX_CREDITS
 }
 
-/// The summary of the rows, if they are those of a book; the last of its choices has this number.
+/// There are fewer closes than possible periods.
+fn are_few(closes: &[i32]) -> bool
+    ensures few { result ≡ true → length closes.now < last_period }
+    ensures many { result ≡ false → last_period ≤ length closes.now }
+{
+    closes.len() < LAST_PERIOD as usize
+}
+
+/// The summary of the rows, if they are those of a book; these are the numbers of the last of its
+/// choices, of its replaced tariffs and of its credits.
 fn summary_of(
     alloc: Global,
     row: &StoredBook,
     tariffs: &[StoredTariff],
     closes: &[Close],
-    choices: u32,
+    counts: &RulingCounts,
 ) -> Result<Summary, LedgerFault>
-    ensures shows { IfOk result (SummarizesRows row.now tariffs.now closes.now choices) }
+    ensures shows { IfOk result (SummarizesRows row.now tariffs.now closes.now counts.now.choices
+        counts.now.replaced counts.now.credits) }
     ensures kinds { IfErr result IsStoreFault }
 {
     let tariffs = tariffs_of(alloc, tariffs)?;
     let closes = days_of(alloc, closes)?;
-    if !is_kept(row) || !are_few(&closes, choices) {
+    if !is_kept(row) || !are_few(&closes) || !may_be_counted(counts) {
         return Err(LedgerFault::Store);
     }
     let Some(adopted) = adopted_by(row, closes.len()) else {
@@ -163,9 +178,25 @@ fn summary_of(
     };
     Ok(Summary {
         rulings: book_core::Rulings::of(tariffs, closes, adopted),
-        choices,
+        choices: counts.choices,
+        replaced: counts.replaced,
+        credits: counts.credits,
         held: row.held as usize,
         total: row.amount,
+    })
+}
+
+/// How many rulings the tables keep beside the tariffs and closes, by the last of their numbers.
+fn look_for_counts<S: Store>(tables: &mut TreeTables<S>) -> Result<RulingCounts, StoreError>
+    ensures looks { Looks result (state_of tables.old) (state_of tables.new) CountsRulings }
+{
+    let choices = tables.last_choice()?;
+    let replaced = tables.last_replaced()?;
+    let credits = tables.last_credit()?;
+    Ok(RulingCounts {
+        choices,
+        replaced,
+        credits,
     })
 }
 
@@ -184,8 +215,8 @@ fn look_for_summary<S: Store>(
     };
     let tariffs = tables.list_tariffs(alloc)?;
     let closes = tables.list_closes(alloc)?;
-    let choices = tables.last_choice()?;
-    Ok(summary_of(alloc, &row, &tariffs, &closes, choices))
+    let counts = look_for_counts(tables)?;
+    Ok(summary_of(alloc, &row, &tariffs, &closes, &counts))
 }
 
 /// Reads the summary of the book that a store holds, if it holds one.

@@ -68,7 +68,7 @@ fn next_late<S: Store>(
 }
 
 /// Two costs together, if the books can hold as much.
-fn cost_together(one: u64, other: u64) -> Option<u64>
+pub(crate) fn cost_together(one: u64, other: u64) -> Option<u64>
     ensures sum { result ≡ if_room (one + other) }
     ensures small { IfSome result (λ cost. cost ≤ most_cost) }
 {
@@ -184,7 +184,7 @@ fn change_price<S: Store>(
 }
 
 /// Changes the price of a record; if it is charged, the charge rows of the open period too.
-fn set_price<S: Store>(
+pub(crate) fn set_price<S: Store>(
     tables: &mut TreeTables<S>,
     period: u16,
     stored: &StoredRecord,

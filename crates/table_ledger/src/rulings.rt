@@ -1,19 +1,22 @@
 //! Rulings: which one the books are asked for.
 
-ghost use Rattle.book_model.specs.Words.{HasDay, Naming, rule_outcome, ruling_asked};
+ghost use Rattle.book_model.specs.Words.{MayBeAsked, Naming, rule_outcome, ruling_asked};
 ghost use Rattle.tree_tables.specs.States.{state_of};
 ghost use Rattle.table_ledger.specs.Stages.{AttemptsOne};
 
 use crate::adoption::try_adopt;
 use crate::choices::try_choose;
 use crate::close::try_close;
+use crate::credits::try_credit;
+use crate::replacing::try_replace;
 use crate::summary::Summary;
 use crate::tariff::try_tariff;
+use crate::withholding::try_withhold;
 use book_core::{LedgerFault, Ruled, Ruling};
 use sqlite_trees::error::StoreError;
 use sqlite_trees::store::Store;
 use std::alloc::Global;
-use tree_tables::{Close, TreeTables};
+use tree_tables::{Close, CreditText, TreeTables};
 
 /// Answers a ruling, and makes it if it may be made.
 pub(crate) fn try_rule<S: Store>(
@@ -22,7 +25,7 @@ pub(crate) fn try_rule<S: Store>(
     summary: &mut Summary,
     ruling: Ruling<'_>,
 ) -> Result<Result<Ruled, LedgerFault>, StoreError>
-    requires { HasDay (ruling_asked ruling) }
+    requires { MayBeAsked (ruling_asked ruling) }
     ensures tries { (naming : Naming) → AttemptsOne (λ ruled. ruled) naming summary.old summary.new
         (state_of tables.old) (state_of tables.new)
         (rule_outcome naming (ruling_asked ruling.entry)) result }
@@ -34,5 +37,21 @@ pub(crate) fn try_rule<S: Store>(
         }
         Ruling::Choose(name) => try_choose(tables, alloc, summary, name),
         Ruling::Adopt(rule) => try_adopt(tables, alloc, summary, rule),
+        Ruling::Replace(text) => try_replace(tables, summary, alloc, text),
+        Ruling::Withhold(name) => try_withhold(tables, alloc, summary, name),
+        Ruling::Credit {
+            period,
+            centre,
+            amount,
+            reason,
+        } => {
+            let credit = CreditText {
+                period,
+                centre,
+                amount,
+                reason,
+            };
+            try_credit(tables, alloc, summary, &credit)
+        }
     }
 }

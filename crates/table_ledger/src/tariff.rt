@@ -49,7 +49,7 @@ fn write_tariff<S: Store>(
 }
 
 /// The tariff of a text.
-fn tariff_of(alloc: Global, text: &str) -> Result<Tariff, LedgerFault>
+pub(crate) fn tariff_of(alloc: Global, text: &str) -> Result<Tariff, LedgerFault>
     ensures said { IfOk result (λ tariff. terms_in text.now ≡ Ok tariff) }
     ensures refused { IfErr result (IsNoTariff text.now) }
 {
@@ -61,7 +61,11 @@ fn tariff_of(alloc: Global, text: &str) -> Result<Tariff, LedgerFault>
 }
 
 /// Takes the memory that one more tariff needs: room for it, and its text.
-fn take_memory(rulings: &mut Rulings, alloc: Global, text: &str) -> Result<String, StoreError>
+pub(crate) fn take_memory(
+    rulings: &mut Rulings,
+    alloc: Global,
+    text: &str,
+) -> Result<String, StoreError>
     ensures same { ruled_in rulings.new ≡ ruled_in rulings.old }
     ensures room { OnOk result (HasTariffRoom rulings.new) }
     ensures own { IfOk result (λ own. string_bytes own ≡ text.now) }

@@ -147,13 +147,14 @@ fn told(alloc: Global, choices: &[StoredChoice]) -> Result<Vec<NamedChoice>, All
         told.push(NamedChoice {
             period: choice.period,
             name: choice.name,
+            counts: choice.counts,
         })?;
     }
     Ok(told)
 }
 
 /// The choices that name one of the records of an identity, which are these.
-fn choices_among<S: Store>(
+pub(crate) fn choices_among<S: Store>(
     tables: &mut TreeTables<S>,
     alloc: Global,
     rows: &[StoredRecord],

@@ -16,8 +16,8 @@ ghost use Rattle.tree_tables.specs.Columns.{record_columns};
 ghost use Rattle.tree_tables.specs.Holds.{has_book};
 ghost use Rattle.tree_tables.specs.States.{state};
 ghost use Rattle.tree_tables.specs.Steps.{Always, Does, Looks};
-ghost use Rattle.table_ledger.specs.FirstForm.{AddsCounted, count_each, names_by, names_of};
-ghost use Rattle.table_ledger.specs.FirstForm.{names_read, uncounted, with_details};
+ghost use Rattle.table_ledger.specs.OldForms.{AddsCounted, count_each, names_by, names_of};
+ghost use Rattle.table_ledger.specs.OldForms.{names_read, uncounted, with_details};
 
 use crate::count_test::add_first;
 use book_core::LAST_PERIOD;

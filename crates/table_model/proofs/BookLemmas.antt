@@ -15,6 +15,7 @@ use Rattle.table_model.proofs.LineSides.{added_back, taken_back}
 use Rattle.table_model.proofs.RecordReading.{held_back, posted_back}
 use Rattle.table_model.proofs.UnderNumbers.{values-numbers}
 use Rattle.table_model.proofs.RulingsReading.{adopted_back, tariffs_back}
+use Rattle.table_model.proofs.ReplacedChanges.{replaced_back}
 use Rattle.table_model.proofs.SetReading.{before_back}
 
 module _ (closes : List ℤ) (charged : ℕ → Records) where
@@ -111,6 +112,8 @@ module _ (naming : Naming) (book : Book) (whole : IsReadable naming book) where
         closes = closes i;
         choices = choices i;
         adopted = adopted_back book.rulings book.held i;
+        replaced = replaced_back book.rulings.replaced whole.replaced i;
+        credits = values-numbers book.rulings.credits i;
       })
       (held_back naming book whole.sound whole.lines.framed)
       posted

@@ -8,22 +8,21 @@ use Rattle.book_model.proofs.Std.{from_entries, list_any, IsStrictlySortedBy, op
 use Rattle.book_model.proofs.Std.{nat_list_cmp_total, nat_list_eq_equiv, length-map, map-append}
 use Rattle.book_model.proofs.Std.{IsStrictlySortedBy-filter, sorted_head, same_Some}
 use Rattle.book_model.specs.Words.{Priced, Book, open_number, charged_of, share_identity}
-use Rattle.book_model.specs.Words.{is_unrivalled, RecordChosen, is_undisputed, charged_now, give}
+use Rattle.book_model.specs.Words.{RecordChosen, is_undisputed, charged_now, give}
 use Rattle.book_model.specs.Words.{Records, Naming, name_of, by_bytes, record_named, Choice}
 use Rattle.book_model.specs.Words.{price_in, identity_by, last_close, with_choice, open_by, has}
-use Rattle.book_model.specs.Words.{those, IsSound, AreAmong}
+use Rattle.book_model.specs.Words.{those, IsSound, AreAmong, WorkWithheld, with_withheld}
 use Rattle.book_model.proofs.Lemmas.{share_back, is, has_those, in_those, first_of, second_of}
 use Rattle.book_model.proofs.Lemmas.{is_first, is_back, members_rise, named_held}
-use Rattle.book_model.proofs.ChosenLemmas.{charged-choice, others-all, others-except}
+use Rattle.book_model.proofs.ChosenLemmas.{charged-choice, charged-withheld, others-all, others-except}
 use Rattle.book_model.proofs.RecordSets.{is_second}
-use Rattle.book_model.proofs.TestLemmas.{choice_passes}
 use Rattle.book_core.specs.declared.effects.Member.{Member}
 use Rattle.book_core.specs.Words.{withdraw, charge_held, choice_effects}
-use Rattle.table_model.specs.Laws.{ChoiceFollows}
+use Rattle.table_model.specs.Laws.{ChoiceFollows, WithholdFollows}
 use Rattle.table_model.specs.Words.{put_choice_row, apply, charge_in, put_choice, ChoiceRow, Tables}
 use Rattle.table_model.specs.Words.{choice_entries, choice_row, status_by, tables_of, tables_at}
 use Rattle.table_model.specs.Words.{under_numbers, only_of, member_by, member_of, sharing}
-use Rattle.table_model.specs.Words.{current_of}
+use Rattle.table_model.specs.Words.{current_of, put_none_row, put_withheld}
 use Rattle.table_model.proofs.RowsWhere.{among-filter}
 use Rattle.table_model.proofs.StatusSteps.{charge-step, withdraw-step}
 use Rattle.table_model.proofs.TableParts.{what_is}
@@ -48,8 +47,7 @@ choice_free naming n number choices behind =
     number_free n number (map (choice_row naming) choices) (omega arith)
 
 module _ (naming : Naming) (book : Book) (sound : IsSound naming book) (bytes : List ℕ)
-    (there : has book.held bytes ≡ true)
-    (rivalled : is_unrivalled book.rulings book.held bytes ≡ false) where
+    (there : has book.held bytes ≡ true) where
   -- the last close's day
   abbrev last : Option ℤ
   last = last_close book.rulings
@@ -113,7 +111,7 @@ module _ (naming : Naming) (book : Book) (sound : IsSound naming book) (bytes : 
       (option_map (withdraw last) (option_and_then (member_of naming book) (only_of current)))
       (tables before)
   withdrawn-as [] listed =
-      ap tables (others-all book.rulings book.held bytes there rivalled (λ q in_it.
+      ap tables (others-all book.rulings book.held bytes (λ q in_it.
       elim (share_identity book.rulings q bytes)
       as (λ s. share_identity book.rulings q bytes ≡ s → s ≡ false) [
         | true ↦ λ shares. absurd (true≢false
@@ -126,7 +124,7 @@ module _ (naming : Naming) (book : Book) (sound : IsSound naming book) (bytes : 
       let its = listed_charged (one ∷ []) listed one (is_first one []) in
       let held_too = before_held one its.0 in
       let cost = what_is (price_in book.rulings one) (sound.priced one held_too) in
-      ap tables (others-except book.rulings book.held bytes there rivalled one its.0 its.1)
+      ap tables (others-except book.rulings book.held bytes one its.0 its.1)
       ∙ withdraw-step naming book sound before before_held one held_too cost.0 cost.1 its.0
       (has before one)
       ∙ ap (λ member. option_map_or (λ gone. apply (open_number book) gone (tables before))
@@ -141,7 +139,7 @@ module _ (naming : Naming) (book : Book) (sound : IsSound naming book) (bytes : 
       (members_rise nat_list_cmp_total (those (share_identity book.rulings bytes) book.held))) in
       let less = sorted_head by_bytes a (b ∷ rest) rising in
       let differ : is b a ≡ false = is_back b a ∙ ap is_eq less.0 in
-      let same = others-except book.rulings book.held bytes there rivalled a its_a.0 its_a.1 in
+      let same = others-except book.rulings book.held bytes a its_a.0 its_a.1 in
       absurd (true≢false (sym (has_those (λ q. not (is q a)) before b
       ∙ (λ i. not (differ i) && its_b.0 i))
       ∙ ap (λ records. has records b) (sym same)
@@ -157,7 +155,8 @@ module _ (naming : Naming) (book : Book) (sound : IsSound naming book) (bytes : 
   choice-tables cost costs =
       let choices : List Choice = book.rulings.choices in
       let number : ℕ = length choices + 1 in
-      let choice : Choice = record { chosen = bytes; period = open_by book.rulings } in
+      let choice : Choice =
+      record { chosen = bytes; counts = true; period = open_by book.rulings } in
       let row : ChoiceRow = choice_row naming choice in
       let earlier : List ChoiceRow = map (choice_row naming) choices in
       let many : length earlier ≡ length choices = length-map choices (choice_row naming) in
@@ -171,26 +170,60 @@ module _ (naming : Naming) (book : Book) (sound : IsSound naming book) (bytes : 
       λ i. record (with_row (tables now)) { choices = rows i } in
       made
       ∙ ap (λ charged. with_row (tables charged))
-      (charged-choice book.rulings book.held bytes there rivalled)
+      (charged-choice book.rulings book.held bytes there)
       ∙ ap with_row (charge-step naming book sound others others_held bytes there cost costs out
       (has before bytes)
       ∙ ap (charge_in (open_number book) (name_of naming bytes)
       (charge_held last (member_at_price naming book bytes cost)))
       (withdrawn-as charged_list refl))
 
+  -- the tables with the choice of none
+  pub withheld-tables : tables_of naming (give (WorkWithheld bytes) book)
+      ≡ put_withheld (length book.rulings.choices + 1) (open_number book) (name_of naming bytes)
+      (option_map (withdraw last) (current_of naming book bytes)) (tables before)
+  withheld-tables =
+      let choices : List Choice = book.rulings.choices in
+      let number : ℕ = length choices + 1 in
+      let choice : Choice =
+      record { chosen = bytes; counts = false; period = open_by book.rulings } in
+      let row : ChoiceRow = choice_row naming choice in
+      let earlier : List ChoiceRow = map (choice_row naming) choices in
+      let many : length earlier ≡ length choices = length-map choices (choice_row naming) in
+      let now : Records = charged_now (with_withheld bytes book.rulings) book.held in
+      let with_row : Tables → Tables =
+      put_none_row number (name_of naming bytes) (open_number book) in
+      let rows = ap (λ rows. from_entries {R = nat_cmp} (under_numbers 1 rows))
+      (map-append (choice_row naming) choices (choice ∷ []))
+      ∙ next_number earlier row number (omega arith) in
+      let made : tables_of naming (give (WorkWithheld bytes) book) ≡ with_row (tables now) =
+      λ i. record (with_row (tables now)) { choices = rows i } in
+      made
+      ∙ ap (λ charged. with_row (tables charged))
+      (charged-withheld book.rulings book.held bytes)
+      ∙ ap with_row (withdrawn-as charged_list refl)
+
 -- the law
 pub choice_follows : ChoiceFollows
 choice_follows naming book name bytes chosen sound found done is_member =
     let there = named_held naming book.held name bytes found in
-    let tests = choice_passes book bytes done in
     let cost = what_is (price_in book.rulings bytes) (sound.priced bytes there) in
     let same = same_Some (member_at_price naming book bytes cost.0) chosen
     (sym (ap (member_by naming book bytes) cost.1) ∙ is_member) in
     let named = its_name naming book.held name bytes found in
-    choice-tables naming book sound bytes there tests.rivalled cost.0 cost.1
+    choice-tables naming book sound bytes there cost.0 cost.1
     ∙ (λ i. put_choice (length book.rulings.choices + 1) (open_number book) (named i)
     (choice_effects (last_close book.rulings) (current_of naming book bytes) (same i))
     (tables_of naming book))
+
+-- the law of choices of none
+pub withhold_follows : WithholdFollows
+withhold_follows naming book name bytes sound found =
+    let there = named_held naming book.held name bytes found in
+    let named = its_name naming book.held name bytes found in
+    withheld-tables naming book sound bytes there
+    ∙ ap (λ name. put_withheld (length book.rulings.choices + 1) (open_number book) name
+    (option_map (withdraw (last_close book.rulings)) (current_of naming book bytes))
+    (tables_of naming book)) named
 
 -- the record of a name that is held is a member
 pub chosen_member : (naming : Naming) (book : Book) (name bytes : List ℕ) → IsSound naming book

@@ -37,14 +37,19 @@ module _ (naming : Naming) (book : Book) (sound : IsSound naming book)
   -- a choice of a record that is held is read back
   one_read : (choice : Choice) → IsChoiceOf book.held choice
       → choice_read records
-      (record { name = name_of naming choice.chosen; period = choice.period })
+      (record {
+        name = name_of naming choice.chosen;
+        counts = choice.counts;
+        period = choice.period;
+      })
       ≡ Some choice
   one_read choice there =
       ap (option_map (λ (found : RecordRow).
-      record { chosen = row_record found; period = choice.period }))
+      record { chosen = row_record found; counts = choice.counts; period = choice.period }))
       (held_row naming book sound choice.chosen there).2
       ∙ (λ i. Some (record {
         chosen = sym (framed choice.chosen there).is i;
+        counts = choice.counts;
         period = choice.period;
       }))
 

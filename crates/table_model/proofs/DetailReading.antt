@@ -1,5 +1,5 @@
 -- The details of a period are read from the records that are counted: they are those of its days.
-use Rattle.std.proofs.Common.{◌≡◌, ℕ, zero, suc, ◌-◌, ◌≤◌, List, [], ◌∷◌, map, length, refl, sym}
+use Rattle.std.proofs.Common.{◌≡◌, ℕ, zero, suc, ◌≤◌, List, [], ◌∷◌, map, length, refl, sym}
 use Rattle.std.proofs.Common.{ap, ◌∙◌, subst, true, false, true≢false, Bool, ◌&&◌, arith, Option}
 use Rattle.std.proofs.Common.{Some, None, ℤ, filter, find, nat_le, not, slice_get, Contains}
 use Rattle.std.proofs.Common.{filter_map, IsPermutation, option_map, length-append}

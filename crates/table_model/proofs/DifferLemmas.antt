@@ -2,7 +2,7 @@
 -- changes one row of one table.
 use Rattle.std.proofs.Common.{◌≡◌, ◌≢◌, ℕ, zero, suc, List, [], ◌∷◌, refl, sym, ap, ◌∙◌, subst}
 use Rattle.std.proofs.Common.{true, false, Bool, cond, Option, Some, None, arith, ℤ, if◌then◌else◌}
-use Rattle.std.proofs.Common.{◌==◌, Ordering}
+use Rattle.std.proofs.Common.{◌==◌, Ordering, option_map}
 use Rattle.book_model.proofs.Std.{IsTotalOrder, nat_cmp_total, FinMap, IsAntisymmetric, get, insert}
 use Rattle.book_model.proofs.Std.{remove, get-insert, get-remove, nat_cmp-IsAntisymmetric}
 use Rattle.book_model.proofs.Std.{nat_list_cmp_total, exact_bytes}
@@ -16,15 +16,16 @@ use Rattle.book_core.specs.declared.effects.LineChange.TheVariants.{AddPlus, Dro
 use Rattle.book_core.specs.declared.effects.LineChange.TheVariants.{DropMinus}
 use Rattle.book_core.specs.declared.effects.Member.{Member}
 use Rattle.book_core.specs.declared.effects.View.{View}
-use Rattle.book_core.specs.Words.{charge_held, charges, choice_effects, unmarks}
+use Rattle.book_core.specs.Words.{charge_held, charges, choice_effects, unmarks, withdraw}
 use Rattle.book_core.specs.Effects.{charge, effects_by}
 use Rattle.table_model.specs.Differences.{TableKey, OfBook, OfChoice, OfRecord, OfDay, OfLine}
 use Rattle.table_model.specs.Differences.{SameRow, DifferInAtMost}
-use Rattle.table_model.specs.Laws.{AtMostFourDiffer, AtMostFiveDiffer}
+use Rattle.table_model.specs.Laws.{AtMostFourDiffer, AtMostFiveDiffer, AtMostThreeDiffer}
 use Rattle.table_model.specs.Words.{less_price, mark_at, take_at, put_choice_row, set_mark_row}
 use Rattle.table_model.specs.Words.{apply, charge_in, put_choice, BookRow, ChoiceRow, CountedTable}
 use Rattle.table_model.specs.Words.{RecordRow, Tables, tables_of, current_of, view_of}
-use Rattle.table_model.proofs.ChoiceChanges.{choice_follows, chosen_member}
+use Rattle.table_model.specs.Words.{put_withheld}
+use Rattle.table_model.proofs.ChoiceChanges.{choice_follows, chosen_member, withhold_follows}
 use Rattle.table_model.proofs.KeptLemmas.{kept_follows}
 use Rattle.table_model.proofs.KeptPrice.{kept_cost}
 use Rattle.table_model.proofs.NumberedLemmas.{by_period_total, by_period_exact}
@@ -203,7 +204,7 @@ module _ {before now : Tables} {most : ℕ} (few : Within before most now) (peri
       let held = few_held member.posted last member.name member.priced in
       set_choice (set_names (set_mark held true name)
       (charge_in period name (charge_held last member) now).counted) number
-      (Some (record { name = name; period = period }))
+      (Some (record { name = name; counts = true; period = period }))
 
 -- the tables with a choice
 five_differ : (number period : ℕ) (name : List ℕ) (last : Option ℤ) (current : Option Member)
@@ -215,7 +216,25 @@ five_differ number period name last (Some gone) member tables =
     few_chosen (few_withdrawn (none_differ tables) period gone.posted
     (is_after last gone.priced.day) gone.name gone.priced) period number last name member
 
+-- the tables with a choice of none
+three_differ : (number period : ℕ) (name : List ℕ) (last : Option ℤ) (current : Option Member)
+    (tables : Tables)
+    → Within tables 3 (put_withheld number period name (option_map (withdraw last) current) tables)
+three_differ number period name last None tables =
+    set_choice (no_more (no_more (none_differ tables))) number
+    (Some (record { name = name; counts = false; period = period }))
+three_differ number period name last (Some gone) tables =
+    set_choice (few_withdrawn (none_differ tables) period gone.posted
+    (is_after last gone.priced.day) gone.name gone.priced) number
+    (Some (record { name = name; counts = false; period = period }))
+
 -- the laws
+pub at_most_three_differ : AtMostThreeDiffer
+at_most_three_differ naming book name bytes sound found =
+    (subst (Within (tables_of naming book) 3)
+    (sym (withhold_follows naming book name bytes sound found))
+    (three_differ _ _ name _ (current_of naming book bytes) (tables_of naming book))).places
+
 pub at_most_four_differ : AtMostFourDiffer
 at_most_four_differ naming book bytes sound kept =
     let cost = kept_cost naming book bytes kept in

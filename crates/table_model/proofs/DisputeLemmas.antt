@@ -9,7 +9,7 @@ use Rattle.book_model.specs.Words.{is_in_dispute, is_settled, no_event, Naming, 
 use Rattle.book_model.specs.Words.{identity_by}
 use Rattle.book_model.proofs.Lemmas.{first_of}
 use Rattle.table_model.specs.Words.{status_of, tables_of, NamedRow, grouped, disputes_read}
-use Rattle.table_model.specs.Words.{disputed_among, has_none_charged, IsReadable}
+use Rattle.table_model.specs.Words.{disputed_among, is_unsettled, IsReadable}
 use Rattle.table_model.specs.ListLaws.{DisputesFollow}
 use Rattle.table_model.specs.DisputesRead.{uncharged_among}
 use Rattle.table_model.proofs.DisputedIdentities.{disputed, disputed_rises, is_shared}
@@ -112,9 +112,9 @@ disputes_follow = record {
   disputes = λ naming book whole.
       ap (λ found. no_event (Ok found)) (sym (disputes_are naming book whole));
   in_order = λ naming book rows whole same rising.
-      rows_in_order rows (disputed_among (tables_of naming book).records) same rising;
+      rows_in_order rows (disputed_among (tables_of naming book)) same rising;
   unsettled = λ naming book rows whole same rising.
-      rows_left (has_none_charged (tables_of naming book).records) rows
+      rows_left (is_unsettled (tables_of naming book)) rows
       (uncharged_among (tables_of naming book).records) same rising;
   push = grouped-push;
   next = λ naming book from found whole finds. next_found naming book whole from found finds;

@@ -7,6 +7,7 @@ use Rattle.book_model.proofs.Std.{length-filter, IsDistinct-from_sorted, exact_b
 use Rattle.book_model.specs.Words.{conflict, is_in_dispute, is_settled, is_unrivalled, charged_now}
 use Rattle.book_model.specs.Words.{by_name, identities, share_identity, Records, Naming, by_bytes}
 use Rattle.book_model.specs.Words.{same_bytes, Rulings, identity_by, Set, set_of, members, has}
+use Rattle.book_model.specs.Words.{is_withheld}
 use Rattle.book_model.proofs.Lemmas.{list_any-map, is, same_bytes-by_cmp, members_rise}
 use Rattle.book_model.proofs.Lemmas.{length-alike, list_any-count_by}
 use Rattle.book_model.proofs.SetLemmas.{has-texts, members-alike, members-set_of, set_of-same}
@@ -34,9 +35,11 @@ module _ (naming : Naming) (rulings : Rulings) (held : Records) where
   abbrev charged : Records
   charged = charged_now rulings held
 
-  -- nothing of a record's identity is charged
+  -- nothing of a record's identity is charged, and its work is not withheld
   abbrev pub unsettled : List ℕ → Bool
-  unsettled bytes = not (list_any (share_identity rulings bytes) (members charged))
+  unsettled bytes =
+      not (list_any (share_identity rulings bytes) (members charged))
+      && not (is_withheld rulings bytes)
 
   -- the records for which this holds
   abbrev pub works : List (List ℕ)

@@ -9,18 +9,19 @@ use Rattle.book_model.proofs.Std.{IsPermutation-trans, exact_bytes}
 use Rattle.book_model.specs.declared.dispute.Variant.{Variant}
 use Rattle.book_model.specs.Words.{variant_with, Book, charged_of, variant_of, Naming, name_of}
 use Rattle.book_model.specs.Words.{by_bytes, identity_by, set_of, members, has, IsSound, Records}
-use Rattle.book_model.specs.Words.{is_undisputed, same_bytes, share_identity, Priced}
+use Rattle.book_model.specs.Words.{is_undisputed, is_withheld, same_bytes, share_identity, Priced}
 use Rattle.book_model.proofs.DisputeLemmas.{disputed_is_uncharged}
 use Rattle.book_model.proofs.Lemmas.{filter-filter, apart_from_distinct, given_permuted, second_of}
 use Rattle.book_model.proofs.Lemmas.{in_those, members-those}
 use Rattle.book_model.proofs.RecordSets.{tests_swap}
 use Rattle.table_model.specs.Words.{AreFramed, RecordTable, status_of, tables_of, rows_with}
 use Rattle.table_model.specs.Words.{NamedRow, by_identity, variant_read, disputed_among}
-use Rattle.table_model.specs.Words.{has_none_charged}
+use Rattle.table_model.specs.Words.{is_unsettled}
 use Rattle.table_model.specs.DisputesRead.{disputed_rows}
 use Rattle.table_model.proofs.DisputedIdentities.{disputed, disputed_rises, flat_is, unsettled}
 use Rattle.table_model.proofs.DisputedIdentities.{works, works_distinct}
 use Rattle.table_model.proofs.DisputedRecords.{by_work, by_work_total, flat, in_flat, flat_rises}
+use Rattle.table_model.proofs.DueLemmas.{withheld_by}
 use Rattle.table_model.proofs.ListOrder.{first_two}
 use Rattle.table_model.proofs.RowsWhere.{AreMembers, any_row, first_entry, first_held, others_held}
 use Rattle.table_model.proofs.RowsWhere.{rows_where, those_among}
@@ -107,32 +108,37 @@ module _ (naming : Naming) (book : Book) (sound : IsSound naming book) where
       ∙ sym (list_any-filter share (has charged) (members book.held))
       ∙ ap (list_any share) charged_among
 
-  -- so a row is in dispute if nothing of its record's identity is charged
+  -- so a row is in dispute if nothing of its record's identity is charged, and it is not withheld
   pub disputed_row : (bytes : List ℕ) (priced : Priced)
-      → (has_none_charged (tables_of naming book).records (entry_at naming book sound bytes priced)
+      → (is_unsettled (tables_of naming book) (entry_at naming book sound bytes priced)
       && not (has charged bytes))
       ≡ unsettled naming book.rulings book.held bytes
   disputed_row bytes priced =
-      ap (λ settled. not settled && not (has charged bytes)) (settled_rows bytes)
+      (λ i. (not (settled_rows bytes i)
+      && not (withheld_by naming book sound (charged_of book) bytes i))
+      && not (has charged bytes))
       ∙ narrower (list_any (share_identity book.rulings bytes) (members charged))
-      (has charged bytes)
+      (not (is_withheld book.rulings bytes)) (has charged bytes)
       (λ was. some_passes (share_identity book.rulings bytes) charged bytes was
       (nat_list_eq_equiv.refl (identity_by book.rulings bytes)))
     where
-      narrower : (some own : Bool) → (own ≡ true → some ≡ true) → (not some && not own) ≡ not some
-      narrower true own within = refl
-      narrower false true within = absurd (true≢false (sym (within refl)))
-      narrower false false within = refl
+      narrower : (some counts own : Bool) → (own ≡ true → some ≡ true)
+          → ((not some && counts) && not own) ≡ (not some && counts)
+      narrower true counts own within = refl
+      narrower false counts true within = absurd (true≢false (sym (within refl)))
+      narrower false true false within = refl
+      narrower false false false within = refl
 
   -- the rows in dispute are those of these records
-  disputed_permuted : IsPermutation (disputed_among (tables_of naming book).records)
+  disputed_permuted : IsPermutation (disputed_among (tables_of naming book))
       (listed_entries (works naming book.rulings book.held))
   disputed_permuted =
       let records : RecordTable = (tables_of naming book).records in
       let uncharged : NamedRow → Bool = λ row. not row.1.charged in
-      let each : NamedRow → Bool = λ row. has_none_charged records row && uncharged row in
+      let unsettled_row : NamedRow → Bool = is_unsettled (tables_of naming book) in
+      let each : NamedRow → Bool = λ row. unsettled_row row && uncharged row in
       subst (λ xs. IsPermutation xs (listed_entries (works naming book.rulings book.held)))
-      (sym (filter-filter (has_none_charged records) uncharged (entries records)))
+      (sym (filter-filter unsettled_row uncharged (entries records)))
       (rows_where naming book sound (status_of book) sound.priced each
       (unsettled naming book.rulings book.held)
       (λ bytes priced price. disputed_row bytes priced))
@@ -145,7 +151,7 @@ module _ (naming : Naming) (book : Book) (sound : IsSound naming book) where
       let ids : List (List ℕ) = disputed naming book.rulings book.held in
       let order = by_work naming book.rulings book.held in
       let those_works : List (List ℕ) = works naming book.rulings book.held in
-      let all : List NamedRow = disputed_among (tables_of naming book).records in
+      let all : List NamedRow = disputed_among (tables_of naming book) in
       let in_order : List (List ℕ) = members (set_of order those_works) in
       let own : listed_entries (flat naming book.rulings book.held ids)
       ≡ listed_entries in_order =

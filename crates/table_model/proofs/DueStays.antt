@@ -8,7 +8,8 @@ use Rattle.book_model.proofs.Std.{length-map, filter-append, exact_bytes}
 use Rattle.book_model.specs.Words.{same_bytes}
 use Rattle.book_model.proofs.Lemmas.{filter-map, last_or-behind}
 use Rattle.table_model.specs.Laws.{DueStays}
-use Rattle.table_model.specs.Words.{updated, charge_due_step, walk, ChoiceTable, RecordRow}
+use Rattle.table_model.specs.Words.{updated, charge_due_step, walk, ChoiceRow, ChoiceTable}
+use Rattle.table_model.specs.Words.{RecordRow, is_withheld_in}
 use Rattle.table_model.specs.Words.{RecordTable, Tables, name_has_identity, is_due_at, is_due_in}
 use Rattle.table_model.specs.Words.{last_named, rows_with}
 use Rattle.table_model.proofs.MovedLemmas.{entries-updated, get-updated, updated-insert}
@@ -79,21 +80,30 @@ count_told records identity =
 abbrev has_row : List ℕ → Option RecordRow → Bool
 has_row identity found = option_map_or (λ row. same_bytes row.identity identity) found false
 
-last_told : (tables : Tables) (identity : List ℕ)
-    → last_named tables identity ≡ last_named (with_lasting tables (lasting tables)) identity
-last_told tables identity = λ i. last_or None (filter (λ name. has_told name i)
-    (map (λ choice. choice.name) (values tables.choices)))
+has_told : (tables : Tables) (identity name : List ℕ)
+    → name_has_identity tables.records identity name
+    ≡ name_has_identity (updated plain tables.records) identity name
+has_told tables identity name =
+    by_row (get tables.records name)
+    ∙ ap (has_row identity)
+    (sym (get-updated nat_list_cmp_total exact_bytes plain tables.records name))
   where
     by_row : (found : Option RecordRow)
         → has_row identity found ≡ has_row identity (option_map plain found)
     by_row None = refl
     by_row (Some row) = refl
 
-    has_told : (name : List ℕ) → name_has_identity tables.records identity name
-        ≡ name_has_identity (updated plain tables.records) identity name
-    has_told name = by_row (get tables.records name)
-        ∙ ap (has_row identity)
-        (sym (get-updated nat_list_cmp_total exact_bytes plain tables.records name))
+last_told : (tables : Tables) (identity : List ℕ)
+    → last_named tables identity ≡ last_named (with_lasting tables (lasting tables)) identity
+last_told tables identity = λ i. last_or None (filter (λ name. has_told tables identity name i)
+    (map (λ choice. choice.name) (values tables.choices)))
+
+-- so it is withheld or not,
+withheld_told : (tables : Tables) (identity : List ℕ)
+    → is_withheld_in tables identity ≡ is_withheld_in (with_lasting tables (lasting tables)) identity
+withheld_told tables identity = λ i. option_map_or (λ (row : ChoiceRow). not row.counts)
+    (last_or None (filter (λ (row : ChoiceRow). has_told tables identity row.name i)
+    (values tables.choices))) false
 
 -- and a record is due
 due_told : (tables : Tables) (name : List ℕ)
@@ -106,8 +116,9 @@ due_told tables name =
     by_row : (found : Option RecordRow) → is_due_at tables name found
         ≡ is_due_at (with_lasting tables (lasting tables)) name (option_map plain found)
     by_row None = refl
-    by_row (Some row) = λ i. (count_told tables.records row.identity i == 1)
-        || option_map_or (same_bytes name) (last_told tables row.identity i) false
+    by_row (Some row) = λ i. not (withheld_told tables row.identity i)
+        && ((count_told tables.records row.identity i == 1)
+        || option_map_or (same_bytes name) (last_told tables row.identity i) false)
 
 pub due_stays : DueStays
 due_stays period last is_due names tables name =
@@ -126,19 +137,26 @@ last_stays period last is_due name tables identity =
     (step_leaves period last is_due name tables)
     ∙ sym (last_told tables identity)
 
--- Of names in their order, with one more after them: the last one of an identity is that, if its
--- record has the identity, and otherwise the last one among the others.
-pub last_pushed : (records : RecordTable) (identity : List ℕ) (was : Option (List ℕ))
-    (names : List (List ℕ)) (name : List ℕ)
-    → last_or was (filter (name_has_identity records identity) (names ++ name ∷ []))
-    ≡ cond (name_has_identity records identity name) (Some name)
-    (last_or was (filter (name_has_identity records identity) names))
-last_pushed records identity was names name =
-    let own : List ℕ → Bool = name_has_identity records identity in
-    let before : List (List ℕ) = filter own names in
-    ap (last_or was) (filter-append own names (name ∷ []))
-    ∙ elim (own name) as (λ b. last_or was (before ++ cond b (name ∷ []) [])
-    ≡ cond b (Some name) (last_or was before)) [
-      | true ↦ last_or-behind was before name
+-- and so does whether it is withheld
+pub withheld_stays : (period : ℕ) (last : Option ℤ) (is_due : List ℕ → Bool) (name : List ℕ)
+    (tables : Tables) (identity : List ℕ)
+    → is_withheld_in (charge_due_step period last is_due name tables) identity
+    ≡ is_withheld_in tables identity
+withheld_stays period last is_due name tables identity =
+    withheld_told (charge_due_step period last is_due name tables) identity
+    ∙ ap (λ kept. is_withheld_in (with_lasting tables kept) identity)
+    (step_leaves period last is_due name tables)
+    ∙ sym (withheld_told tables identity)
+
+-- Of some elements with one more after them: the last that passes a test is that one, if it does,
+-- and otherwise the last of the others.
+pub last_pushed : {X : Type 0} (own : X → Bool) (was : Option X) (xs : List X) (x : X)
+    → last_or was (filter own (xs ++ x ∷ [])) ≡ cond (own x) (Some x) (last_or was (filter own xs))
+last_pushed {X} own was xs x =
+    let before : List X = filter own xs in
+    ap (last_or was) (filter-append own xs (x ∷ []))
+    ∙ elim (own x) as (λ b. last_or was (before ++ cond b (x ∷ []) [])
+    ≡ cond b (Some x) (last_or was before)) [
+      | true ↦ last_or-behind was before x
       | false ↦ ap (last_or was) (append-nil before)
     ]

@@ -1,6 +1,7 @@
 -- The tables after an event, and so those that are updated over a history, are those of the book.
 use Rattle.std.proofs.Common.{◌≡◌, ℕ, ◌+◌, List, [], ◌∷◌, ◌++◌, map, length, sym, ap, ◌∙◌, true}
 use Rattle.std.proofs.Common.{false, Bool, not, ◌||◌, Option, Some, None, subst, sum_by, filter_map}
+use Rattle.std.proofs.Common.{arith, option_map}
 use Rattle.std.proofs.Math.Bool.{or-true}
 use Rattle.book_model.proofs.Std.{from_entries, option_map_or}
 use Rattle.book_model.specs.declared.row.ChargeRow.{ChargeRow}
@@ -11,21 +12,23 @@ use Rattle.book_model.specs.Words.{PeriodClosed, RecordKept, RulingGiven, Record
 use Rattle.book_model.specs.Words.{SecondRuleAdopted, after, give, Terms, charged_of, chosen_answer}
 use Rattle.book_model.specs.Words.{book_after, Records, Naming, name_of, by_bytes, by_key, row_at}
 use Rattle.book_model.specs.Words.{no_rulings, Rulings, price_in, AcceptedTerms, identity_by}
-use Rattle.book_model.specs.Words.{last_close, members, has, those}
-use Rattle.book_model.proofs.MadeByCallsLemmas.{rulings_are}
+use Rattle.book_model.specs.Words.{last_close, members, has, those, CreditGiven, TariffReplaced}
+use Rattle.book_model.specs.Words.{Credit, WorkWithheld, are_rising, open_by}
+use Rattle.book_model.proofs.MadeByCallsLemmas.{latest_is_last, rulings_are}
 use Rattle.book_model.proofs.Lemmas.{sound_after, no_length, members-empty, is, has_with, none_in}
 use Rattle.book_model.proofs.Lemmas.{named_held, tariff_passes}
 use Rattle.book_model.proofs.SetChanges.{not_those}
-use Rattle.book_core.specs.Words.{choice_effects, effects_of}
+use Rattle.book_core.specs.Words.{choice_effects, effects_of, withdraw}
 use Rattle.table_model.specs.Words.{changed, kept_at, tariff_at, put_tariff_row, set_sums}
 use Rattle.table_model.specs.Words.{new_tables, under, amount_under, put_choice, put_new, walk}
 use Rattle.table_model.specs.Words.{reprice_step, RecordRow, Tables, member_at, member_by}
 use Rattle.table_model.specs.Words.{counted_by, periods_by, record_entry, record_row, row_key}
 use Rattle.table_model.specs.Words.{tables_of, tariff_entries}
-use Rattle.table_model.specs.Changed.{chosen_at}
+use Rattle.table_model.specs.Changed.{chosen_at, withheld_at}
+use Rattle.table_model.specs.TableChanges.{put_withheld}
 use Rattle.table_model.specs.Laws.{EventFollows, TablesFollow}
 use Rattle.table_model.proofs.AdoptChanges.{adoption_follows}
-use Rattle.table_model.proofs.ChoiceChanges.{choice_follows}
+use Rattle.table_model.proofs.ChoiceChanges.{choice_follows, withhold_follows}
 use Rattle.table_model.proofs.CloseLemmas.{close_follows}
 use Rattle.table_model.proofs.CurrentLemmas.{choice_reads}
 use Rattle.table_model.proofs.ClosedLines.{no_members}
@@ -34,9 +37,11 @@ use Rattle.table_model.proofs.KeptLemmas.{kept_follows}
 use Rattle.table_model.proofs.KeptPrice.{kept_cost}
 use Rattle.table_model.proofs.LineChanges.{added, taken}
 use Rattle.table_model.proofs.Restated.{row-found}
+use Rattle.table_model.proofs.ReplacedChanges.{replace_follows}
 use Rattle.table_model.proofs.SumRead.{sum_is_read}
 use Rattle.table_model.proofs.TableParts.{what_is}
 use Rattle.table_model.proofs.TariffChanges.{tariff_follows}
+use Rattle.table_model.proofs.UnderNumbers.{next_number}
 use Rattle.table_model.proofs.ViewLemmas.{view_follows}
 use Rattle.std.specs.FinMap as fin
 
@@ -111,7 +116,7 @@ begun naming terms =
 
 -- the law of events
 pub event_follows : EventFollows
-event_follows naming book (RecordKept bytes) sound usage answered =
+event_follows naming book (RecordKept bytes) sound usage answered rise =
     let cost = kept_cost naming book bytes answered in
     let name : List ℕ = name_of naming bytes in
     let tables : Tables = tables_of naming book in
@@ -120,19 +125,19 @@ event_follows naming book (RecordKept bytes) sound usage answered =
     (sym (view_follows naming book bytes sound))
     ∙ ap (λ price. option_map_or (λ priced. kept_at book.rulings name bytes priced tables) price
     tables) (sym cost.1)
-event_follows naming book (PeriodClosed day) sound usage answered =
+event_follows naming book (PeriodClosed day) sound usage answered rise =
     close_follows naming book (open_number book) day sound answered
-event_follows naming book (RulingGiven (TariffAccepted (Some text) terms)) sound usage answered =
+event_follows naming book (RulingGiven (TariffAccepted (Some text) terms)) sound usage answered rise =
     let framed = λ (q : List ℕ) (held : has book.held q ≡ true). (usage q held).framed in
     let later = (tariff_passes book text terms answered).later in
     tariff_follows naming book text terms sound framed answered
     ∙ ap (λ amount. tariff_at (open_number book) (Some text) terms amount (tables_of naming book))
     (sym (sum_is_read naming book text terms sound framed later))
-event_follows naming book (RulingGiven (TariffAccepted None terms)) sound usage answered =
+event_follows naming book (RulingGiven (TariffAccepted None terms)) sound usage answered rise =
     subst (λ (book : Book). tables_of naming (give (TariffAccepted None terms) book)
     ≡ changed naming book.rulings (RulingGiven (TariffAccepted None terms)) (tables_of naming book))
     (sym answered) (begun naming terms)
-event_follows naming book (RulingGiven (RecordChosen bytes)) sound usage answered =
+event_follows naming book (RulingGiven (RecordChosen bytes)) sound usage answered rise =
     let name : List ℕ = name_of naming bytes in
     let tables : Tables = tables_of naming book in
     let found = answered.1 in
@@ -147,7 +152,33 @@ event_follows naming book (RulingGiven (RecordChosen bytes)) sound usage answere
     ∙ ap (λ found. option_map_or (λ row. chosen_at book.rulings name row tables) found tables)
     (sym (row-found naming book sound (price_in book.rulings) (identity_by book.rulings)
     (charged_of book) bytes there cost.0 cost.1))
-event_follows naming book (RulingGiven SecondRuleAdopted) sound usage answered =
+event_follows naming book (RulingGiven (WorkWithheld bytes)) sound usage answered rise =
+    let name : List ℕ = name_of naming bytes in
+    let tables : Tables = tables_of naming book in
+    let found = answered.1 in
+    let there = named_held naming book.held name bytes found in
+    let cost = what_is (price_in book.rulings bytes) (sound.priced bytes there) in
+    withhold_follows naming book name bytes sound found
+    ∙ ap (λ current. put_withheld (length book.rulings.choices + 1) (open_number book) name
+    (option_map (withdraw (last_close book.rulings)) current) tables)
+    (sym (choice_reads naming book bytes sound there).current)
+    ∙ ap (λ found. option_map_or (λ row. withheld_at book.rulings name row tables) found tables)
+    (sym (row-found naming book sound (price_in book.rulings) (identity_by book.rulings)
+    (charged_of book) bytes there cost.0 cost.1))
+event_follows naming book (RulingGiven (TariffReplaced text terms)) sound usage answered rise =
+    replace_follows naming book text terms sound (λ q held. (usage q held).framed) rise answered
+event_follows naming book (RulingGiven (CreditGiven centre amount reason)) sound usage answered
+    rise =
+    let earlier : List Credit = book.rulings.credits in
+    let credit : Credit = record {
+      centre = centre;
+      amount = amount;
+      reason = reason;
+      period = open_by book.rulings;
+    } in
+    let rows = next_number earlier credit (length earlier + 1) (omega arith) in
+    λ i. record (tables_of naming book) { credits = rows i }
+event_follows naming book (RulingGiven SecondRuleAdopted) sound usage answered rise =
     adoption_follows naming book sound usage answered
 
 -- what was held before an event is held
@@ -170,4 +201,6 @@ tables_follow naming (event ∷ older) made usage =
     (λ i. changed naming (sym (rulings_are older) i) event
     (tables_follow naming older made.1 before i))
     ∙ sym (event_follows naming (book_after older) event (sound_after naming older made.1) before
-    made.0)
+    made.0
+    (ap (λ (ruled : Rulings). are_rising ruled.tariffs) (rulings_are older)
+    ∙ latest_is_last.rising naming older made.1))

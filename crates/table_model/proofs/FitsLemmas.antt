@@ -14,6 +14,12 @@ use Rattle.book_model.specs.Words.{same_key, charged_at, charged_of, AcceptedTer
 use Rattle.book_model.specs.Words.{AreHeld, Choice, IsChoiceOf, most_choices, IsRule, first_rule}
 use Rattle.book_model.specs.Words.{second_rule, Priced}
 use Rattle.book_model.proofs.Lemmas.{by_key_total, by_key_exact, same_key_ties}
+use Rattle.std.proofs.Common.{map}
+use Rattle.book_model.specs.Words.{Credit, Replaced, most_credits, most_replaced}
+use Rattle.table_model.specs.Fits.{CreditFits, ReplacedFits}
+use Rattle.table_model.specs.Readable.{IsCredited, IsReplaced}
+use Rattle.table_model.specs.Tables.{ReplacedRow}
+use Rattle.table_model.specs.TablesOf.{replaced_row, under_numbers}
 use Rattle.table_model.specs.Words.{ChoiceRow, RecordRow, never_adopted, tariff_entries}
 use Rattle.table_model.specs.Words.{choice_entries, close_entries, day_entries, line_entries}
 use Rattle.table_model.specs.Words.{record_row, tables_of, row_record, TablesFit, IsBegun, IsTimely}
@@ -85,6 +91,47 @@ module _ (naming : Naming) (book : Book) (whole : IsReadable naming book) where
         choices_fit (suc n) choices (omega arith) (omega arith)
             (All-tail (IsTimely book) choice choices timely)
             (All-tail (IsChoiceOf book.held) choice choices held),
+      )
+
+  -- and so have credits
+  credits_fit : (n : ℕ) (credits : List Credit) → 0 < n → n + length credits ≤ most_credits + 1
+      → All (IsCredited book) credits
+      → AllByRecursion (λ (row : ℕ × Credit). CreditFits row.0 row.1) (under_numbers n credits)
+  credits_fit n [] some few all = tt
+  credits_fit n (credit ∷ credits) some few all =
+      let was = All-head (IsCredited book) credit credits all in
+      let numbered = was.begun.numbered in
+      let begun = was.begun.begun in
+      let closed = whole.limits.closes in (
+        record {
+          numbered = some;
+          few = omega arith;
+          period = record { numbered = numbered; early = omega arith };
+          said = was.said;
+        },
+        credits_fit (suc n) credits (omega arith) (omega arith)
+            (All-tail (IsCredited book) credit credits all),
+      )
+
+  -- and so have replaced tariffs
+  replaced_fit : (n : ℕ) (replaced : List Replaced) → 0 < n
+      → n + length replaced ≤ most_replaced + 1 → All (IsReplaced book) replaced
+      → AllByRecursion (λ (row : ℕ × ReplacedRow). ReplacedFits row.0 row.1)
+      (under_numbers n (map replaced_row replaced))
+  replaced_fit n [] some few all = tt
+  replaced_fit n (one ∷ replaced) some few all =
+      let was = All-head (IsReplaced book) one replaced all in
+      let numbered = was.begun.numbered in
+      let begun = was.begun.begun in
+      let closed = whole.limits.closes in (
+        record {
+          numbered = some;
+          few = omega arith;
+          day = was.texted.day;
+          period = record { numbered = numbered; early = omega arith };
+        },
+        replaced_fit (suc n) replaced (omega arith) (omega arith)
+            (All-tail (IsReplaced book) one replaced all),
       )
 
   -- a period of the book has a number
@@ -198,6 +245,16 @@ module _ (naming : Naming) (book : Book) (whole : IsReadable naming book) where
         choices = get_one nat_cmp_total nat_cmp-IsAntisymmetric
             (ChoiceFits (tables_of naming book).records) (choice_entries naming 1 choices)
             (choices_fit 1 choices (omega arith) (omega arith) whole.timely whole.sound.chosen);
+        credits =
+            let given = whole.limits.credits in
+            get_one nat_cmp_total nat_cmp-IsAntisymmetric CreditFits
+            (under_numbers 1 book.rulings.credits)
+            (credits_fit 1 book.rulings.credits (omega arith) (omega arith) whole.credited);
+        replaced =
+            let given = whole.limits.replaced in
+            get_one nat_cmp_total nat_cmp-IsAntisymmetric ReplacedFits
+            (under_numbers 1 (map replaced_row book.rulings.replaced))
+            (replaced_fit 1 book.rulings.replaced (omega arith) (omega arith) whole.replaced);
         records = every_row naming book whole.sound (λ row. RecordFits row.1)
             (λ bytes priced there price.
             record_fits (record_row book.rulings (charged_of book) book.posted bytes priced)

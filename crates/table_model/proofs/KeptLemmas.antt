@@ -7,8 +7,8 @@ use Rattle.book_model.proofs.Std.{exact_bytes}
 use Rattle.book_model.specs.Words.{Priced, Book, share_identity, is_chosen, keep, Naming, name_of}
 use Rattle.book_model.specs.Words.{by_bytes, same_bytes, price_in, last_close, has, those, IsSound}
 use Rattle.book_model.proofs.ChargedChanges.{charged-new, charged-alone, charged-only}
-use Rattle.book_model.proofs.ChargedChanges.{charged-stays, charged-chosen}
-use Rattle.book_model.proofs.ChosenLemmas.{new_unchosen}
+use Rattle.book_model.proofs.ChargedChanges.{charged-stays, charged-chosen, share_on}
+use Rattle.book_model.proofs.ChosenLemmas.{lone_unwithheld, new_unchosen, new_unwithheld}
 use Rattle.book_model.proofs.Lemmas.{is, has_those, first_of, second_of, is_first, IsUnnamed}
 use Rattle.book_model.proofs.Lemmas.{is_back, fails_too, members_rise, same_bytes-by_cmp}
 use Rattle.book_model.proofs.Lemmas.{steps_stay_sound, kept_passes}
@@ -62,6 +62,13 @@ module _ (naming : Naming) (book : Book) (sound : IsSound naming book) (bytes : 
   plain : is_chosen book.rulings bytes ≡ false
   plain = new_unchosen book.rulings book.held bytes sound.chosen new
 
+  -- where the list has none, no record that is held has the identity
+  none_shares : sharing book bytes ≡ [] → (q : List ℕ) → has book.held q ≡ true
+      → share_identity book.rulings bytes q ≡ false
+  none_shares listed q there =
+      held_too (share_identity book.rulings bytes q) (has book.held q) false there
+      (among [] listed q)
+
   -- by how many records have the identity
   pub kept-as : (shared : List (List ℕ)) → sharing book bytes ≡ shared
       → tables_now
@@ -71,9 +78,8 @@ module _ (naming : Naming) (book : Book) (sound : IsSound naming book) (bytes : 
       tables_before
   kept-as [] listed =
       kept-charged naming book sound bytes priced still new unnamed price
-      (charged-new book.rulings book.held bytes new (λ q there.
-      held_too (share_identity book.rulings bytes q) (has book.held q) false there
-      (among [] listed q)))
+      (charged-new book.rulings book.held bytes new (none_shares listed)
+      (new_unwithheld book.rulings book.held bytes sound.chosen (none_shares listed)))
   kept-as (one ∷ []) listed =
       let its = listed_held (one ∷ []) listed one (is_first one []) in
       let only = λ (q : List ℕ) (there : has book.held q ≡ true).
@@ -88,7 +94,9 @@ module _ (naming : Naming) (book : Book) (sound : IsSound naming book) (bytes : 
             (charged-chosen book.rulings book.held bytes new one its.1 its.0 only plain it)
         | false ↦ λ not_it. kept-withdrawn naming book sound bytes priced still new unnamed
             price one its.1 cost.0 cost.1
-            (charged-alone book.rulings book.held bytes new one its.1 its.0 only)
+            (charged-alone book.rulings book.held bytes new one its.1 its.0 only
+            (lone_unwithheld book.rulings book.held one sound.chosen (λ q in_it.
+            sym (share_on book.rulings bytes one q its.0) ∙ only q in_it ∙ is_back q one) not_it))
             (charged-only book.rulings book.held bytes new one its.1 its.0 only plain not_it)
             ∙ ap (λ member. put_new book.rulings (name_of naming bytes) bytes priced
             (effects_by last 1 member (name_of naming bytes) priced) tables_before)

@@ -50,6 +50,7 @@ pub mod DueLemmas
 pub mod CurrentLemmas
 pub mod WalkLemmas
 pub mod TariffChanges
+pub mod ReplacedChanges
 pub mod PartlyPriced
 pub mod SumRead
 pub mod LateRows

@@ -4,7 +4,8 @@ use Rattle.std.proofs.Common.{Option, Some, None, slice_get, option_map}
 use Rattle.std.proofs.lemmas.Option.{slice_get-map}
 use Rattle.book_model.proofs.Std.{nat_cmp_total, get, get-from_entries}
 use Rattle.book_model.specs.Words.{Book, Choice, Naming, RulingSeen, adoption_seen, choice_seen}
-use Rattle.book_model.specs.Words.{choices_seen, closes_seen, rulings_listed, tariffs_seen}
+use Rattle.book_model.specs.Words.{all_replaced_seen, choices_seen, closes_seen, credits_seen}
+use Rattle.book_model.specs.Words.{rulings_listed, tariffs_seen}
 use Rattle.table_model.specs.Words.{ChoiceRow, choice_entries, choice_row, tables_of, under_numbers}
 use Rattle.table_model.specs.Words.{choice_read_at}
 use Rattle.table_model.proofs.UnderNumbers.{entries-numbers, find-numbers}
@@ -47,7 +48,8 @@ pub rulings_listed-read : (naming : Naming) (book : Book)
     → rulings_listed naming book.rulings ≡ rulings_read book.rulings (tables_of naming book)
 rulings_listed-read naming book =
     ap (λ (choices : List RulingSeen). tariffs_seen book.rulings.tariffs
-    ++ closes_seen 1 book.rulings.closes ++ choices ++ adoption_seen book.rulings.adopted)
+    ++ closes_seen 1 book.rulings.closes ++ choices ++ adoption_seen book.rulings.adopted
+    ++ all_replaced_seen book.rulings.replaced ++ credits_seen 1 book.rulings.credits)
     (all_shown naming 1 book.rulings.choices
     ∙ ap (map choice_shown)
     (sym (entries-numbers (map (choice_row naming) book.rulings.choices))))

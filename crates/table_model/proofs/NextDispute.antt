@@ -19,7 +19,7 @@ use Rattle.book_model.proofs.Lemmas.{list_any-map, apart_from_distinct, given_pe
 use Rattle.book_model.proofs.Lemmas.{not_true, second_of, members_rise}
 use Rattle.book_core.proofs.NamedLemmas.{by_name_total, same_texts}
 use Rattle.table_model.specs.Words.{RecordTable, status_of, tables_of, rows_with, FindsDisputed}
-use Rattle.table_model.specs.Words.{NamedRow, by_identity, has_none_charged, variant_read}
+use Rattle.table_model.specs.Words.{NamedRow, by_identity, is_unsettled, variant_read}
 use Rattle.table_model.specs.Words.{IsReadable}
 use Rattle.table_model.proofs.LineReading.{held_row}
 use Rattle.table_model.specs.DisputesRead.{IsDisputedFrom, dispute_with}
@@ -170,7 +170,7 @@ module _ (naming : Naming) (book : Book) (whole : IsReadable naming book) where
   -- a row in dispute has one of them,
   abbrev InDispute : NamedRow → Type 0
   InDispute row =
-      row.1.charged ≡ false → has_none_charged records row ≡ true
+      row.1.charged ≡ false → is_unsettled (tables_of naming book) row ≡ true
       → list_any (same_bytes row.1.identity) ids ≡ true
 
   row_in : (row : NamedRow) → get records row.0 ≡ Some row.1 → InDispute row
@@ -185,7 +185,7 @@ module _ (naming : Naming) (book : Book) (whole : IsReadable naming book) where
     there : get records row.0 ≡ Some row.1
     own : row.1.identity ≡ id
     not_charged : row.1.charged ≡ false
-    none : has_none_charged records row ≡ true
+    none : is_unsettled (tables_of naming book) row ≡ true
 
   row_of : (id : List ℕ) → list_any (same_bytes id) ids ≡ true
       → (row : NamedRow) × IsRowOf id row
@@ -208,8 +208,8 @@ module _ (naming : Naming) (book : Book) (whole : IsReadable naming book) where
           there = held.2;
           own = sym same;
           not_charged = not_true row.1.charged
-              (second_of (has_none_charged records row) (not row.1.charged) both);
-          none = first_of (has_none_charged records row) (not row.1.charged) both;
+              (second_of (is_unsettled (tables_of naming book) row) (not row.1.charged) both);
+          none = first_of (is_unsettled (tables_of naming book) row) (not row.1.charged) both;
         },
       )
 
@@ -256,7 +256,7 @@ module _ (naming : Naming) (book : Book) (whole : IsReadable naming book) where
   module _ (from : List ℕ) where
     -- a row of an identity in dispute from there on
     from_there : (id : List ℕ) (row : NamedRow) → IsRowOf id row → is_from from id ≡ true
-        → IsDisputedFrom from records row
+        → IsDisputedFrom from (tables_of naming book) row
     from_there id row is passes = record {
       there = is.there;
       uncharged = is.not_charged;
@@ -265,7 +265,7 @@ module _ (naming : Naming) (book : Book) (whole : IsReadable naming book) where
     }
 
     -- what is found of the rows is the first of the identities
-    first_is : (found : Option (List ℕ)) → FindsDisputed from records found
+    first_is : (found : Option (List ℕ)) → FindsDisputed from (tables_of naming book) found
         → find (is_from from) ids ≡ found
     first_is None none =
         find_none (is_from from) ids (λ id among passes.
@@ -281,7 +281,7 @@ module _ (naming : Naming) (book : Book) (whole : IsReadable naming book) where
         ap (is_from id) (sym it.1.own) ∙ next.least it.0 (from_there other it.0 it.1 passes))
 
     -- and its dispute is the first
-    pub next_found : (found : Option (List ℕ)) → FindsDisputed from records found
+    pub next_found : (found : Option (List ℕ)) → FindsDisputed from (tables_of naming book) found
         → dispute_outcome naming from book ≡ no_event (Ok (option_map (dispute_with records) found))
     next_found found finds =
         ap (λ (one : Option Disputed). no_event (Ok one))

@@ -10,6 +10,7 @@ use Rattle.book_model.proofs.Lemmas.{members-empty, none_in, steps_stay_sound}
 use Rattle.table_model.specs.FromCalls.{AreSubmitted}
 use Rattle.table_model.specs.ReadingLaws.{CallsRead}
 use Rattle.table_model.specs.Words.{IsReadable, IsTexted, IsTimely}
+use Rattle.table_model.specs.Readable.{IsCredited, IsReplaced}
 use Rattle.table_model.proofs.LinesStay.{lines_stay}
 use Rattle.table_model.proofs.ReadableStays.{readable_stays}
 
@@ -43,11 +44,15 @@ new_readable naming = record {
     posted = refl;
     dated = λ k came bytes there. absurd (true≢false (sym there ∙ none_in bytes));
   };
+  replaced = All-nil (IsReplaced new_book);
+  credited = All-nil (IsCredited new_book);
   limits = record {
     held = subst (λ n. n ≤ most_held) (sym no_records) (omega arith);
     cost = subst (λ n. n ≤ most_cost) (sym no_cost) (omega arith);
     closes = omega arith;
     choices = omega arith;
+    credits = omega arith;
+    replaced = omega arith;
   };
 }
 

@@ -2,8 +2,9 @@
 use Rattle.std.proofs.Common.{◌≡◌, ◌∙◌, ◌++◌, ◌+◌, ◌∷◌, [], ℕ, zero, suc, List, length, refl, sym}
 use Rattle.std.proofs.Common.{ap, subst, true, false, Bool, ◌||◌, Option, Some, None, Ok, Err}
 use Rattle.std.proofs.Common.{arith, ◌≤◌, ◌<◌, nat_le, nat_lt, if◌then◌else◌, All, unwrap_or, ℤ}
-use Rattle.std.proofs.Common.{ltb-false, leb-false, length-append}
-use Rattle.book_model.proofs.Std.{nat_tests, All-push, All-weaker}
+use Rattle.std.proofs.Common.{ltb-false, leb-false, length-append, not, filter, map, true≢false}
+use Rattle.book_model.proofs.Std.{nat_tests, All-cons, All-filter, All-head, All-nil}
+use Rattle.book_model.proofs.Std.{All-push, All-tail, All-weaker}
 use Rattle.book_model.specs.declared.answer.Accepted.TheVariants.{Kept}
 use Rattle.book_model.specs.declared.answer.Ruled.TheVariants.{Done}
 use Rattle.book_model.specs.declared.fault.LedgerFault.TheVariants.{Full}
@@ -15,20 +16,29 @@ use Rattle.book_model.specs.Words.{accept_priced, after, give, choose_answer, ch
 use Rattle.book_model.specs.Words.{close_answer, keep, last_close, members, most_choices, most_cost}
 use Rattle.book_model.specs.Words.{most_held, name_of, open_by, open_number, period_by, price_in}
 use Rattle.book_model.specs.Words.{record_named, terms_answer, total_of, with, with_tariff}
+use Rattle.book_model.specs.Words.{CreditGiven, Ruling, TariffReplaced, WorkWithheld, with_named}
+use Rattle.book_model.specs.Words.{with_ruling, withheld_answer, withhold_answer, Credit}
+use Rattle.book_model.specs.Words.{IsCreditOf, credit_answer, most_credits}
+use Rattle.book_model.specs.Words.{Replaced, is_effective, most_replaced, or_new, replace_answer}
+use Rattle.book_model.specs.Words.{replaced_in, with_replaced}
 use Rattle.book_model.proofs.Lemmas.{calls_go_forward, later-before, rising-behind, slice_get-front}
 use Rattle.book_model.proofs.Lemmas.{one_or, steps_stay_sound, closed_open, kept_passes}
 use Rattle.book_model.proofs.Lemmas.{tariff_passes}
-use Rattle.book_model.proofs.TestLemmas.{choice_passes, close_passes}
+use Rattle.book_model.proofs.TestLemmas.{choice_passes, close_passes, credit_passes, replace_passes}
+use Rattle.book_model.proofs.TestLemmas.{withhold_passes}
+use Rattle.book_model.proofs.ReplacedLemmas.{replaced_rising}
 use Rattle.table_model.specs.Words.{close_after, ArePriced, IsSubmittedTo, IsBegun, IsReadable}
 use Rattle.table_model.specs.Words.{IsTexted, IsTimely, chained, BookRow}
 use Rattle.table_model.specs.FromCalls.{IsReadFrom, IsSubmitted}
-use Rattle.table_model.specs.Readable.{IsChain}
+use Rattle.table_model.specs.PeriodLists.{HasLines}
+use Rattle.table_model.specs.Readable.{IsChain, IsCredited, IsReplaced}
 use Rattle.table_model.proofs.CloseDays.{posted_by}
 use Rattle.table_model.proofs.CloseOrder.{rise_behind}
 use Rattle.table_model.proofs.CountedReading.{last_after}
 use Rattle.table_model.proofs.KeptPrice.{kept_cost}
 use Rattle.table_model.proofs.LinesStay.{lines_stay}
 use Rattle.table_model.proofs.RecordChanges.{book_row-with}
+use Rattle.table_model.proofs.ReplacedChanges.{replaced_alone}
 
 -- What the closes charged, with one close more, which posts this.
 module _ (closes : List ℤ) (day : ℤ) (charged : ℕ → Records) (posted : Records) where
@@ -114,15 +124,46 @@ leaves_both true dear kept = cc
 leaves_both false true kept = cc
 leaves_both false false kept = (refl, refl)
 
+-- of two tests neither holds
+no_fault : (a b : Bool) → (a || b) ≡ false → (a ≡ false) × (b ≡ false)
+no_fault true b neither = absurd (true≢false neither)
+no_fault false b neither = (refl, neither)
+
+-- tariffs with texts, one of which is replaced by one with a text
+all_texted : (new : AcceptedTerms) → IsTexted new → (tariffs : List AcceptedTerms)
+    → All IsTexted tariffs → All IsTexted (map (or_new new) tariffs)
+all_texted new texted [] all = All-nil IsTexted
+all_texted new texted (tariff ∷ tariffs) all =
+    All-cons IsTexted (or_new new tariff) (map (or_new new) tariffs)
+    (elim (is_effective new.terms.effective tariff) as (λ b. IsTexted (if b then new else tariff)) [
+      | true ↦ texted
+      | false ↦ All-head IsTexted tariff tariffs all
+    ])
+    (all_texted new texted tariffs (All-tail IsTexted tariff tariffs all))
+
+-- the one of some tariffs that passes a test has a text
+one_of_filter : (p : AcceptedTerms → Bool) (tariffs : List AcceptedTerms) (one : AcceptedTerms)
+    → filter p tariffs ≡ one ∷ [] → All IsTexted tariffs → IsTexted one
+one_of_filter p tariffs one is all =
+    All-head IsTexted one [] (subst (All IsTexted) is (All-filter p IsTexted tariffs all))
+
 module _ (naming : Naming) (book : Book) (whole : IsReadable naming book) where
   -- the periods of choices, and that of the adoption, have begun in all later books
   still_begun : (later : Book) → open_number book ≤ open_number later
       → All (IsTimely later) book.rulings.choices
       × ((period : ℕ) → book.rulings.adopted ≡ Some period → IsBegun later period)
+      × All (IsCredited later) book.rulings.credits
+      × All (IsReplaced later) book.rulings.replaced
   still_begun later goes_on = (
     All-weaker (IsTimely book) (IsTimely later) (λ choice. begun choice.period)
         book.rulings.choices whole.timely,
     λ period is. begun period (whole.adopted period is),
+    All-weaker (IsCredited book) (IsCredited later)
+        (λ credit was. record { begun = begun credit.period was.begun; said = was.said })
+        book.rulings.credits whole.credited,
+    All-weaker (IsReplaced book) (IsReplaced later)
+        (λ replaced was. record { begun = begun replaced.period was.begun; texted = was.texted })
+        book.rulings.replaced whole.replaced,
   )
     where
       begun : (period : ℕ) → IsBegun book period → IsBegun later period
@@ -175,11 +216,15 @@ module _ (naming : Naming) (book : Book) (whole : IsReadable naming book) where
         timely = still.0;
         adopted = still.1;
         past = still_linked (keep bytes book) refl refl refl;
+        replaced = still.3;
+        credited = still.2;
         limits = record {
           held = subst (λ n. n ≤ most_held) (sym count) few;
           cost = subst (λ n. n ≤ most_cost) (sym amount) (ltb-false most_cost total room.1);
           closes = whole.limits.closes;
           choices = whole.limits.choices;
+          credits = whole.limits.credits;
+          replaced = whole.limits.replaced;
         };
       }
 
@@ -212,11 +257,15 @@ module _ (naming : Naming) (book : Book) (whole : IsReadable naming book) where
         timely = still.0;
         adopted = still.1;
         past = still_linked (give (TariffAccepted (Some text) terms) book) refl refl refl;
+        replaced = still.3;
+        credited = still.2;
         limits = record {
           held = whole.limits.held;
           cost = ltb-false most_cost (total_of ruled book.held) tests.fits;
           closes = whole.limits.closes;
           choices = whole.limits.choices;
+          credits = whole.limits.credits;
+          replaced = whole.limits.replaced;
         };
       }
 
@@ -243,44 +292,172 @@ module _ (naming : Naming) (book : Book) (whole : IsReadable naming book) where
         timely = still.0;
         adopted = still.1;
         past = close_chain naming book day whole.past sound;
+        replaced = still.3;
+        credited = still.2;
         limits = record {
           held = whole.limits.held;
           cost = whole.limits.cost;
           closes = grind (arith, nat_tests);
           choices = whole.limits.choices;
+          credits = whole.limits.credits;
+          replaced = whole.limits.replaced;
         };
       }
 
-  -- a record that is chosen
-  choose_stays : (name bytes : List ℕ) → choose_answer naming book name ≡ Ok Done
-      → record_named naming book.held name ≡ Some bytes
-      → IsReadable naming (give (RecordChosen bytes) book)
-  choose_stays name bytes done found =
-      let tests = choice_passes book bytes (ap (chosen_answer book) (sym found) ∙ done) in
-      let choice : Choice = record { chosen = bytes; period = open_by book.rulings } in
+  -- one choice more, of a record or of none
+  named_stays : (counts : Bool) (bytes : List ℕ) (ruling : Ruling)
+      → with_ruling ruling book.rulings ≡ with_named counts bytes book.rulings
+      → nat_le most_choices (length book.rulings.choices) ≡ false
+      → IsSound naming (give ruling book) → IsReadable naming (give ruling book)
+  named_stays counts bytes ruling is full sound =
+      let choice : Choice =
+      record { chosen = bytes; counts = counts; period = open_by book.rulings } in
       let more = length-append book.rulings.choices (choice ∷ []) in
       let room : length book.rulings.choices < most_choices =
-      leb-false most_choices (length book.rulings.choices) tests.room in
-      let still = still_begun (give (RecordChosen bytes) book) (omega arith) in
-      record {
-        sound = steps_stay_sound.choose naming book name bytes whole.sound found;
-        lines = lines_stay.ruling book (RecordChosen bytes) whole.lines;
+      leb-false most_choices (length book.rulings.choices) full in
+      let named : Book = record book { rulings = with_named counts bytes book.rulings } in
+      let same : give ruling book ≡ named = λ i. record book { rulings = is i } in
+      let still = still_begun named (omega arith) in
+      subst (IsReadable naming) (sym same) (record {
+        sound = subst (IsSound naming) same sound;
+        lines = subst HasLines same (lines_stay.ruling book ruling whole.lines);
         usage = whole.usage;
         priced = whole.priced;
         texts = whole.texts;
         rising = whole.rising;
         days = whole.days;
         in_order = whole.in_order;
-        timely = All-push (IsTimely (give (RecordChosen bytes) book)) book.rulings.choices choice
+        timely = All-push (IsTimely named) book.rulings.choices choice
             still.0
             (record { numbered = omega arith; begun = omega arith });
         adopted = still.1;
-        past = still_linked (give (RecordChosen bytes) book) refl refl refl;
+        past = still_linked named refl refl refl;
+        replaced = still.3;
+        credited = still.2;
         limits = record {
           held = whole.limits.held;
           cost = whole.limits.cost;
           closes = whole.limits.closes;
           choices = omega arith;
+          credits = whole.limits.credits;
+          replaced = whole.limits.replaced;
+        };
+      })
+
+  -- a record that is chosen
+  choose_stays : (name bytes : List ℕ) → choose_answer naming book name ≡ Ok Done
+      → record_named naming book.held name ≡ Some bytes
+      → IsReadable naming (give (RecordChosen bytes) book)
+  choose_stays name bytes done found =
+      named_stays true bytes (RecordChosen bytes) refl
+      (choice_passes book bytes (ap (chosen_answer book) (sym found) ∙ done)).room
+      (steps_stay_sound.choose naming book name bytes whole.sound found)
+
+  -- a work that is withheld
+  withhold_stays : (name bytes : List ℕ) → withhold_answer naming book name ≡ Ok Done
+      → record_named naming book.held name ≡ Some bytes
+      → IsReadable naming (give (WorkWithheld bytes) book)
+  withhold_stays name bytes done found =
+      named_stays false bytes (WorkWithheld bytes) refl
+      (withhold_passes book bytes (ap (withheld_answer book) (sym found) ∙ done)).room
+      (steps_stay_sound.withhold naming book name bytes whole.sound found)
+
+  -- a text that takes the place of a tariff
+  replace_stays : (text : List ℕ) (terms : Terms) → IsReadFrom text terms
+      → ArePriced (with_replaced text terms book.rulings) book.held
+      → replace_answer book text terms ≡ Ok Done
+      → IsReadable naming (give (TariffReplaced text terms) book)
+  replace_stays text terms said priced done =
+      let new : AcceptedTerms = record { text = Some text; terms = terms } in
+      let ruled : Rulings = with_replaced text terms book.rulings in
+      let later : Book = give (TariffReplaced text terms) book in
+      let dear : Bool = nat_lt most_cost (total_of ruled book.held) in
+      let room = no_fault dear (nat_le most_replaced (length book.rulings.replaced))
+      (replace_passes book text terms done).fits in
+      let few : length book.rulings.replaced < most_replaced =
+      leb-false most_replaced (length book.rulings.replaced) room.1 in
+      let one = replaced_alone new book.rulings.tariffs whole.rising
+      (replace_passes book text terms done).found in
+      let is : Replaced = record { tariff = one.0; period = open_number book } in
+      let all : ruled.replaced ≡ book.rulings.replaced ++ is ∷ [] =
+      ap (λ some. book.rulings.replaced ++ map (replaced_in (open_number book)) some) one.1 in
+      let more = length-append book.rulings.replaced (is ∷ []) in
+      let still = still_begun later (omega arith) in
+      record {
+        sound = steps_stay_sound.replace naming book text terms whole.sound;
+        lines = lines_stay.ruling book (TariffReplaced text terms) whole.lines;
+        usage = whole.usage;
+        priced = λ bytes one there price. priced bytes one there price;
+        texts = all_texted new (record {
+          text = text;
+          is = refl;
+          characters = said.characters;
+          said = said.said;
+          day = said.day;
+        }) book.rulings.tariffs whole.texts;
+        rising = replaced_rising new book.rulings.tariffs whole.rising;
+        days = whole.days;
+        in_order = whole.in_order;
+        timely = still.0;
+        adopted = still.1;
+        past = still_linked later refl refl refl;
+        replaced = subst (All (IsReplaced later)) (sym all)
+            (All-push (IsReplaced later) book.rulings.replaced is still.3 (record {
+              begun = record { numbered = omega arith; begun = omega arith };
+              texted = one_of_filter (is_effective terms.effective) book.rulings.tariffs one.0
+                  one.1 whole.texts;
+            }));
+        credited = still.2;
+        limits = record {
+          held = whole.limits.held;
+          cost = ltb-false most_cost (total_of ruled book.held) room.0;
+          closes = whole.limits.closes;
+          choices = whole.limits.choices;
+          credits = whole.limits.credits;
+          replaced = subst (λ (some : List Replaced). length some ≤ most_replaced) (sym all)
+              (omega arith);
+        };
+      }
+
+  -- a credit
+  credit_stays : (centre : List ℕ) (amount : ℤ) (reason : List ℕ) → IsCreditOf centre amount reason
+      → credit_answer book.rulings (open_number book) centre amount reason ≡ Ok Done
+      → IsReadable naming (give (CreditGiven centre amount reason) book)
+  credit_stays centre amount reason said done =
+      let later : Book = give (CreditGiven centre amount reason) book in
+      let credit : Credit = record {
+        centre = centre;
+        amount = amount;
+        reason = reason;
+        period = open_by book.rulings;
+      } in
+      let more = length-append book.rulings.credits (credit ∷ []) in
+      let room : length book.rulings.credits < most_credits =
+      leb-false most_credits (length book.rulings.credits)
+      (credit_passes book (open_number book) centre amount reason done).room in
+      let still = still_begun later (omega arith) in
+      record {
+        sound = steps_stay_sound.credit naming book centre amount reason whole.sound;
+        lines = lines_stay.ruling book (CreditGiven centre amount reason) whole.lines;
+        usage = whole.usage;
+        priced = whole.priced;
+        texts = whole.texts;
+        rising = whole.rising;
+        days = whole.days;
+        in_order = whole.in_order;
+        timely = still.0;
+        adopted = still.1;
+        past = still_linked later refl refl refl;
+        replaced = still.3;
+        credited = All-push (IsCredited later) book.rulings.credits credit still.2
+            (record { begun = record { numbered = omega arith; begun = omega arith }; said = said });
+        limits = record {
+          held = whole.limits.held;
+          cost = whole.limits.cost;
+          closes = whole.limits.closes;
+          choices = whole.limits.choices;
+          credits = omega arith;
+          replaced = whole.limits.replaced;
         };
       }
 
@@ -298,11 +475,15 @@ module _ (naming : Naming) (book : Book) (whole : IsReadable naming book) where
     timely = (still_begun (give SecondRuleAdopted book) (omega arith)).0;
     adopted = adopted_in book.rulings.adopted refl;
     past = still_linked (give SecondRuleAdopted book) refl refl refl;
+    replaced = (still_begun (give SecondRuleAdopted book) (omega arith)).3;
+    credited = (still_begun (give SecondRuleAdopted book) (omega arith)).2;
     limits = record {
       held = whole.limits.held;
       cost = whole.limits.cost;
       closes = whole.limits.closes;
       choices = whole.limits.choices;
+      credits = whole.limits.credits;
+      replaced = whole.limits.replaced;
     };
   }
     where
@@ -328,5 +509,11 @@ readable_stays naming book (RulingGiven (TariffAccepted None terms)) whole none 
     absurd none
 readable_stays naming book (RulingGiven (RecordChosen bytes)) whole handed answered =
     choose_stays naming book whole (name_of naming bytes) bytes answered.0 answered.1
+readable_stays naming book (RulingGiven (WorkWithheld bytes)) whole handed answered =
+    withhold_stays naming book whole (name_of naming bytes) bytes answered.0 answered.1
+readable_stays naming book (RulingGiven (TariffReplaced text terms)) whole handed answered =
+    replace_stays naming book whole text terms handed.0 handed.1 answered
+readable_stays naming book (RulingGiven (CreditGiven centre amount reason)) whole said answered =
+    credit_stays naming book whole centre amount reason said answered
 readable_stays naming book (RulingGiven SecondRuleAdopted) whole handed answered =
     adopt_stays naming book whole

@@ -4,8 +4,9 @@ use Rattle.std.specs.FinMap.{get, values}
 use Rattle.book_model.specs.declared.row.ChargeRow.{ChargeRow}
 use Rattle.book_model.specs.declared.row.RowKey.{RowKey}
 use Rattle.book_model.specs.Words.{IsDay, IsName, IsPriced, most_held, most_cost, last_period}
-use Rattle.book_model.specs.Words.{IsRule, IsUsageRecord, most_choices}
-use Rattle.table_model.specs.Tables.{ChoiceRow, RecordRow, RecordTable, Tables}
+use Rattle.book_model.specs.Words.{Credit, IsRule, IsUsageRecord, most_choices, most_credits}
+use Rattle.book_model.specs.Words.{IsCreditOf, most_replaced}
+use Rattle.table_model.specs.Tables.{ChoiceRow, RecordRow, RecordTable, ReplacedRow, Tables}
 use Rattle.table_model.specs.TablesOf.{row_key}
 use Rattle.table_model.specs.BookIn.{row_record}
 
@@ -33,6 +34,20 @@ pub record ChoiceFits (records : RecordTable) (number : ℕ) (row : ChoiceRow) :
   pub named : IsSome (get records row.name)
   pub period : IsPeriod row.period
 
+-- a tariff that was replaced under its number
+pub record ReplacedFits (number : ℕ) (row : ReplacedRow) : Type 0 where
+  pub numbered : 0 < number
+  pub few : number ≤ most_replaced
+  pub day : IsDay row.day
+  pub period : IsPeriod row.period
+
+-- a credit under its number
+pub record CreditFits (number : ℕ) (credit : Credit) : Type 0 where
+  pub numbered : 0 < number
+  pub few : number ≤ most_credits
+  pub period : IsPeriod credit.period
+  pub said : IsCreditOf credit.centre credit.amount credit.reason
+
 -- a charge row under its period and place
 pub record DayFits (place : ℕ × RowKey) (row : ChargeRow) : Type 0 where
   pub period : IsPeriod place.0
@@ -57,6 +72,10 @@ pub record TablesFit (tables : Tables) : Type 0 where
       → IsPeriod number × IsDay day
   pub choices : (number : ℕ) (row : ChoiceRow) → get tables.choices number ≡ Some row
       → ChoiceFits tables.records number row
+  pub credits : (number : ℕ) (credit : Credit) → get tables.credits number ≡ Some credit
+      → CreditFits number credit
+  pub replaced : (number : ℕ) (row : ReplacedRow) → get tables.replaced number ≡ Some row
+      → ReplacedFits number row
   pub records : (name : List ℕ) (row : RecordRow) → get tables.records name ≡ Some row
       → RecordFits row
   pub days : (place : ℕ × RowKey) (row : ChargeRow) → get tables.days place ≡ Some row

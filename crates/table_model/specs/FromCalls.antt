@@ -3,7 +3,8 @@ use Rattle.std.specs.Prelude.{◌≡◌, ℕ, true, List, [], ◌∷◌, Some, N
 use Rattle.book_model.specs.Words.{IsDay, IsPriced, terms_in, Terms, IsMadeByCalls, Book, Event}
 use Rattle.book_model.specs.Words.{RecordKept, PeriodClosed, RulingGiven, TariffAccepted}
 use Rattle.book_model.specs.Words.{book_after, Naming, IsUsageRecord, Records, Rulings, has}
-use Rattle.book_model.specs.Words.{price_in, with_tariff, Priced}
+use Rattle.book_model.specs.Words.{price_in, with_tariff, Priced, CreditGiven, TariffReplaced}
+use Rattle.book_model.specs.Words.{IsCreditOf, with_replaced}
 
 -- A record that a call submits: it measures work, and its price is within the limits.
 pub record IsSubmitted (rulings : Rulings) (bytes : List ℕ) : Type 0 where
@@ -31,6 +32,10 @@ IsSubmittedTo book (PeriodClosed day) = IsDay day
 IsSubmittedTo book (RulingGiven (TariffAccepted (Some text) terms)) =
     IsReadFrom text terms × ArePriced (with_tariff (Some text) terms book.rulings) book.held
 IsSubmittedTo book (RulingGiven (TariffAccepted None terms)) = ⊥
+IsSubmittedTo book (RulingGiven (TariffReplaced text terms)) =
+    IsReadFrom text terms × ArePriced (with_replaced text terms book.rulings) book.held
+IsSubmittedTo book (RulingGiven (CreditGiven centre amount reason)) =
+    IsCreditOf centre amount reason
 IsSubmittedTo book (RulingGiven ruling) = Unit {0}
 
 -- each event of a history was submitted to the book before it

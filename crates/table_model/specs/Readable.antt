@@ -5,7 +5,8 @@ use Rattle.book_model.specs.Std.{IsStrictlySortedBy, int_cmp}
 use Rattle.book_model.specs.Words.{IsDay, IsPriced, terms_in, total_of, Book, most_held, most_cost}
 use Rattle.book_model.specs.Words.{last_period, Period, period_by, Records, Naming, IsUsageRecord}
 use Rattle.book_model.specs.Words.{AcceptedTerms, price_in, are_rising, members, has, IsSound}
-use Rattle.book_model.specs.Words.{AreDatedThrough, Choice, most_choices, open_number, Priced}
+use Rattle.book_model.specs.Words.{AreDatedThrough, Choice, Credit, most_choices, most_credits}
+use Rattle.book_model.specs.Words.{open_number, IsCreditOf, Priced, Replaced, most_replaced}
 use Rattle.table_model.specs.PeriodLists.{HasLines}
 use Rattle.table_model.specs.BookIn.{close_after}
 
@@ -42,12 +43,24 @@ pub record IsBegun (book : Book) (period : ℕ) : Type 0 where
 abbrev pub IsTimely : Book → Choice → Type 0
 IsTimely book choice = IsBegun book choice.period
 
+-- a credit was given in a period that has begun, as a call submits one
+pub record IsCredited (book : Book) (credit : Credit) : Type 0 where
+  pub begun : IsBegun book credit.period
+  pub said : IsCreditOf credit.centre credit.amount credit.reason
+
+-- a tariff was replaced in a period that has begun, and came as a text
+pub record IsReplaced (book : Book) (replaced : Replaced) : Type 0 where
+  pub begun : IsBegun book replaced.period
+  pub texted : IsTexted replaced.tariff
+
 -- the books are within the office's limits
 pub record IsWithinLimits (book : Book) : Type 0 where
   pub held : length (members book.held) ≤ most_held
   pub cost : total_of book.rulings book.held ≤ most_cost
   pub closes : length book.rulings.closes < last_period
   pub choices : length book.rulings.choices ≤ most_choices
+  pub credits : length book.rulings.credits ≤ most_credits
+  pub replaced : length book.rulings.replaced ≤ most_replaced
 
 -- The book is sound and its lines can be read; the records measure work and their prices are within
 -- the limits; the tariffs are known by their texts and in order; the closes are days and in order;
@@ -66,4 +79,6 @@ pub record IsReadable (naming : Naming) (book : Book) : Type 0 where
   pub timely : All (IsTimely book) book.rulings.choices
   pub adopted : (period : ℕ) → book.rulings.adopted ≡ Some period → IsBegun book period
   pub past : IsChain book
+  pub replaced : All (IsReplaced book) book.rulings.replaced
+  pub credited : All (IsCredited book) book.rulings.credits
   pub limits : IsWithinLimits book

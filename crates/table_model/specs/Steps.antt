@@ -1,15 +1,15 @@
 -- The steps that every change of the tables is made of: each changes rows of one table, as one call
 -- of the kept tables does.
-use Rattle.std.specs.Prelude.{ℕ, ℤ, Bool, List, Option, fold}
+use Rattle.std.specs.Prelude.{ℕ, ℤ, Bool, true, false, List, Option, fold}
 use Rattle.std.specs.FinMap.{get, insert, remove}
 use Rattle.book_model.specs.declared.row.ChargeRow.{ChargeRow}
 use Rattle.book_model.specs.declared.row.RowKey.{RowKey}
-use Rattle.book_model.specs.Words.{Priced}
+use Rattle.book_model.specs.Words.{Credit, Priced}
 use Rattle.book_core.specs.declared.effects.DayChange.{DayChange}
 use Rattle.table_model.specs.MapChanges.{updated, moved}
 use Rattle.table_model.specs.RowChanges.{by_second_rule, change_day, count_where, mark_at, move_on}
 use Rattle.table_model.specs.RowChanges.{post_at, post_by, price_at}
-use Rattle.table_model.specs.Tables.{RecordRow, Tables}
+use Rattle.table_model.specs.Tables.{RecordRow, ReplacedRow, Tables}
 use Rattle.table_model.specs.TablesOf.{row_key}
 
 -- the book counts this many records, which cost this much together
@@ -32,11 +32,29 @@ put_close_row period through tables =
     record tables { closes = insert tables.closes period through }
 
 -- a record that was chosen, and the period that was open then, are stored under the choice's number
-abbrev pub put_choice_row : ℕ → List ℕ → ℕ → Tables → Tables
-put_choice_row number name period tables =
+abbrev pub put_named_row : ℕ → List ℕ → Bool → ℕ → Tables → Tables
+put_named_row number name counts period tables =
     record tables {
-      choices = insert tables.choices number (record { name = name; period = period });
+      choices = insert tables.choices number
+          (record { name = name; counts = counts; period = period });
     }
+
+abbrev pub put_choice_row : ℕ → List ℕ → ℕ → Tables → Tables
+put_choice_row number name period tables = put_named_row number name true period tables
+
+-- the same of a choice of none, by a record of the work
+abbrev pub put_none_row : ℕ → List ℕ → ℕ → Tables → Tables
+put_none_row number name period tables = put_named_row number name false period tables
+
+-- a tariff that is replaced is stored under its number
+abbrev pub put_replaced_row : ℕ → ReplacedRow → Tables → Tables
+put_replaced_row number row tables =
+    record tables { replaced = insert tables.replaced number row }
+
+-- a credit is stored under its number
+abbrev pub put_credit_row : ℕ → Credit → Tables → Tables
+put_credit_row number credit tables =
+    record tables { credits = insert tables.credits number credit }
 
 -- a record's row is stored under its name
 abbrev pub put_record_row : List ℕ → RecordRow → Tables → Tables

@@ -4,14 +4,14 @@ use Rattle.std.specs.Prelude.{ℕ, ℤ, ◌+◌, int_lt, Bool, true, false, not,
 use Rattle.std.specs.Prelude.{[], ◌∷◌, Option}
 use Rattle.book_model.specs.Std.{get, insert, keys, option_map_or}
 use Rattle.book_model.specs.Words.{data_of, record_with, price_by, Terms, Rulings, identity_by}
-use Rattle.book_model.specs.Words.{open_by, Priced}
+use Rattle.book_model.specs.Words.{open_by, Priced, AcceptedTerms, is_under}
 use Rattle.book_core.specs.declared.effects.ChoiceEffects.{ChoiceEffects}
 use Rattle.book_core.specs.declared.effects.Effects.{Effects}
 use Rattle.book_core.specs.Words.{charge_held}
 use Rattle.table_model.specs.RowChanges.{add_price, change_day, change_line, change_mark}
 use Rattle.table_model.specs.RowChanges.{take_price, uncounted_by}
-use Rattle.table_model.specs.Steps.{count_where_row, put_choice_row, put_record_row, set_mark_row}
-use Rattle.table_model.specs.Steps.{set_sums}
+use Rattle.table_model.specs.Steps.{count_where_row, put_choice_row, put_none_row, put_record_row}
+use Rattle.table_model.specs.Steps.{set_mark_row, set_sums}
 use Rattle.table_model.specs.Tables.{RecordRow, Tables}
 use Rattle.table_model.specs.Views.{is_due_in, member_at}
 
@@ -57,6 +57,12 @@ put_choice number period name effects tables =
     (charge_in period name effects.chosen
     (option_map_or (λ gone. apply period gone tables) effects.withdrawn tables))
 
+-- The tables with one more choice of none: what it withdraws, if anything, and the choice's row.
+abbrev pub put_withheld : ℕ → ℕ → List ℕ → Option Effects → Tables → Tables
+put_withheld number period name withdrawn tables =
+    put_none_row number name period
+    (option_map_or (λ gone. apply period gone tables) withdrawn tables)
+
 -- a walk over some rows, by their names: one step for each
 abbrev pub walk : (List ℕ → Tables → Tables) → List (List ℕ) → Tables → Tables
 walk step [] tables = tables
@@ -88,6 +94,27 @@ reprice_step period terms name tables =
 -- a tariff's walk over the records, by name
 abbrev pub reprice_each : ℕ → Terms → Tables → Tables
 reprice_each period terms tables = walk (reprice_step period terms) (keys tables.records) tables
+
+-- what a row's record will cost where these terms take the place of that one
+abbrev pub amount_replaced : List AcceptedTerms → Terms → RecordRow → ℕ
+amount_replaced tariffs terms row =
+    if is_under tariffs terms row.priced.day
+    then (price_by terms (record_with row.data_bytes)).amount
+    else row.priced.amount
+
+-- a step of the walk: a record whose day has that tariff gets its new price
+abbrev pub replace_step : ℕ → List AcceptedTerms → Terms → List ℕ → Tables → Tables
+replace_step period tariffs terms name tables =
+    option_map_or (λ row.
+    if is_under tariffs terms row.priced.day
+    then reprice period name row (price_by terms (record_with row.data_bytes)) tables
+    else tables)
+    (get tables.records name) tables
+
+-- the walk over the records, by name
+abbrev pub replace_each : ℕ → List AcceptedTerms → Terms → Tables → Tables
+replace_each period tariffs terms tables =
+    walk (replace_step period tariffs terms) (keys tables.records) tables
 
 -- a step of an adoption's walk: a record that is not charged becomes charged if it is due
 abbrev pub charge_due_step : ℕ → Option ℤ → (List ℕ → Bool) → List ℕ → Tables → Tables

@@ -81,7 +81,7 @@ module _ {A : Type 0} (test : A → Bool) where
   has_no_first xs i all before = sym (no_first xs (all_failed xs i all before))
 
   -- its place
-  place_at : (xs : List A) (i : ℕ) (d : A) → i < length xs → AreFailed xs i
+  pub place_at : (xs : List A) (i : ℕ) (d : A) → i < length xs → AreFailed xs i
       → test (get_or xs i d) ≡ true → position_or_len test xs ≡ i
   place_at [] i d within before here = absurd (omega arith)
   place_at (x ∷ xs) zero d within before here =
@@ -95,7 +95,7 @@ module _ {A : Type 0} (test : A → Bool) where
       by true before later = absurd (cc)
       by false before later = let at = later before in omega arith
 
-  no_place : (xs : List A) → list_any test xs ≡ false → position_or_len test xs ≡ length xs
+  pub no_place : (xs : List A) → list_any test xs ≡ false → position_or_len test xs ≡ length xs
   no_place [] none = refl
   no_place (x ∷ xs) none = by (test x) none (no_place xs)
     where

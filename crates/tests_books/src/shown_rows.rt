@@ -1,8 +1,8 @@
 //! The rows of the trees of books, a text line a row.
 
 use crate::tree_numbers::{
-    BOOK, CHARGES, CHOICE_NAMES, CHOICES, CLOSES, DETAILS, IDENTITIES, LINES, MARKS, RECORDS,
-    TARIFFS,
+    BOOK, CHARGES, CHOICE_NAMES, CHOICES, CLOSES, CREDITS, DETAILS, IDENTITIES, LINES, MARKS,
+    RECORDS, REPLACED, TARIFFS,
 };
 use crate::trees::{Trees, WholeRow};
 use sqlite_trees::store::Store;
@@ -20,6 +20,8 @@ enum Showing {
     Whole,
     /// A tariff's first day, and its text between braces.
     Tariffs,
+    /// The number of one that was replaced, its first day, the period, and its text between braces.
+    Replaced,
     /// A record's name, and its marks: whether it is charged, and whether it was at the last close.
     Marks,
     /// A record's name, and its identity.
@@ -27,7 +29,7 @@ enum Showing {
 }
 
 /// The tables, by the verbs that show them.
-const TABLES: [(&str, (u32, Showing)); 8] = [
+const TABLES: [(&str, (u32, Showing)); 10] = [
     ("book", (BOOK, Showing::Whole)),
     ("closed", (CLOSES, Showing::Whole)),
     ("rows", (CHARGES, Showing::Whole)),
@@ -36,6 +38,8 @@ const TABLES: [(&str, (u32, Showing)); 8] = [
     ("identities", (RECORDS, Showing::Identities)),
     ("choices", (CHOICES, Showing::Whole)),
     ("detail", (DETAILS, Showing::Whole)),
+    ("credits", (CREDITS, Showing::Whole)),
+    ("replaced", (REPLACED, Showing::Replaced)),
 ];
 
 /// The trees that find rows of a table, by their names in the file.
@@ -75,16 +79,20 @@ fn push_all_columns(out: &mut AnswerText, row: &Row) {
     }
 }
 
+/// Adds columns of a row, and its text in another one between braces.
+fn push_with_text(out: &mut AnswerText, row: &Row, columns: &[usize], text: usize) {
+    push_columns(out, row, columns);
+    out.text(" {");
+    push_value(out, row.get(text));
+    out.text("}");
+}
+
 /// Adds a row.
 fn push_row(out: &mut AnswerText, showing: Showing, row: &Row) {
     match showing {
         Showing::Whole => push_all_columns(out, row),
-        Showing::Tariffs => {
-            push_value(out, row.get(0));
-            out.text(" {");
-            push_value(out, row.get(1));
-            out.text("}");
-        }
+        Showing::Tariffs => push_with_text(out, row, &[0], 1),
+        Showing::Replaced => push_with_text(out, row, &[0, 1, 2], 3),
         Showing::Marks => push_columns(out, row, &[0, 9, 10]),
         Showing::Identities => push_columns(out, row, &[0, 1]),
     }
@@ -187,7 +195,7 @@ fn push_trees<S: Store + Drop>(
 
 /// Adds all rows of all trees but those of choices. False where one can't be read.
 pub(crate) fn push_all_rows<S: Store + Drop>(trees: &mut Trees<S>, out: &mut AnswerText) -> bool {
-    push_trees(trees, BOOK, MARKS, out) && push_trees(trees, DETAILS, DETAILS, out)
+    push_trees(trees, BOOK, MARKS, out) && push_trees(trees, DETAILS, REPLACED, out)
 }
 
 /// Adds all rows of the trees of choices. False where one can't be read.

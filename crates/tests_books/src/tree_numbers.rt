@@ -31,5 +31,11 @@ pub(crate) const CHOICES: u32 = 8;
 /// That which finds choices by the records that they name.
 pub(crate) const CHOICE_NAMES: u32 = 9;
 
-/// That of the details, the last.
+/// That of the details.
 pub(crate) const DETAILS: u32 = 10;
+
+/// That of the credits.
+pub(crate) const CREDITS: u32 = 11;
+
+/// That of the tariffs that were replaced, the last.
+pub(crate) const REPLACED: u32 = 12;

@@ -1,12 +1,16 @@
 //! What a line asks of books, as a request of the office.
 
 ghost use Rattle.std.specs.Prelude.{IfOk};
+ghost use Rattle.book_model.specs.Words.{IsCreditOf};
 ghost use Rattle.office.specs.Runs.{IsAskableWithoutReader};
 
 use crate::day::Day;
 use crate::names::{centre_in, name_in};
+use book_core::{is_credit_amount, is_reason};
 use office::{Asked, OwnedRuling, StatementForm, WhatIf};
 use smf_frames::Layout;
+use smf_text::Name;
+use std::alloc::Global;
 use tests_scripts::{Ask, LineFault, LineResult, Named};
 
 /// What the words of a line ask.
@@ -26,6 +30,42 @@ fn close_by(period: &str, day: &str) -> LineResult<Asked>
     let (period, day) = (period.parse::<u16>()?, Day::of(day)?);
     let through = day.number;
     Ok(Asked::Rule(OwnedRuling::Close { period, through }))
+}
+
+/// The centre of a credit, and its amount in ten-thousandths of the money unit.
+fn credit_words(centre: &str, amount: &str, reason: &str) -> LineResult<(Name, i64)>
+    ensures { IfOk result (λ said. IsCreditOf said.0 said.1 reason.now) }
+{
+    let named = centre_in(centre)?;
+    let units = amount.parse::<i64>()?;
+    if !is_credit_amount(units) {
+        return Err(LineFault::NotUnderstood);
+    }
+    if !is_reason(reason) {
+        return Err(LineFault::NotUnderstood);
+    }
+    Ok((named, units))
+}
+
+/// The request to credit a centre.
+fn credit_by(
+    alloc: Global,
+    period: &str,
+    centre: &str,
+    amount: &str,
+    reason: &str,
+) -> LineResult<Asked>
+    ensures { IfOk result IsAskableWithoutReader }
+{
+    let period = period.parse::<u16>()?;
+    let said = credit_words(centre, amount, reason)?;
+    let text = String::from_str(alloc, reason)?;
+    Ok(Asked::Rule(OwnedRuling::Credit {
+        period,
+        centre: said.0,
+        amount: said.1,
+        reason: text,
+    }))
 }
 
 /// What is asked of a period by another tariff: of all centres, or of the one that is named after a
@@ -57,6 +97,7 @@ fn asked_by_word(named: &Named, ask: Ask<'_>) -> LineResult<Asked>
     };
     match ask.verb {
         "choose" => Ok(Asked::Rule(OwnedRuling::Choose(name_in(named, word)?))),
+        "withhold" => Ok(Asked::Rule(OwnedRuling::Withhold(name_in(named, word)?))),
         "adopt" => Ok(Asked::Rule(OwnedRuling::Adopt(word.parse::<u8>()?))),
         "what-if" | "what-if-table" => {
             let report = what_if_of(ask.verb, word)?;
@@ -77,11 +118,18 @@ pub(crate) fn asked_by(named: &Named, layout: Layout, ask: Ask<'_>) -> LineResul
             let text = named.read_texts(names, ask.body)?;
             Ok(Asked::Rule(OwnedRuling::Tariff(text)))
         }
+        ("replace", names) => {
+            let text = named.read_texts(names, ask.body)?;
+            Ok(Asked::Rule(OwnedRuling::Replace(text)))
+        }
         ("import", parts) => {
             let bytes = named.read_dump(parts)?;
             Ok(Asked::ImportBytes { layout, bytes })
         }
         ("close", [period, day]) => close_by(period, day),
+        ("credit", [period, centre, amount, reason]) => {
+            credit_by(named.alloc(), period, centre, amount, reason)
+        }
         _ => asked_by_word(named, ask),
     }
 }

@@ -144,9 +144,10 @@ fn answer_by_calls<L: Ledger>(
             push_changes(&mut lines.shown_texts, ledger, out);
             Ok(())
         }
-        "tariff" | "close" | "choose" | "adopt" | "what-if" | "what-if-table" => {
+        "tariff" | "replace" | "close" | "choose" | "withhold" | "credit" | "adopt" => {
             push_request(named, reading.layout, ledger, ask, out)
         }
+        "what-if" | "what-if-table" => push_request(named, reading.layout, ledger, ask, out),
         _ => lines.push_book_text(named, ledger, ask, out),
     }
 }

@@ -7,12 +7,15 @@
 //! | `tariff TEXT..`, with a body before the texts | `DONE`, `ALREADY` or the fault's line |
 //! | `close PERIOD DAY` | the same |
 //! | `closes FROM..END DAY`: a period a day | how many were done, after the first other answer |
-//! | `choose RECORD`, or 64 hexadecimal digits | `DONE`, `ALREADY` or the fault's line |
+//! | `replace TEXT..`, with a body before the texts | the same: a tariff in the place of another |
+//! | `choose RECORD`, or 64 hexadecimal digits | the same |
+//! | `withhold RECORD`, or 64 hexadecimal digits | the same: of its work no record counts |
+//! | `credit PERIOD CENTRE AMOUNT REASON`, in ten-thousandths, a reason of one word | the same |
 //! | `adopt RULE`: the number of a rule of identity | the same |
 //! | `import PARTS..` | the receipt |
 //! | `accept PARTS..` | `KEPT`, `KNOWN`, `UNPRICED` or the fault's line, of each usage record |
 //! | `import-each-read PARTS..` | the receipts where each read fails in turn |
-//! | `list`, with a body of `tariff`, `import`, `close`, `choose`, `adopt` | the answer to each |
+//! | `list`, with a body of `import` and of rulings, as they stand above | the answer to each |
 //! | `list TIMES`, with such a body, all of it that many times in one list | the same |
 //! | `statement PERIOD`, `table PERIOD`, `adjustments PERIOD`, `disputes`, `periods` | the text |
 //! | `details PERIOD`, `details-table PERIOD` | the text, and its comma-separated values |

@@ -1,7 +1,9 @@
 //! Names of records and of centres, as words of a line give them.
 
+ghost use Rattle.std.specs.Prelude.{IfOk};
+ghost use Rattle.smf_text.specs.Names.{IsName};
+
 use book_core::{Naming, ShaNames};
-use book_reports::centre_named;
 use program_output::name_of_text;
 use smf_frames::{Layout, split};
 use smf_text::Name;
@@ -34,6 +36,8 @@ pub(crate) fn name_in(named: &Named, word: &str) -> LineResult<[u8; 32]> {
 }
 
 /// The centre that a word names.
-pub(crate) fn centre_in(word: &str) -> LineResult<Name> {
-    centre_named(word).ok_or(LineFault::NotUnderstood)
+pub(crate) fn centre_in(word: &str) -> LineResult<Name>
+    ensures { IfOk result IsName }
+{
+    Name::of(word).ok_or(LineFault::NotUnderstood)
 }

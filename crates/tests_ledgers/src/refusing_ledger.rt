@@ -5,8 +5,8 @@ ghost use Rattle.book_model.specs.Words.{periods_outcome};
 ghost use Rattle.book_core.specs.Calls.{IsCall};
 
 use book_core::{
-    Accepted, ChargeRow, Detail, Dispute, Ledger, LedgerFault, Line, ListedRuling, Name, Ruled,
-    Ruling, Tariff, Trail,
+    Accepted, ChargeRow, Credit, Detail, Dispute, Ledger, LedgerFault, Line, ListedRuling, Name,
+    Ruled, Ruling, Tariff, Trail,
 };
 use std::alloc::Global;
 use tests_scripts::is_due;
@@ -145,6 +145,13 @@ impl<L: Ledger> Ledger for RefusingLedger<'_, L> {
             return Err(refusal(&mut *self.inner));
         }
         self.inner.ruling(number)
+    }
+
+    fn credit_given(&mut self, number: u64) -> Result<Option<Credit>, LedgerFault> {
+        if is_due(&mut self.calls_left) {
+            return Err(refusal(&mut *self.inner));
+        }
+        self.inner.credit_given(number)
     }
 
     fn record_named(&mut self, alloc: Global, name: &[u8; 32]) -> Result<Vec<u8>, LedgerFault> {

@@ -29,6 +29,7 @@ use Rattle.tree_tables.specs.Holds.{choice_name_key, choice_name_index}
 use Rattle.tree_tables.specs.Stored.{SaysChoice, choice_entry}
 use Rattle.tree_tables.specs.declared.choice_rows.StoredChoice.{StoredChoice}
 use Rattle.tree_tables.proofs.ChoiceRows.{chosen_named}
+use Rattle.tree_tables.proofs.LineRows.{same_flag}
 use Rattle.tree_tables.proofs.RowsRead.{any_is, first_has, has_one, made_has, same_blob, same_count}
 use Rattle.tree_tables.proofs.RowsRead.{told_of_each}
 use Rattle.tree_tables.proofs.Layouts.{choice_layout, choice_name_layout}
@@ -103,7 +104,8 @@ choice_said choice stored says =
     let number = same_count stored.number choice.0 (sym says.number) in
     let name = same_blob stored.name choice.1.name (sym says.name) in
     let period = same_count stored.period choice.1.period (sym says.period) in
-    λ i. (number i, record { name = name i; period = period i })
+    let counts = same_flag stored.counts choice.1.counts (sym says.counts) in
+    λ i. (number i, record { name = name i; counts = counts i; period = period i })
 
 -- so the choices that are read of all rows are those of the table
 pub choices_said : (choices : List Entry) (list : List StoredChoice)

@@ -15,7 +15,8 @@ use Rattle.tree_rows.proofs.Keyed.{rows_put}
 use Rattle.tree_tables.specs.Columns.{book_columns, tariff_columns, closed_columns}
 use Rattle.tree_tables.specs.Columns.{record_columns, day_columns, line_columns}
 use Rattle.tree_tables.specs.Columns.{identity_columns, mark_columns, choice_columns}
-use Rattle.tree_tables.specs.Columns.{choice_name_columns, detail_columns}
+use Rattle.tree_tables.specs.Columns.{choice_name_columns, credit_columns, detail_columns}
+use Rattle.tree_tables.specs.Columns.{replaced_columns}
 use Rattle.tree_tables.specs.Holds.{AreUnderOwnKeys, Holds, choice_name_index, detail_index}
 use Rattle.tree_tables.specs.Holds.{identity_index, marks}
 use Rattle.tree_tables.specs.Steps.{Always, Changes}
@@ -30,7 +31,9 @@ table_rows tables =
     ∷ map mark_columns (entries (marks tables.records))
     ∷ map choice_columns (entries tables.choices)
     ∷ map choice_name_columns (entries (choice_name_index tables.choices))
-    ∷ map detail_columns (entries (detail_index tables.counted tables.records)) ∷ []
+    ∷ map detail_columns (entries (detail_index tables.counted tables.records))
+    ∷ map credit_columns (entries tables.credits)
+    ∷ map replaced_columns (entries tables.replaced) ∷ []
 
 -- each tree but one has the rows that it had
 abbrev pub SameBut : Trees → Trees → ℕ → Type 0

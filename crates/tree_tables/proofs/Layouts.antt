@@ -10,13 +10,13 @@ use Rattle.sqlite_value.proofs.OrderLemmas.{value_cmp-Blob, value_cmp-Int, value
 use Rattle.sqlite_value.proofs.OrderLemmas.{then-Equal}
 use Rattle.sqlite_value.specs.Order.{Row, row_cmp}
 use Rattle.sqlite_value.specs.declared.value.Value.TheVariants.{Blob, Int, Text}
-use Rattle.book_model.specs.Words.{by_bytes, by_key}
+use Rattle.book_model.specs.Words.{Credit, by_bytes, by_key}
 use Rattle.book_model.specs.declared.detail.Detail.{Detail}
 use Rattle.book_model.specs.declared.row.ChargeRow.{ChargeRow}
 use Rattle.book_model.specs.declared.row.RowKey.{RowKey}
 use Rattle.book_model.proofs.RowLemmas.{by_key_total, by_key_exact}
 use Rattle.table_model.specs.PeriodRows.{by_period}
-use Rattle.table_model.specs.Tables.{ChoiceRow, RecordRow}
+use Rattle.table_model.specs.Tables.{ChoiceRow, RecordRow, ReplacedRow}
 use Rattle.table_model.proofs.NumberedLemmas.{by_period_total, by_period_exact}
 use Rattle.tree_rows.specs.Indexes.{by_both, by_mark}
 use Rattle.tree_rows.specs.Layouts.{Layout}
@@ -101,7 +101,31 @@ line_layout = record {
 abbrev pub choice_layout : Layout ℕ ChoiceRow nat_cmp
 choice_layout = record {
   key = λ number. Int (pos number) ∷ [];
-  rest = λ choice. Blob choice.name ∷ Int (pos choice.period) ∷ [];
+  rest = λ choice.
+      Blob choice.name ∷ Int (pos choice.period) ∷ Int (pos (flag choice.counts)) ∷ [];
+  total = nat_cmp_total;
+  exact = nat_cmp-IsAntisymmetric;
+  alike = λ k l. refl;
+  ordered = λ k l. then-Equal _ ∙ value_cmp-Int (pos k) (pos l) ∙ numbers k l;
+}
+
+-- credits by their numbers
+abbrev pub credit_layout : Layout ℕ Credit nat_cmp
+credit_layout = record {
+  key = λ number. Int (pos number) ∷ [];
+  rest = λ credit.
+      Int (pos credit.period) ∷ Text credit.centre ∷ Int credit.amount ∷ Text credit.reason ∷ [];
+  total = nat_cmp_total;
+  exact = nat_cmp-IsAntisymmetric;
+  alike = λ k l. refl;
+  ordered = λ k l. then-Equal _ ∙ value_cmp-Int (pos k) (pos l) ∙ numbers k l;
+}
+
+-- tariffs that were replaced by their numbers
+abbrev pub replaced_layout : Layout ℕ ReplacedRow nat_cmp
+replaced_layout = record {
+  key = λ number. Int (pos number) ∷ [];
+  rest = λ row. Int row.day ∷ Int (pos row.period) ∷ tariff_value row.text ∷ [];
   total = nat_cmp_total;
   exact = nat_cmp-IsAntisymmetric;
   alike = λ k l. refl;

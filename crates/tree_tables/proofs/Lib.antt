@@ -17,6 +17,10 @@ pub mod NextDetail
 pub mod ChoiceRows
 pub mod ChosenNames
 pub mod ChosenLists
+pub mod LastNumbers
+pub mod CreditRows
+pub mod ReplacedRows
+pub mod OldChoices
 pub mod Records
 pub mod FoundNames
 pub mod RecordLists

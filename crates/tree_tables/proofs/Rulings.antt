@@ -16,7 +16,7 @@ SaysTariff row tariff =
     (column row 0 ≡ Int tariff.day) × (column row 1 ≡ Text (string_bytes tariff.body))
 
 -- a text is known by its value
-same_text : (found : Option (List ℕ)) (text : List ℕ) → tariff_value found ≡ Text text → Some text ≡ found
+pub same_text : (found : Option (List ℕ)) (text : List ℕ) → tariff_value found ≡ Text text → Some text ≡ found
 same_text None text e = cc
 same_text (Some found) text e = cc
 

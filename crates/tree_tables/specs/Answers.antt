@@ -1,28 +1,31 @@
 -- What each look answers of the tables.
 use Rattle.std.specs.Prelude.{◌≡◌, ℕ, Bool, true, false, not, List, length, map, filter, take}
 use Rattle.std.specs.Prelude.{Option, Some, None, Vec, slice_get, unwrap_or}
-use Rattle.std.specs.FinMap.{entries, get, keys}
+use Rattle.std.specs.FinMap.{FinMap, entries, get, keys}
 use Rattle.std.specs.Global.{Global}
 use Rattle.std.specs.List.{AllZip, last_or, list_any}
 use Rattle.std.specs.List.Sorted.{IsPermutation, IsStrictlySortedBy}
 use Rattle.std.specs.Option.{option_map}
-use Rattle.book_model.specs.Words.{is_from, same_bytes}
+use Rattle.std.specs.Ordering.{nat_cmp}
+use Rattle.book_model.specs.Words.{Credit, is_from, same_bytes}
 use Rattle.book_model.specs.declared.row.ChargeRow.{ChargeRow}
 use Rattle.book_model.specs.declared.row.RowKey.{RowKey}
 use Rattle.table_model.specs.DisputesRead.{by_identity}
 use Rattle.table_model.specs.PeriodRows.{rows_under}
 use Rattle.table_model.specs.PeriodLists.{rows_read}
-use Rattle.table_model.specs.Tables.{ChoiceRow, ChoiceTable, RecordRow, RecordTable, Tables}
+use Rattle.table_model.specs.Tables.{ChoiceRow, RecordRow, RecordTable, ReplacedRow, Tables}
 use Rattle.table_model.specs.Views.{has_choice, rows_with}
 use Rattle.tree_rows.specs.Changes.{above}
-use Rattle.tree_tables.specs.Stored.{book_entry, choice_entry, close_entry, signed_name, stored_entry}
-use Rattle.tree_tables.specs.Stored.{tariff_of}
+use Rattle.tree_tables.specs.Stored.{book_entry, choice_entry, close_entry, credit_entry}
+use Rattle.tree_tables.specs.Stored.{replaced_entry, signed_name, stored_entry, tariff_of}
 use Rattle.tree_tables.specs.declared.book_row.StoredBook.{StoredBook}
 use Rattle.tree_tables.specs.declared.choice_rows.StoredChoice.{StoredChoice}
 use Rattle.tree_tables.specs.declared.chosen_numbers.ChosenNumber.{ChosenNumber}
 use Rattle.tree_tables.specs.declared.closed_rows.Close.{Close}
+use Rattle.tree_tables.specs.declared.credit_rows.StoredCredit.{StoredCredit}
 use Rattle.tree_tables.specs.declared.found_names.FoundName.{FoundName}
 use Rattle.tree_tables.specs.declared.line_rows.StoredLine.{StoredLine}
+use Rattle.tree_tables.specs.declared.replaced_rows.StoredReplaced.{StoredReplaced}
 use Rattle.tree_tables.specs.declared.stored_record.StoredRecord.{StoredRecord}
 use Rattle.tree_tables.specs.declared.tariff_rows.StoredTariff.{StoredTariff}
 
@@ -117,9 +120,9 @@ abbrev pub FindsCharged : List ℕ → Tables → Option StoredRecord → Type 0
 FindsCharged identity tables found =
     option_map stored_entry found ≡ slice_get (charged_with identity tables.records) 0
 
--- the number of the last choice, or 0 where there is none
-abbrev pub last_number : ChoiceTable → ℕ
-last_number choices = unwrap_or (last_or None (keys choices)) 0
+-- the last number of a table by numbers, or 0 where it has no row
+abbrev pub last_number : {V : Type 0} → FinMap nat_cmp V → ℕ
+last_number table = unwrap_or (last_or None (keys table)) 0
 
 -- the choice of a number, if there is one
 abbrev pub FindsChoice : ℕ → Tables → Option StoredChoice → Type 0
@@ -148,6 +151,26 @@ HasChoice name tables found = found ≡ has_choice tables.choices name
 -- all choices, by their numbers
 abbrev pub ListsChoices : Tables → List StoredChoice → Type 0
 ListsChoices tables list = map choice_entry list ≡ entries tables.choices
+
+-- the credit of a number, if there is one
+abbrev pub FindsCredit : ℕ → Tables → Option StoredCredit → Type 0
+FindsCredit number tables found =
+    option_map credit_entry found
+    ≡ option_map (λ (credit : Credit). (number, credit)) (get tables.credits number)
+
+-- all credits, by their numbers
+abbrev pub ListsCredits : Tables → List StoredCredit → Type 0
+ListsCredits tables list = map credit_entry list ≡ entries tables.credits
+
+-- the tariff that was replaced of a number, if there is one
+abbrev pub FindsReplaced : ℕ → Tables → Option StoredReplaced → Type 0
+FindsReplaced number tables found =
+    option_map replaced_entry found
+    ≡ option_map (λ (row : ReplacedRow). (number, row)) (get tables.replaced number)
+
+-- all tariffs that were replaced, by their numbers
+abbrev pub ListsReplaced : Tables → List StoredReplaced → Type 0
+ListsReplaced tables list = map replaced_entry list ≡ entries tables.replaced
 
 -- the charge row of a period at a place, if there is one
 abbrev pub FindsDay : ℕ → RowKey → Tables → Option ChargeRow → Type 0

@@ -7,7 +7,8 @@ use Rattle.sqlite_value.specs.declared.value.Value.TheVariants.{Null, Int, Text,
 use Rattle.book_model.specs.declared.detail.Detail.{Detail}
 use Rattle.book_model.specs.declared.row.ChargeRow.{ChargeRow}
 use Rattle.book_model.specs.declared.row.RowKey.{RowKey}
-use Rattle.table_model.specs.Tables.{BookRow, ChoiceRow, RecordRow}
+use Rattle.book_model.specs.Words.{Credit}
+use Rattle.table_model.specs.Tables.{BookRow, ChoiceRow, RecordRow, ReplacedRow}
 
 -- a mark is 1 or 0
 abbrev pub flag : Bool → ℕ
@@ -57,9 +58,24 @@ day_columns entry =
 abbrev pub line_columns : (ℕ × List ℕ) × Bool → Row
 line_columns line = Int (pos line.0.0) ∷ Blob line.0.1 ∷ Int (pos (flag line.1)) ∷ []
 
--- a choice: its number, the name of the record that was chosen, and the period that was open then
+-- a choice: its number, the name of the record that was named, the period that was open then, and
+-- whether it counts from then on or none of its work does
 abbrev pub choice_columns : ℕ × ChoiceRow → Row
-choice_columns choice = Int (pos choice.0) ∷ Blob choice.1.name ∷ Int (pos choice.1.period) ∷ []
+choice_columns choice =
+    Int (pos choice.0) ∷ Blob choice.1.name ∷ Int (pos choice.1.period)
+    ∷ Int (pos (flag choice.1.counts)) ∷ []
+
+-- a credit: its number, the period that was open then, its centre, its amount and its reason
+abbrev pub credit_columns : ℕ × Credit → Row
+credit_columns entry =
+    Int (pos entry.0) ∷ Int (pos entry.1.period) ∷ Text entry.1.centre ∷ Int entry.1.amount
+    ∷ Text entry.1.reason ∷ []
+
+-- a tariff that was replaced: its number among these, its first day, the period that was open then,
+-- and its text
+abbrev pub replaced_columns : ℕ × ReplacedRow → Row
+replaced_columns entry =
+    Int (pos entry.0) ∷ Int entry.1.day ∷ Int (pos entry.1.period) ∷ tariff_value entry.1.text ∷ []
 
 -- the name of a record that was chosen, and the number of the choice
 abbrev pub choice_name_columns : (List ℕ × ℕ) × Unit {0} → Row

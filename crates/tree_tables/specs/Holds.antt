@@ -24,7 +24,8 @@ use Rattle.tree_rows.specs.Indexes.{index_of, by_both, by_bytes, by_mark, by_par
 use Rattle.tree_tables.specs.Columns.{flag, book_columns, tariff_columns, closed_columns}
 use Rattle.tree_tables.specs.Columns.{record_columns, day_columns, line_columns}
 use Rattle.tree_tables.specs.Columns.{identity_columns, mark_columns, choice_columns}
-use Rattle.tree_tables.specs.Columns.{choice_name_columns, detail_columns}
+use Rattle.tree_tables.specs.Columns.{choice_name_columns, detail_columns, credit_columns}
+use Rattle.tree_tables.specs.Columns.{replaced_columns}
 
 -- an identity with a name that has it
 abbrev pub identity_key : List ℕ × RecordRow → List ℕ × List ℕ
@@ -80,7 +81,7 @@ AreUnderOwnKeys days =
 
 -- how many trees there are
 abbrev pub tree_count : ℕ
-tree_count = 11
+tree_count = 13
 
 -- The rows of the trees are those of the tables.
 pub record Holds (trees : Trees) (tables : Tables) : Type 0 where
@@ -96,6 +97,8 @@ pub record Holds (trees : Trees) (tables : Tables) : Type 0 where
   pub choices : trees 8 ≡ map choice_columns (entries tables.choices)
   pub choice_name_index : trees 9 ≡ map choice_name_columns (entries (choice_name_index tables.choices))
   pub details : trees 10 ≡ map detail_columns (entries (detail_index tables.counted tables.records))
+  pub credits : trees 11 ≡ map credit_columns (entries tables.credits)
+  pub replaced : trees 12 ≡ map replaced_columns (entries tables.replaced)
 
 -- whether rows begin with one that has the number of the book's
 abbrev pub begin_with_book : List Row → Bool
@@ -120,4 +123,6 @@ pub record HasShapes (view : View) : Type 0 where
   pub choices : view.shape 8 ≡ Index plain
   pub choice_name_index : view.shape 9 ≡ Index plain
   pub details : view.shape 10 ≡ Index plain
+  pub credits : view.shape 11 ≡ Index plain
+  pub replaced : view.shape 12 ≡ Index plain
   pub committed : view.committed_shape ≡ view.shape

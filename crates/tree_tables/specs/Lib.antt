@@ -2,7 +2,7 @@
 -- store shows, and what becomes of it; what a look at the tables answers, and what a step does to
 -- them; what is asked of charge rows; rows as code passes them on and gets them back; what each
 -- look answers, and which detail is the next; the records that a later tariff may be for; walks
--- over all records that change them, and passes that do not.
+-- over all records that change them, and passes that do not; and choices as older forms have them.
 pub mod Columns
 pub mod Holds
 pub mod Forms
@@ -15,3 +15,4 @@ pub mod Details
 pub mod LateRecords
 pub mod Walks
 pub mod Passes
+pub mod OldChoices

@@ -4,15 +4,20 @@ use Rattle.std.specs.Prelude.{string_bytes}
 use Rattle.std.specs.FinMap.{get}
 use Rattle.std.specs.Global.{Global}
 use Rattle.sqlite_value.specs.Order.{Row, column}
-use Rattle.sqlite_value.specs.declared.value.Value.TheVariants.{Blob, Int}
+use Rattle.sqlite_value.specs.declared.value.Value.TheVariants.{Blob, Int, Text}
 use Rattle.tariff_rules.specs.declared.priced.Priced.{Priced}
-use Rattle.table_model.specs.Tables.{BookRow, ChoiceRow, RecordRow, Tables}
+use Rattle.book_model.specs.Words.{Credit}
+use Rattle.table_model.specs.Tables.{BookRow, ChoiceRow, RecordRow, ReplacedRow, Tables}
 use Rattle.tree_tables.specs.Columns.{flag}
 use Rattle.tree_tables.specs.declared.book_row.StoredBook.{StoredBook}
 use Rattle.tree_tables.specs.declared.choice_rows.StoredChoice.{StoredChoice}
 use Rattle.tree_tables.specs.declared.closed_rows.Close.{Close}
+use Rattle.tree_tables.specs.declared.credit_rows.CreditText.{CreditText}
+use Rattle.tree_tables.specs.declared.credit_rows.StoredCredit.{StoredCredit}
 use Rattle.tree_tables.specs.declared.line_rows.StoredLine.{StoredLine}
 use Rattle.tree_tables.specs.declared.record_rows.NewRecord.{NewRecord}
+use Rattle.tree_tables.specs.declared.replaced_rows.ReplacedText.{ReplacedText}
+use Rattle.tree_tables.specs.declared.replaced_rows.StoredReplaced.{StoredReplaced}
 use Rattle.tree_tables.specs.declared.stored_record.RecordMark.{RecordMark}
 use Rattle.tree_tables.specs.declared.stored_record.StoredRecord.{StoredRecord}
 use Rattle.tree_tables.specs.declared.tariff_rows.StoredTariff.{StoredTariff}
@@ -36,13 +41,65 @@ close_entry close = (close.period, close.through)
 
 -- a choice as an entry of its table
 abbrev pub choice_entry : StoredChoice → ℕ × ChoiceRow
-choice_entry choice = (choice.number, record { name = choice.name; period = choice.period })
+choice_entry choice = (
+  choice.number,
+  record { name = choice.name; counts = choice.counts; period = choice.period },
+)
 
 -- the columns are those of the choice
 pub record SaysChoice (row : Row) (choice : StoredChoice) : Type 0 where
   pub number : column row 0 ≡ Int (pos choice.number)
   pub name : column row 1 ≡ Blob choice.name
   pub period : column row 2 ≡ Int (pos choice.period)
+  pub counts : column row 3 ≡ Int (pos (flag choice.counts))
+
+-- a credit that is to be written
+abbrev pub credit_given : CreditText → Credit
+credit_given credit = record {
+  centre = credit.centre;
+  amount = credit.amount;
+  reason = credit.reason.now;
+  period = credit.period;
+}
+
+-- a credit as an entry of its table
+abbrev pub credit_entry : StoredCredit → ℕ × Credit
+credit_entry credit = (
+  credit.number,
+  record {
+    centre = credit.centre;
+    amount = credit.amount;
+    reason = string_bytes credit.reason;
+    period = credit.period;
+  },
+)
+
+-- the columns are those of the credit
+pub record SaysCredit (row : Row) (credit : StoredCredit) : Type 0 where
+  pub number : column row 0 ≡ Int (pos credit.number)
+  pub period : column row 1 ≡ Int (pos credit.period)
+  pub centre : column row 2 ≡ Text credit.centre
+  pub amount : column row 3 ≡ Int credit.amount
+  pub reason : column row 4 ≡ Text (string_bytes credit.reason)
+
+-- a tariff that is replaced, as it is to be written
+abbrev pub replaced_given : ReplacedText → ReplacedRow
+replaced_given tariff =
+    record { day = tariff.day; text = Some tariff.body.now; period = tariff.period }
+
+-- a tariff that was replaced as an entry of its table
+abbrev pub replaced_entry : StoredReplaced → ℕ × ReplacedRow
+replaced_entry tariff = (
+  tariff.number,
+  record { day = tariff.day; text = Some (string_bytes tariff.body); period = tariff.period },
+)
+
+-- the columns are those of the tariff
+pub record SaysReplaced (row : Row) (tariff : StoredReplaced) : Type 0 where
+  pub number : column row 0 ≡ Int (pos tariff.number)
+  pub day : column row 1 ≡ Int tariff.day
+  pub period : column row 2 ≡ Int (pos tariff.period)
+  pub text : column row 3 ≡ Text (string_bytes tariff.body)
 
 -- a record that is to be written
 abbrev pub new_entry : NewRecord → List ℕ × RecordRow

@@ -5,9 +5,9 @@ ghost use Rattle.tree_tables.specs.Columns.{choice_columns, choice_name_columns}
 ghost use Rattle.tree_tables.specs.Stored.{SaysChoice};
 
 use crate::chosen_numbers::ChosenNumber;
-use crate::column_values::{hash_at, number_at, period_at};
-use crate::columns::{CHOICE_NAME, CHOICE_NUMBER, CHOICE_PERIOD};
-use crate::keys::{bytes_key, choice_key};
+use crate::column_values::{hash_at, mark_at, number_at, period_at};
+use crate::columns::{CHOICE_COUNTS, CHOICE_NAME, CHOICE_NUMBER, CHOICE_PERIOD};
+use crate::keys::{bytes_key, ruling_key};
 use crate::tables::TreeTables;
 use crate::trees::{CHOICE_NAMES, CHOICES};
 use sqlite_trees::error::StoreError;
@@ -22,20 +22,29 @@ use tree_rows::{ReadRow, add_row, find_row, last_row, list_run};
 pub struct StoredChoice {
     /// Its number among all choices, from 1.
     pub number: u32,
-    /// The name of the data of the record that was chosen.
+    /// The name of the data of the record that was named.
     pub name: [u8; 32],
+    /// It counts from then on; else no record of its work does.
+    pub counts: bool,
     /// The period that was open then.
     pub period: u16,
 }
 
 /// Makes the row of a choice.
-fn choice_row(row: &mut Row, number: u32, name: &[u8], period: u16) -> Result<(), StoreError>
+pub(crate) fn choice_row(
+    row: &mut Row,
+    number: u32,
+    name: &[u8],
+    counts: bool,
+    period: u16,
+) -> Result<(), StoreError>
     ensures { OnOk result (row.new
-        ≡ choice_columns (number, record { name = name.now; period = period })) }
+        ≡ choice_columns (number, record { name = name.now; counts = counts; period = period })) }
 {
-    choice_key(row, number)?;
+    ruling_key(row, number)?;
     row.push(ValueRef::Blob(name))?;
     row.push(ValueRef::Int(i64::from(period)))?;
+    row.push(ValueRef::Int(i64::from(counts)))?;
     Ok(())
 }
 
@@ -55,6 +64,7 @@ fn read_choice(row: &Row) -> Result<StoredChoice, StoreError>
     Ok(StoredChoice {
         number: number_at(row, CHOICE_NUMBER)?,
         name: hash_at(row, CHOICE_NAME)?,
+        counts: mark_at(row, CHOICE_COUNTS)?,
         period: period_at(row, CHOICE_PERIOD)?,
     })
 }
@@ -77,15 +87,21 @@ impl<S: Store> TreeTables<S> {
     ghost use Rattle.tree_tables.specs.States.{state_of};
     ghost use Rattle.tree_tables.specs.Steps.{Does, Looks};
 
-    /// A record that was chosen, by its name, and the period that was open then are kept under the
-    /// number of the choice, which is new, and the choice is found by the name. What is under the
-    /// number, if anything is, is not looked at.
-    pub fn put_choice(&mut self, number: u32, name: &[u8], period: u16) -> Result<(), StoreError>
+    /// A record that was named, by its name, whether it counts, and the period that was open then
+    /// are kept under the number of the choice, which is new, and the choice is found by the name.
+    /// What is under the number, if anything is, is not looked at.
+    pub fn put_choice(
+        &mut self,
+        number: u32,
+        name: &[u8],
+        counts: bool,
+        period: u16,
+    ) -> Result<(), StoreError>
         ensures does { Does result (state_of self.old) (state_of self.new)
             (λ tables. get tables.choices number ≡ None)
-            (step.put_choice_row number name.now period) }
+            (step.put_named_row number name.now counts period) }
     {
-        choice_row(&mut self.row, number, name, period)?;
+        choice_row(&mut self.row, number, name, counts, period)?;
         add_row(&mut self.store, CHOICES, &self.row)?;
         choice_name_row(&mut self.row, name, number)?;
         add_row(&mut self.store, CHOICE_NAMES, &self.row)
@@ -104,7 +120,7 @@ impl<S: Store> TreeTables<S> {
     pub fn find_choice(&mut self, number: u32) -> Result<Option<StoredChoice>, StoreError>
         ensures looks { Looks result (state_of self.old) (state_of self.new) (FindsChoice number) }
     {
-        choice_key(&mut self.key, number)?;
+        ruling_key(&mut self.key, number)?;
         if !find_row(&mut self.store, CHOICES, &self.key, &mut self.row)? {
             return Ok(None);
         }

@@ -15,7 +15,7 @@ use sqlite_value::value::ValueRef;
 use std::alloc::Global;
 
 /// The number in a column.
-fn int_at(row: &Row, at: usize) -> Result<i64, StoreError>
+pub fn int_at(row: &Row, at: usize) -> Result<i64, StoreError>
     ensures read { IfOk result (λ n. column row.now at ≡ Int n) }
 {
     match row.get(at) {
@@ -65,7 +65,7 @@ pub fn period_at(row: &Row, at: usize) -> Result<u16, StoreError>
     u16::try_from(n).ok().ok_or(StoreError::Corrupt)
 }
 
-/// The number of a choice in a column.
+/// The number of a choice, a credit or a tariff that was replaced, in a column.
 pub fn number_at(row: &Row, at: usize) -> Result<u32, StoreError>
     ensures read { IfOk result (λ n. column row.now at ≡ Int (pos n)) }
 {

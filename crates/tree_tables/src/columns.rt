@@ -129,11 +129,14 @@ pub const MARK_NAME: usize = 2;
 /// Its number, from 1.
 pub const CHOICE_NUMBER: usize = 0;
 
-/// The name of the record that was chosen.
+/// The name of the record that was named.
 pub const CHOICE_NAME: usize = 1;
 
 /// The period that was open then.
 pub const CHOICE_PERIOD: usize = 2;
+
+/// Whether it counts, or none of its work does.
+pub const CHOICE_COUNTS: usize = 3;
 
 // Choices by the names of the records that were chosen.
 
@@ -180,3 +183,34 @@ pub const DETAIL_BLOCKS: usize = 10;
 
 /// What it costs, in ten-thousandths of the money unit.
 pub const DETAIL_AMOUNT: usize = 11;
+
+// Credits.
+
+/// Its number, from 1.
+pub const CREDIT_NUMBER: usize = 0;
+
+/// The period that was open when it was given.
+pub const CREDIT_PERIOD: usize = 1;
+
+/// The name of its centre.
+pub const CREDIT_CENTRE: usize = 2;
+
+/// Its amount, in ten-thousandths of the money unit, which may be below 0.
+pub const CREDIT_AMOUNT: usize = 3;
+
+/// Its reason.
+pub const CREDIT_REASON: usize = 4;
+
+// Tariffs that were replaced.
+
+/// Its number among them, from 1.
+pub const REPLACED_NUMBER: usize = 0;
+
+/// Its first day, in days since 1970-01-01.
+pub const REPLACED_DAY: usize = 1;
+
+/// The period that was open when another took its place.
+pub const REPLACED_PERIOD: usize = 2;
+
+/// The text of its file, if it came as one.
+pub const REPLACED_TEXT: usize = 3;

@@ -36,8 +36,8 @@ pub(crate) fn period_key(key: &mut Row, period: u16) -> Result<(), StoreError>
     number_key(key, i64::from(period))
 }
 
-/// The number of a choice as a key.
-pub(crate) fn choice_key(key: &mut Row, number: u32) -> Result<(), StoreError>
+/// The number of a choice, a credit or a tariff that was replaced, as a key.
+pub(crate) fn ruling_key(key: &mut Row, number: u32) -> Result<(), StoreError>
     ensures made { OnOk result (key.new ≡ Int (pos number) ∷ []) }
 {
     number_key(key, i64::from(number))

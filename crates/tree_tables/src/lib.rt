@@ -9,6 +9,7 @@ mod chosen_numbers;
 mod closed_rows;
 mod column_values;
 pub mod columns;
+mod credit_rows;
 mod day_rows;
 mod detail_changes;
 mod detail_fill;
@@ -21,8 +22,10 @@ mod keys;
 mod late_records;
 mod line_rows;
 mod memory;
+mod old_choices;
 mod record_rows;
 mod record_walks;
+mod replaced_rows;
 mod stored_record;
 mod stored_usage;
 mod tables;
@@ -34,9 +37,10 @@ pub use choice_rows::StoredChoice;
 pub use closed_rows::Close;
 // How columns are read, for who reads the rows anew.
 pub use column_values::{
-    bytes_at, count_at, day_at, eight_at, hash_at, mark_at, name_at, number_at, period_at, step_at,
-    text_at,
+    bytes_at, count_at, day_at, eight_at, hash_at, int_at, mark_at, name_at, number_at, period_at,
+    step_at, text_at,
 };
+pub use credit_rows::{CreditText, StoredCredit};
 pub use day_rows::{DayKey, DayRow};
 pub use detail_changes::{DetailScratch, count_in};
 pub use detail_fill::{closes_in, lines_in, next_record_in, start_records};
@@ -46,8 +50,10 @@ pub use found_names::FoundName;
 pub use late_records::LateRecord;
 pub use line_rows::{LineKey, StoredLine};
 pub use memory::trees_in_memory;
+pub use old_choices::mark_choices;
 pub use record_rows::NewRecord;
 pub use record_walks::MOST_STEPS;
+pub use replaced_rows::{ReplacedText, StoredReplaced};
 pub use stored_record::{RecordMark, StoredRecord, data_of, read_mark, read_record};
 pub use stored_usage::{put_data, record_with, usage_bytes, usage_in};
 pub use tables::TreeTables;

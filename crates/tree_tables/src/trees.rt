@@ -32,3 +32,9 @@ pub const CHOICE_NAMES: u32 = 9;
 
 /// Shows the records that are counted.
 pub const DETAILS: u32 = 10;
+
+/// Credits.
+pub const CREDITS: u32 = 11;
+
+/// Tariffs that were replaced.
+pub const REPLACED: u32 = 12;

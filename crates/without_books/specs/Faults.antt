@@ -41,6 +41,8 @@ fault_status fault.Exists = status.Refused
 fault_status fault.Busy = status.Store
 fault_status (fault.Unclear why) = status.Usage
 fault_status fault.Argument = status.Refused
+fault_status fault.Amount = status.Usage
+fault_status fault.Reason = status.Usage
 fault_status (fault.ArgumentAt line) = status.Refused
 fault_status (fault.Ledger refused) = ledger_status refused
 fault_status (fault.LedgerAt refused line) = ledger_status refused
@@ -77,9 +79,17 @@ status_by ended =
 -- words that do not say what is asked
 abbrev pub unclear_line : Unclear → List ℕ
 unclear_line unclear.Choice = codes "error: choose takes either SHA256 or --from FILE\n"
+unclear_line unclear.Dump = codes "error: choose takes --dump FILE with --none, and alone\n"
 unclear_line unclear.Prices = codes "error: trial takes either rates or --tariff FILE\n"
 unclear_line unclear.Period = codes "error: PERIOD is a number without a sign or a leading 0\n"
 unclear_line unclear.Form = codes "error: bill takes either --csv or --html\n"
+
+-- words that are no amount, or no reason, of a credit
+abbrev pub amount_line : List ℕ
+amount_line = codes "error: AMOUNT has four decimals and is not 0\n"
+
+abbrev pub reason_line : List ℕ
+reason_line = codes "error: REASON has 1 to 200 printable characters\n"
 
 -- What is said of a fault: one line. Of a rate outside its limits nothing is said.
 abbrev pub fault_lines : CommandFault → List (List ℕ)
@@ -90,6 +100,8 @@ fault_lines fault.Exists = line_of (codes "exists") ∷ []
 fault_lines fault.Busy = busy_line ∷ []
 fault_lines (fault.Unclear why) = unclear_line why ∷ []
 fault_lines fault.Argument = line_of (codes "word") ∷ []
+fault_lines fault.Amount = amount_line ∷ []
+fault_lines fault.Reason = reason_line ∷ []
 fault_lines (fault.ArgumentAt line) = line_at (codes "word") line ∷ []
 fault_lines (fault.Ledger refused) = ledger_line refused ∷ []
 fault_lines (fault.LedgerAt refused line) = line_at (ledger_message refused) line ∷ []

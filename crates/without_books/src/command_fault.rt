@@ -17,6 +17,12 @@ use std::io;
 use std::io::ErrorKind;
 use streams::Writer;
 
+/// What is said of a word that is no amount of a credit.
+const NO_AMOUNT: &str = "error: AMOUNT has four decimals and is not 0\n";
+
+/// What is said of a word that is no reason of one.
+const NO_REASON: &str = "error: REASON has 1 to 200 printable characters\n";
+
 /// Why a command did not do what it was asked.
 #[derive(Clone, Copy)]
 pub enum CommandFault {
@@ -34,6 +40,10 @@ pub enum CommandFault {
     Unclear(Unclear),
     /// A word is no date, or no name of a record or of a centre.
     Argument,
+    /// A word is no amount that may be credited.
+    Amount,
+    /// A word is no reason of a credit.
+    Reason,
     /// The line of this number, of a list of names, is no name.
     ArgumentAt(usize),
     Ledger(LedgerFault),
@@ -64,6 +74,8 @@ impl CommandFault {
             CommandFault::Busy => books_busy(errors),
             CommandFault::Unclear(why) => words_refused(errors, unclear_text(why)),
             CommandFault::Argument => input_refused(errors, "word"),
+            CommandFault::Amount => words_refused(errors, NO_AMOUNT),
+            CommandFault::Reason => words_refused(errors, NO_REASON),
             CommandFault::ArgumentAt(line) => input_refused_at(errors, "word", line),
             CommandFault::Ledger(fault) => ledger_refused(errors, fault),
             CommandFault::LedgerAt(fault, line) => ledger_refused_at(errors, fault, line),
@@ -82,6 +94,7 @@ fn unclear_text(why: Unclear) -> &'static str
 {
     match why {
         Unclear::Choice => "error: choose takes either SHA256 or --from FILE\n",
+        Unclear::Dump => "error: choose takes --dump FILE with --none, and alone\n",
         Unclear::Prices => "error: trial takes either rates or --tariff FILE\n",
         Unclear::Period => "error: PERIOD is a number without a sign or a leading 0\n",
         Unclear::Form => "error: bill takes either --csv or --html\n",

@@ -113,6 +113,7 @@ fn fault_topic(fault: CommandFault) -> Option<Topic>
         CommandFault::Torn => Some(word_topic(WordKind::Torn)),
         CommandFault::Far => Some(word_topic(WordKind::Far)),
         CommandFault::Usage | CommandFault::Number | CommandFault::Unclear(_) => None,
+        CommandFault::Amount | CommandFault::Reason => None,
     }
 }
 

@@ -128,6 +128,7 @@ impl<'a> Places<'a> {
             BookRequest::BackUp { copy, .. } => places.new = Some(copy),
             BookRequest::Serve { port, .. } => places.port = Some(port),
             BookRequest::Import(dump) => places.dump = Place::File(dump.file),
+            BookRequest::WithholdDump { file, .. } => places.dump = Place::File(file),
             _ => (),
         }
         places
@@ -279,8 +280,12 @@ fn read_by<'a>(asked: BookRequest<'a>) -> Option<&'a str> {
         BookRequest::Rule(Ruling::Tariff { file })
         | BookRequest::RuleNear(Ruling::Tariff { file })
         | BookRequest::DryRun(Ruling::Tariff { file })
-        | BookRequest::ChooseListed { file }
-        | BookRequest::TryListed { file }
+        | BookRequest::Rule(Ruling::Replace { file })
+        | BookRequest::RuleNear(Ruling::Replace { file })
+        | BookRequest::DryRun(Ruling::Replace { file })
+        | BookRequest::ChooseListed { file, .. }
+        | BookRequest::TryListed { file, .. }
+        | BookRequest::WithholdDump { file, .. }
         | BookRequest::WhatIf { file, .. } => Some(file),
         BookRequest::Import(dump) => Some(dump.file),
         _ => None,

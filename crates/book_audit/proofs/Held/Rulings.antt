@@ -2,7 +2,7 @@
 use Rattle.std.proofs.Common.{◌≡◌, ◌∙◌, ◌<◌, ◌∷◌, [], ◌⊎◌, inl, inr, ℕ, suc, List, Bool, true}
 use Rattle.std.proofs.Common.{false, ◌&&◌, ◌==◌, Option, Some, None, ap, map, refl, sym, eqb-true}
 use Rattle.std.proofs.Common.{ltb-true, option_map, if◌then◌else◌, filter, find, nat_le, nat_lt}
-use Rattle.std.proofs.Common.{reverse}
+use Rattle.std.proofs.Common.{not, reverse}
 use Rattle.sqlite_trees.specs.Tree.{Trees}
 use Rattle.sqlite_value.specs.Order.{Row, column}
 use Rattle.book_model.proofs.Std.{entries, values, get, AllByRecursion, last_or, option_map_or}
@@ -10,16 +10,18 @@ use Rattle.book_model.proofs.Std.{option_or, nat_list_eq_equiv, same_Some}
 use Rattle.book_model.specs.Words.{day_of, identity2_of, identity_of, price_by, Terms, Priced}
 use Rattle.book_model.specs.Words.{AcceptedTerms, Rulings as Ruled, are_rising, first_rule}
 use Rattle.book_model.specs.Words.{last_period, price_in, price_under, same_bytes, second_rule}
-use Rattle.book_model.proofs.Lemmas.{begun-last, first_of, second_of}
+use Rattle.book_model.proofs.Lemmas.{begun-last, filter-map, first_of, second_of}
 use Rattle.table_model.specs.Words.{adopted_read, BookRow, ChoiceRow, RecordRow, RecordTable}
-use Rattle.table_model.specs.Words.{Tables, never_adopted, under_numbers, last_named}
-use Rattle.table_model.specs.Words.{name_has_identity}
+use Rattle.table_model.specs.Words.{Tables, never_adopted, under_numbers, last_named, last_row}
+use Rattle.table_model.specs.Words.{is_withheld_in, name_has_identity}
+use Rattle.table_model.proofs.DueLemmas.{last_map}
 use Rattle.consistent_tables.specs.Consistent.{choice_numbers}
 use Rattle.tree_tables.specs.Columns.{choice_columns}
 use Rattle.tree_tables.specs.Holds.{Holds}
 use Rattle.tree_tables.proofs.RowsRead.{same_blob}
-use Rattle.book_audit.specs.ChoiceRows.{AreChoices, IsMade, Made, said}
-use Rattle.book_audit.specs.Choices.{last_chosen}
+use Rattle.book_audit.specs.ChoiceRows.{AreChoices, IsMade, Made, named_in, said}
+use Rattle.book_audit.specs.Choices.{is_last, last_chosen, withholds}
+use Rattle.book_audit.specs.declared.choices.Named.{Named}
 use Rattle.book_audit.specs.Data.{has_begun, price_of}
 use Rattle.book_audit.specs.Rules.{identity_under, may_be_open, rule_of}
 use Rattle.book_audit.specs.declared.choices.Chosen.{Chosen}
@@ -128,30 +130,67 @@ module _ (trees : Trees) (tables : Tables) (holds : Holds trees tables)
         of_identity identity (suc n) made each.1,
       )
 
-  -- the last record that was chosen of an identity is the last that the tables name
-  pub last_said : (open_period : ℕ) (chosen : Chosen) → AreChoices trees rule open_period chosen
-      → (identity : List ℕ) → last_chosen chosen identity ≡ last_named tables identity
-  last_said open_period chosen choices identity =
-      let made : List Made = choices.made in
-      let same : said made ≡ values tables.choices =
-      same_values choice_columns (λ n a b row. (same_choice n n a b row).1) 1 (said made)
-      (values tables.choices) (sym choices.rows ∙ holds.choices ∙ ap (map choice_columns) numbers) in
-      let name : Made → List ℕ = λ (one : Made). one.1.name in
-      choices.are.last identity
-      ∙ either (option_map name (find (λ (one : Made). same_bytes identity one.0) (reverse made)))
-      ∙ sym (last_passing name (name_has_identity tables.records identity)
-      (λ (one : Made). same_bytes identity one.0) made
-      (of_identity identity 1 made choices.are.each) None)
-      ∙ ap (λ (names : List (List ℕ)). last_or None
-      (filter (name_has_identity tables.records identity) names)) (names_of made)
-      ∙ ap (λ (rows : List ChoiceRow). last_or None (filter (name_has_identity tables.records identity)
-      (map (λ (row : ChoiceRow). row.name) rows))) same
-    where
-      either : (found : Option (List ℕ)) → found ≡ option_or found None
-      either None = refl
-      either (Some one) = refl
+  module _ (open_period : ℕ) (chosen : Chosen) (choices : AreChoices trees rule open_period chosen)
+      (identity : List ℕ) where
+    -- the rows of the choices that name a record of the identity
+    abbrev own : ChoiceRow → Bool
+    own row = name_has_identity tables.records identity row.name
 
-      names_of : (made : List Made) → map (λ (one : Made). one.1.name) made
-          ≡ map (λ (row : ChoiceRow). row.name) (said made)
-      names_of [] = refl
-      names_of (one ∷ made) = ap (λ more. one.1.name ∷ more) (names_of made)
+    -- the last of them
+    last_said : last_chosen chosen identity ≡ option_map named_in (last_row tables identity)
+    last_said =
+        let made : List Made = choices.made in
+        let same : said made ≡ values tables.choices =
+        same_values choice_columns (λ n a b row. (same_choice n n a b row).1) 1 (said made)
+        (values tables.choices) (sym choices.rows ∙ holds.choices ∙ ap (map choice_columns) numbers)
+        in
+        let row : Made → ChoiceRow = λ (one : Made). one.1 in
+        let found : Option Made = find (λ (one : Made). same_bytes identity one.0) (reverse made) in
+        choices.are.last identity ∙ by_row found
+        ∙ ap (option_map named_in)
+        (either (option_map row found)
+        ∙ sym (last_passing row own (λ (one : Made). same_bytes identity one.0) made
+        (of_identity identity 1 made choices.are.each) None)
+        ∙ ap (λ (rows : List ChoiceRow). last_or None (filter own rows)) same)
+      where
+        either : (found : Option ChoiceRow) → found ≡ option_or found None
+        either None = refl
+        either (Some one) = refl
+
+        by_row : (found : Option Made) → option_map (λ (one : Made). named_in one.1) found
+            ≡ option_map named_in (option_map (λ (one : Made). one.1) found)
+        by_row None = refl
+        by_row (Some one) = refl
+
+    -- so what was withheld is what the tables say
+    pub withheld_said : withholds chosen identity ≡ is_withheld_in tables identity
+    withheld_said =
+        ap (λ (last : Option Named). option_map_or (λ (named : Named). not named.counts) last false)
+        last_said
+        ∙ by_last (last_row tables identity)
+      where
+        by_last : (last : Option ChoiceRow)
+            → option_map_or (λ (named : Named). not named.counts) (option_map named_in last) false
+            ≡ option_map_or (λ (row : ChoiceRow). not row.counts) last false
+        by_last None = refl
+        by_last (Some row) = refl
+
+    -- and the record that was named last is the one that the tables name
+    pub named_said : (name : List ℕ) → is_last chosen identity name
+        ≡ option_map_or (same_bytes name) (last_named tables identity) false
+    named_said name =
+        let rows : List ChoiceRow = values tables.choices in
+        ap (λ (last : Option Named).
+        option_map_or (λ (named : Named). same_bytes name named.name) last false) last_said
+        ∙ by_last (last_row tables identity)
+        ∙ ap (λ (last : Option (List ℕ)). option_map_or (same_bytes name) last false)
+        (sym (ap (last_or None)
+        (filter-map (name_has_identity tables.records identity) (λ (row : ChoiceRow). row.name) rows)
+        ∙ last_map (λ (row : ChoiceRow). row.name) (filter own rows) None))
+      where
+        by_last : (last : Option ChoiceRow)
+            → option_map_or (λ (named : Named). same_bytes name named.name)
+            (option_map named_in last) false
+            ≡ option_map_or (same_bytes name) (option_map (λ (row : ChoiceRow). row.name) last) false
+        by_last None = refl
+        by_last (Some row) = refl

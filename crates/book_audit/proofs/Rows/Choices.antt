@@ -11,7 +11,8 @@ use Rattle.table_model.specs.Words.{under_numbers}
 use Rattle.table_model.proofs.UnderNumbers.{one_more}
 use Rattle.tree_tables.specs.Columns.{choice_columns}
 use Rattle.book_audit.specs.ChoiceRows.{AreMade, Chooses, IsMade, Made, last_made, made_rows}
-use Rattle.book_audit.specs.ChoiceRows.{row_of, said}
+use Rattle.book_audit.specs.ChoiceRows.{named_in, row_of, said}
+use Rattle.book_audit.specs.declared.choices.Named.{Named}
 use Rattle.book_audit.specs.Choices.{last_chosen}
 use Rattle.book_audit.specs.declared.choices.Choice.{Choice}
 use Rattle.book_audit.specs.declared.choices.Chosen.{Chosen}
@@ -30,17 +31,18 @@ rows_pushed made one number row is next =
 
 -- a choice behind others is the last of its identity
 found_first : (own : Bool) (one : Made) (rest : Option Made)
-    → option_map (λ (x : Made). x.1.name) (cond own (Some one) rest)
-    ≡ cond own (Some one.1.name) (option_map (λ (x : Made). x.1.name) rest)
+    → option_map (λ (x : Made). named_in x.1) (cond own (Some one) rest)
+    ≡ cond own (Some (named_in one.1)) (option_map (λ (x : Made). named_in x.1) rest)
 found_first true one rest = refl
 found_first false one rest = refl
 
 last_pushed : (made : List Made) (one : Made) (identity : List ℕ)
     → last_made (made ++ one ∷ []) identity
-    ≡ cond (same_bytes identity one.0) (Some one.1.name) (last_made made identity)
+    ≡ cond (same_bytes identity one.0) (Some (named_in one.1)) (last_made made identity)
 last_pushed made one identity =
     let own : Made → Bool = λ (x : Made). same_bytes identity x.0 in
-    ap (λ (xs : List Made). option_map (λ (x : Made). x.1.name) (find own xs)) (reverse-append made (one ∷ []))
+    ap (λ (xs : List Made). option_map (λ (x : Made). named_in x.1) (find own xs))
+    (reverse-append made (one ∷ []))
     ∙ found_first (own one) one (find own (reverse made))
 
 -- no choices
@@ -97,7 +99,8 @@ made_pushed trees rule open_period old new made choice so_far step next count =
           (λ (x : Made). AllByRecursion (λ (b : Made). x.1.period ≤ b.1.period) (one ∷ []))
           (λ x less. (less, tt)) made before);
       last = λ identity. step.last identity
-          ∙ ap (λ (rest : Option (List ℕ)). cond (same_bytes identity step.identity) (Some choice.name) rest)
+          ∙ ap (λ (rest : Option Named). cond (same_bytes identity step.identity)
+          (Some (named_in one.1)) rest)
           (so_far.last identity)
           ∙ sym (last_pushed made one identity);
     }

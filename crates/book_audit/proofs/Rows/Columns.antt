@@ -49,15 +49,17 @@ one_record e f same =
       },
     )
 
--- a choice's row says its number, its record's name and its period
+-- a choice's row says its number, its record's name, whether it counts, and its period
 pub same_choice : (number other : ℕ) (one two : ChoiceRow)
     → choice_columns (number, one) ≡ choice_columns (other, two) → (number ≡ other) × (one ≡ two)
 same_choice number other one two same =
     let name : one.name ≡ two.name = same_blob one.name two.name (ap (λ (r : Row). column r 1) same) in
+    let counts : one.counts ≡ two.counts =
+    same_flag one.counts two.counts (ap (λ (r : Row). column r 3) same) in
     let period : one.period ≡ two.period =
     same_count one.period two.period (ap (λ (r : Row). column r 2) same) in (
       same_count number other (ap (λ (r : Row). column r 0) same),
-      λ i. record { name = name i; period = period i },
+      λ i. record { name = name i; counts = counts i; period = period i },
     )
 
 -- values under numbers are as many,

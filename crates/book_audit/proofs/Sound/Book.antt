@@ -24,6 +24,8 @@ use Rattle.book_audit.proofs.Sound.Rows.{amount_is, days_are, held_are, held_few
 use Rattle.book_audit.proofs.Sound.Rows.{own_line}
 use Rattle.book_audit.proofs.Sound.Rulings.{choices_counted, choices_few, choices_numbered}
 use Rattle.book_audit.proofs.Sound.Rulings.{choices_read, choices_timely, closes_days}
+use Rattle.book_audit.proofs.Sound.Rulings.{credits_entered, credits_few, credits_own}
+use Rattle.book_audit.proofs.Sound.Rulings.{replaced_entered, replaced_few, replaced_own}
 use Rattle.book_audit.proofs.Sound.Rulings.{closes_entered, closes_few, closes_rise, closes_said}
 use Rattle.book_audit.proofs.Sound.Rulings.{days, rule_is, tariffs_entered, tariffs_said}
 use Rattle.book_audit.proofs.Sound.Rulings.{tariffs_texted}
@@ -45,6 +47,10 @@ module _ (trees : Trees) (numbers : Numbers) (sound : AreSound trees numbers) wh
     numbers = choices_numbered trees numbers sound;
     choices = choices_read trees numbers sound;
     timely = choices_timely trees numbers sound;
+    replaced = replaced_entered trees numbers sound;
+    replaced_own = replaced_own trees numbers sound;
+    credits = credits_entered trees numbers sound;
+    credits_own = credits_own trees numbers sound;
     records = own_row trees numbers sound;
     lines = own_line trees numbers sound;
     days = days_are trees numbers sound;
@@ -55,6 +61,8 @@ module _ (trees : Trees) (numbers : Numbers) (sound : AreSound trees numbers) wh
     within = sound.records.are.within;
     few_closes = closes_few trees numbers sound;
     few_choices = choices_few trees numbers sound;
+    few_replaced = replaced_few trees numbers sound;
+    few_credits = credits_few trees numbers sound;
   }
 
   abbrev accepted : List AcceptedTerms

@@ -1,7 +1,7 @@
 -- The records of sound trees are right by their tables.
 use Rattle.std.proofs.Common.{◌≡◌, ◌∙◌, ◌+◌, ◌-◌, ◌||◌, ℕ, ℤ, List, Bool, true, false, Option, Some}
 use Rattle.std.proofs.Common.{None, ap, ap₂, arith, length, map, not, refl, subst, sym}
-use Rattle.std.proofs.Common.{if◌then◌else◌, nat_lt}
+use Rattle.std.proofs.Common.{if◌then◌else◌, nat_lt, ◌&&◌}
 use Rattle.sqlite_trees.specs.Tree.{Trees}
 use Rattle.sqlite_trees.proofs.ListLemmas.{all-map, all_weaker}
 use Rattle.book_model.proofs.Std.{get, option_map_or}
@@ -20,7 +20,7 @@ use Rattle.book_audit.specs.SoundTrees.{AreSound}
 use Rattle.book_audit.specs.declared.audited.Counts.{Counts as Numbers}
 use Rattle.book_audit.proofs.Rows.Rulings.{closed_is}
 use Rattle.book_audit.proofs.Held.Looks.{alone_looked, line_looked, past_told}
-use Rattle.book_audit.proofs.Held.Rulings.{last_said}
+use Rattle.book_audit.proofs.Held.Rulings.{named_said, withheld_said}
 use Rattle.book_audit.proofs.Sound.Rulings.{choices_numbered, closes_said, days, identity_is}
 use Rattle.book_audit.proofs.Sound.Rulings.{open_is, price_is}
 use Rattle.book_audit.proofs.Sound.Tables.{right_of, tables_held, told_all, trees_hold}
@@ -112,13 +112,15 @@ module _ (trees : Trees) (numbers : Numbers) (sound : AreSound trees numbers) wh
     charged : row.charged ≡ is_due_in tables name
     charged =
         let its = right.marked.charged in
+        let holds = trees_hold trees numbers sound in
+        let numbered = choices_numbered trees numbers sound in
+        let alone = alone_looked trees tables holds name row its.next its.shared there its.looked in
+        let withheld = withheld_said trees tables holds numbered sound.rulings.rule
+        (length closes + 1) sound.rulings.chosen sound.ruled.choices row.identity in
+        let named = named_said trees tables holds numbered sound.rulings.rule
+        (length closes + 1) sound.rulings.chosen sound.ruled.choices row.identity name in
         its.is
-        ∙ ap₂ (λ (alone chosen : Bool). alone || chosen)
-        (alone_looked trees tables (trees_hold trees numbers sound) name row its.next its.shared there
-        its.looked)
-        (ap (λ (found : Option (List ℕ)). option_map_or (same_bytes name) found false)
-        (last_said trees tables (trees_hold trees numbers sound) (choices_numbered trees numbers sound)
-        sound.rulings.rule (length closes + 1) sound.rulings.chosen sound.ruled.choices row.identity))
+        ∙ (λ i. not (withheld i) && (alone i || named i))
         ∙ sym (ap (is_due_at tables name) there)
 
     -- so it is right by the tables

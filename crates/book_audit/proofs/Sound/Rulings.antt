@@ -1,19 +1,23 @@
 -- The rulings of sound trees are those that their tables say.
 use Rattle.std.proofs.Common.{◌≡◌, ◌∙◌, ◌<◌, ◌≤◌, ◌+◌, ◌∷◌, [], inl, inr, ℕ, suc, ℤ, List, true}
 use Rattle.std.proofs.Common.{All, Option, Some, None, ap, length, refl, subst, sym, T, int_cmp}
-use Rattle.std.proofs.Common.{option_map, filter_map, leb-true}
+use Rattle.std.proofs.Common.{option_map, filter_map, leb-true, map}
 use Rattle.sqlite_trees.specs.Tree.{Trees}
 use Rattle.book_model.proofs.Std.{entries, entries_sorted, get, values, is_sorted, AllByRecursion}
 use Rattle.book_model.proofs.Std.{cons_option, IsStrictlySortedBy, length-map, All-cons}
 use Rattle.book_model.proofs.Std.{All-from_recursion, All-nil}
 use Rattle.book_model.specs.Words.{Terms, AcceptedTerms, Choice, IsDay, are_rising, identity_by}
-use Rattle.book_model.specs.Words.{last_period, most_choices, open_by, price_in}
+use Rattle.book_model.specs.Words.{Credit, Replaced, last_period, most_choices, most_credits}
+use Rattle.book_model.specs.Words.{most_replaced, open_by, price_in}
 use Rattle.table_model.specs.Words.{choice_read, IsTexted, BookRow, ChoiceRow, RecordRow}
 use Rattle.table_model.specs.Words.{RecordTable, Tables, close_entries, tariff_entries}
 use Rattle.table_model.specs.Words.{under_numbers}
-use Rattle.table_model.proofs.RulingsReading.{tariffs_back}
+use Rattle.table_model.specs.BookIn.{replaced_read}
+use Rattle.table_model.specs.TablesOf.{replaced_row}
+use Rattle.table_model.proofs.RulingsReading.{one_read, tariffs_back}
 use Rattle.table_model.proofs.UnderNumbers.{entries-numbers, values-numbers}
-use Rattle.consistent_tables.specs.Consistent.{IsOwnRule, choice_numbers, ruled}
+use Rattle.consistent_tables.specs.Consistent.{IsOwnCredit, IsOwnReplaced, IsOwnRule}
+use Rattle.consistent_tables.specs.Consistent.{choice_numbers, ruled}
 use Rattle.consistent_tables.proofs.RuledTables.{tariffs_rise}
 use Rattle.consistent_tables.proofs.SoundTables.{choice_of}
 use Rattle.tree_tables.proofs.Layouts.{tariff_layout}
@@ -74,6 +78,18 @@ all_timely records last (one ∷ made) numbered begun =
       | None ↦ rest
       | Some row ↦ All-cons (IsTimelyBy last) (choice_of one.1 row) more (numbered.0, begun.0) rest
     ]
+
+-- ---- replaced tariffs
+
+-- those whose texts say their terms are read from their rows
+all_replaced : (last : ℕ) (all : List Replaced) → AllByRecursion (IsOwnReplaced last) all
+    → filter_map replaced_read (map replaced_row all) ≡ all
+all_replaced last [] own = refl
+all_replaced last (one ∷ all) own =
+    let its = one_read one.tariff own.0.texted in
+    let rest = all_replaced last all own.1 in
+    λ i. cons_option (option_map
+    (λ (tariff : AcceptedTerms). record { tariff = tariff; period = one.period }) (its i)) (rest i)
 
 module _ (trees : Trees) (numbers : Numbers) (sound : AreSound trees numbers) where
   abbrev tables : Tables
@@ -189,3 +205,52 @@ module _ (trees : Trees) (numbers : Numbers) (sound : AreSound trees numbers) wh
 
   pub choices_few : length (ruled tables).choices ≤ most_choices
   choices_few = subst (λ n. n ≤ most_choices) choices_counted sound.ruled.choices.few
+
+  -- ---- replaced tariffs and credits
+
+  abbrev its_replaced : List Replaced
+  its_replaced = sound.ruled.kept.replaced.replaced
+
+  replaced_said : (ruled tables).replaced ≡ its_replaced
+  replaced_said =
+      ap (filter_map replaced_read) (values-numbers (map replaced_row its_replaced))
+      ∙ all_replaced (length days + 1) its_replaced sound.ruled.kept.replaced.own
+
+  pub replaced_entered : entries tables.replaced
+      ≡ under_numbers 1 (map replaced_row (ruled tables).replaced)
+  replaced_entered =
+      entries-numbers (map replaced_row its_replaced)
+      ∙ ap (λ (all : List Replaced). under_numbers 1 (map replaced_row all)) (sym replaced_said)
+
+  pub replaced_own : All (IsOwnReplaced (open_by (ruled tables))) (ruled tables).replaced
+  replaced_own =
+      subst (λ n. All (IsOwnReplaced n) (ruled tables).replaced) (sym open_is)
+      (subst (All (IsOwnReplaced (length days + 1))) (sym replaced_said)
+      (All-from_recursion (IsOwnReplaced (length days + 1)) its_replaced
+      sound.ruled.kept.replaced.own))
+
+  pub replaced_few : length (ruled tables).replaced ≤ most_replaced
+  replaced_few =
+      subst (λ (all : List Replaced). length all ≤ most_replaced) (sym replaced_said)
+      sound.ruled.kept.replaced.few
+
+  abbrev its_credits : List Credit
+  its_credits = sound.ruled.kept.credits.credits
+
+  credits_said : (ruled tables).credits ≡ its_credits
+  credits_said = values-numbers its_credits
+
+  pub credits_entered : entries tables.credits ≡ under_numbers 1 (ruled tables).credits
+  credits_entered = entries-numbers its_credits ∙ ap (under_numbers 1) (sym credits_said)
+
+  pub credits_own : All (IsOwnCredit (open_by (ruled tables))) (ruled tables).credits
+  credits_own =
+      subst (λ n. All (IsOwnCredit n) (ruled tables).credits) (sym open_is)
+      (subst (All (IsOwnCredit (length days + 1))) (sym credits_said)
+      (All-from_recursion (IsOwnCredit (length days + 1)) its_credits
+      sound.ruled.kept.credits.own))
+
+  pub credits_few : length (ruled tables).credits ≤ most_credits
+  credits_few =
+      subst (λ (all : List Credit). length all ≤ most_credits) (sym credits_said)
+      sound.ruled.kept.credits.few

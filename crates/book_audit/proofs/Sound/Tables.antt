@@ -29,7 +29,9 @@ use Rattle.tree_rows.proofs.IndexOrders.{by_bytes_exact}
 use Rattle.tree_rows.proofs.Indexes.{indexed}
 use Rattle.tree_rows.proofs.IndexLists.{index_names_all}
 use Rattle.tree_rows.proofs.Keyed.{row_found}
-use Rattle.tree_tables.specs.Columns.{choice_columns, closed_columns, detail_columns}
+use Rattle.table_model.specs.TablesOf.{replaced_row}
+use Rattle.tree_tables.specs.Columns.{choice_columns, closed_columns, credit_columns}
+use Rattle.tree_tables.specs.Columns.{detail_columns, replaced_columns}
 use Rattle.tree_tables.specs.Holds.{AreUnderOwnKeys, Holds, by_shown, choice_name_index}
 use Rattle.tree_tables.specs.Holds.{choice_name_key, counted_among, detail_index, identity_index}
 use Rattle.tree_tables.specs.Holds.{marks}
@@ -372,6 +374,9 @@ module _ (trees : Trees) (numbers : Numbers) (sound : AreSound trees numbers) wh
     tariffs = from_entries (tariff_entries sound.ruled.tariffs.accepted);
     closes = from_entries (close_entries 1 sound.rulings.closes.items);
     choices = choices;
+    credits = from_entries (under_numbers 1 sound.ruled.kept.credits.credits);
+    replaced = from_entries
+        (under_numbers 1 (map replaced_row sound.ruled.kept.replaced.replaced));
     records = records;
     days = days;
     lines = from_entries sound.lines.lines;
@@ -396,4 +401,9 @@ module _ (trees : Trees) (numbers : Numbers) (sound : AreSound trees numbers) wh
     choices = sound.ruled.choices.rows ∙ ap (map choice_columns) (sym choices_in_order);
     choice_name_index = choice_name_rows;
     details = detail_rows;
+    credits = sound.ruled.kept.credits.are
+        ∙ ap (map credit_columns) (sym (entries-numbers sound.ruled.kept.credits.credits));
+    replaced = sound.ruled.kept.replaced.are
+        ∙ ap (map replaced_columns)
+        (sym (entries-numbers (map replaced_row sound.ruled.kept.replaced.replaced)));
   }

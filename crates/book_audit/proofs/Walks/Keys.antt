@@ -16,7 +16,8 @@ use Rattle.tree_tables.specs.Walks.{rows_past}
 use Rattle.book_audit.specs.declared.finding.Tree.{Tree}
 use Rattle.book_audit.specs.declared.finding.Tree.TheVariants.{Book, ChoiceNames, Choices, Closes}
 use Rattle.book_audit.specs.declared.finding.Tree.TheVariants.{Days, Details, Identities, Lines}
-use Rattle.book_audit.specs.declared.finding.Tree.TheVariants.{Marks, Records, Tariffs}
+use Rattle.book_audit.specs.declared.finding.Tree.TheVariants.{Credits, Marks, Records, Replaced}
+use Rattle.book_audit.specs.declared.finding.Tree.TheVariants.{Tariffs}
 use Rattle.book_audit.specs.Walks.{AreRising, AreWide, HasWalked, key_in, key_width, last_key}
 use Rattle.book_audit.specs.Walks.{width}
 
@@ -33,6 +34,8 @@ within Marks = omega arith
 within Choices = omega arith
 within ChoiceNames = omega arith
 within Details = omega arith
+within Credits = omega arith
+within Replaced = omega arith
 
 some : (tree : Tree) → 0 < key_width tree
 some Book = omega arith
@@ -46,6 +49,8 @@ some Marks = omega arith
 some Choices = omega arith
 some ChoiceNames = omega arith
 some Details = omega arith
+some Credits = omega arith
+some Replaced = omega arith
 
 -- over a key of so many columns, a row compares by its first columns
 prefix_is : (n : ℕ) (row key : Row) → n ≤ length row → length key ≡ n

@@ -5,7 +5,7 @@ ghost use Rattle.plain_ledger.specs.PlainDetails as spec;
 
 use super::PlainLedger;
 use crate::charge_rows::{are_too_dear, charge_rows};
-use crate::choices::last_chosen;
+use crate::choices::{last_chosen, last_counts};
 use crate::identities::{disputes, first_from, shared_identities};
 use crate::period::Period;
 use crate::period_end::PeriodEnd;
@@ -53,6 +53,7 @@ impl<N: Naming + Drop> PlainLedger<N> {
             adopted,
             shared: shared_identities(self.alloc, &self.held, adopted)?,
             chosen: last_chosen(self.alloc, &self.choices, adopted)?,
+            counts: last_counts(self.alloc, &self.choices, adopted)?,
             last: self.rulings.last_close(),
             through,
         })

@@ -15,13 +15,13 @@ impl<N: Naming + Drop> PlainLedger<N> {
     ghost use Rattle.std.specs.BTreeMap.{values};
     ghost use Rattle.book_model.specs.Words.{IsDay, TariffAccepted, close, give, last_period};
     ghost use Rattle.book_model.specs.Words.{close_outcome, open_number, tariff_outcome};
-    ghost use Rattle.book_model.specs.Words.{HasDay, rule_outcome, ruling_asked};
+    ghost use Rattle.book_model.specs.Words.{MayBeAsked, rule_outcome, ruling_asked};
     ghost use Rattle.plain_ledger.specs.PlainBook.{IsPlainCall, book_in, naming_in};
     ghost use Rattle.plain_ledger.specs.Repricing.{cost_anew, ruled_by_cost};
 
     /// Makes a ruling.
     pub(super) fn make_ruling(&mut self, ruling: Ruling<'_>) -> Result<Ruled, LedgerFault>
-        requires { HasDay (ruling_asked ruling) }
+        requires { MayBeAsked (ruling_asked ruling) }
         ensures { IsPlainCall (λ ruled. ruled) self.old self.new result
             (rule_outcome (N.name_of (naming_in self.old)) (ruling_asked ruling.entry)) }
     {
@@ -30,6 +30,14 @@ impl<N: Naming + Drop> PlainLedger<N> {
             Ruling::Close { period, through } => self.close_period(period, through),
             Ruling::Choose(name) => self.choose_named(name),
             Ruling::Adopt(rule) => self.adopt_rule(rule),
+            Ruling::Replace(text) => self.replace_in_force(text),
+            Ruling::Withhold(name) => self.withhold_named(name),
+            Ruling::Credit {
+                period,
+                centre,
+                amount,
+                reason,
+            } => self.give_credit(period, centre, amount, reason),
         }
     }
 

@@ -74,6 +74,8 @@ impl<S: Store, N: Naming + Drop> TableLedger<S, N> {
                 summary: Summary {
                     rulings: Rulings::new(alloc),
                     choices: 0,
+                    replaced: 0,
+                    credits: 0,
                     held: 0,
                     total: 0,
                 },

@@ -7,4 +7,5 @@ abbrev pub invariant-loop-row : goal.invariant-loop-row
 invariant-loop-row l =
     l.out
     ≡ l.initial.out
-    ++ flat_map (sums_box (option_map (λ text. string_bytes text) l.currency)) (take l.row-index l.rows)
+    ++ flat_map (sums_box (option_map (λ text. string_bytes text) l.currency) l.layout)
+    (take l.row-index l.rows)

@@ -1,5 +1,5 @@
 use Rattle.std.proofs.Common.{sym, ◌∙◌}
-use Rattle.book_model.specs.RulingAnswers.{is_effective}
+use Rattle.book_model.specs.Rulings.{is_effective}
 use Rattle.tariff_rules.proofs.SearchLemmas.{any_passes, fails_more, none_passes}
 use Rattle.book_core.proofs.accepted_tariff.has_day_of.Goals as goal
 

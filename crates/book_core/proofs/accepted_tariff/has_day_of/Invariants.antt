@@ -1,4 +1,4 @@
-use Rattle.book_model.specs.RulingAnswers.{is_effective}
+use Rattle.book_model.specs.Rulings.{is_effective}
 use Rattle.tariff_rules.proofs.SearchLemmas.{AreFailed}
 use Rattle.book_core.proofs.accepted_tariff.has_day_of.Given as goal
 

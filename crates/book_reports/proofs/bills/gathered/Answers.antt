@@ -2,6 +2,7 @@ use Rattle.std.proofs.Common.{refl}
 use Rattle.book_lists.proofs.ReadingLemmas.{call_failed}
 use Rattle.book_lists.proofs.ShownLemmas.{answers, both_shown, refused_next, shown, then_stays}
 use Rattle.book_reports.proofs.BillLemmas.{bill_known, bill_unlined, bill_unworked}
+use Rattle.book_reports.specs.BillCredits.{credits_shown}
 use Rattle.book_reports.proofs.bills.gathered.Goals as goal
 
 -- the period is not there
@@ -53,6 +54,21 @@ returns-in_err-kept-clause-bill g c =
     c.in_ok-days.ensures.days)
     c.in_err-kept.ensures.tariffs
 
+-- or the credits
+pub returns-in_err-credits-clause-bill : goal.returns-in_err-credits-clause-bill
+returns-in_err-credits-clause-bill g c =
+    refused_next c.from_residual-in_err-credits.result c.from_residual-in_err-credits.ensures.1
+    (λ book. refl) (λ book. refl) (λ book known is. cc is)
+    (then_stays (λ book. refl)
+    (then_stays (λ book. refl)
+    (then_stays (λ book. refl)
+    (then_stays (λ book. refl) (shown (λ book. refl) c.in_ok-work.ensures.work)
+    c.in_ok-lines.ensures.lines)
+    c.in_ok-held.ensures)
+    c.in_ok-days.ensures.days)
+    c.in_ok-kept.ensures.tariffs)
+    c.in_err-credits.ensures.credits
+
 -- all were read
 pub returns-clause-bill : goal.returns-clause-bill
 returns-clause-bill g c =
@@ -62,10 +78,12 @@ returns-clause-bill g c =
     (rw work.work.naming at c.in_ok-lines.ensures.lines) in
     let held = both_shown (λ book. refl) lines (rw lines.work.naming at c.in_ok-held.ensures) in
     let days = both_shown (λ book. refl) held c.in_ok-days.ensures.days in
-    let all = both_shown (λ book. refl) days c.in_ok-kept.ensures.tariffs in
+    let kept = both_shown (λ book. refl) days c.in_ok-kept.ensures.tariffs in
+    let all = both_shown (λ book. refl) kept c.in_ok-credits.ensures.credits in
     answers _ (λ book. refl)
     (λ book known. bill_known naming c.args.period c.args.centre.now c.in_ok-work.work
-    c.in_ok-lines.lines.items c.in_ok-held.held c.in_ok-days.days c.in_ok-kept.kept book
-    known.first.first.first.first known.first.first.first.next known.first.first.next
-    known.first.next known.next)
+    c.in_ok-lines.lines.items c.in_ok-held.held c.in_ok-days.days c.in_ok-kept.kept
+    (credits_shown c.in_ok-credits.credits) book
+    known.first.first.first.first.first known.first.first.first.first.next
+    known.first.first.first.next known.first.first.next known.first.next known.next)
     all

@@ -28,6 +28,10 @@ returns-in-Record g c =
     rw c.in-Record.is (call_made (record_text c.in-Record.name) (λ book. refl)
     c.trail_of.ensures.trail c.made_of-in-Record.ensures λ trail text made. search rules)
 
+-- so is the text of a tariff that was replaced
+pub returns-in-ReplacedText : goal.returns-in-ReplacedText
+returns-in-ReplacedText g c = rw c.in-ReplacedText.is c.replaced_text.ensures
+
 -- so is a bill
 pub returns-in-Bill : goal.returns-in-Bill
 returns-in-Bill g c = rw c.in-Bill.is c.bill_report.ensures

@@ -1,10 +1,10 @@
 use Rattle.std.proofs.Common.{◌∙◌, ◌+◌, List, Ok, ap, refl, subst, sym, w32}
 use Rattle.book_model.proofs.Std.{to_z-of_z}
 use Rattle.book_model.proofs.Lemmas.{day_fits}
-use Rattle.report_texts.specs.declared.dry_runs.TriedRuling.TheVariants.{Tariff}
+use Rattle.report_texts.specs.declared.dry_runs.TriedRuling.TheVariants.{Replace, Tariff}
 use Rattle.report_texts.specs.DryRuns.{NamesDay}
 use Rattle.report_texts.specs.Figures.{record_count_from}
-use Rattle.book_reports.specs.Figures.{count_outcome}
+use Rattle.book_reports.specs.Figures.{count_outcome, credit_count_outcome, priced_outcome}
 use Rattle.book_reports.proofs.Words.{Line, figures_by, call_failed, read_as, same_value}
 use Rattle.book_reports.proofs.Words.{dispute_count_outcome}
 use Rattle.book_reports.proofs.FigureLemmas.{own_read}
@@ -48,6 +48,38 @@ returns-in-Choose g c =
     c.count_disputes.result c.figures_and-in-Choose.result (λ book. refl) call
     (rw call.work.naming at c.count_disputes.ensures)
     (rw c.deref-in-Choose.ensures.value at c.figures_and-in-Choose.ensures))
+
+pub returns-in-Withhold : goal.returns-in-Withhold
+returns-in-Withhold g c =
+    let call = c.in_ok-lines.ensures.lines in
+    let naming = (g.L.Ledger.seen c.args.ledger.now).naming in
+    rw c.in-Withhold.is
+    (own_read naming c.args.period c.args.rows.now (dispute_count_outcome naming)
+    c.count_disputes-in-Withhold.result c.figures_and-in-Withhold.result (λ book. refl) call
+    (rw call.work.naming at c.count_disputes-in-Withhold.ensures)
+    (rw c.deref-in-Withhold.ensures.value at c.figures_and-in-Withhold.ensures))
+
+-- of a tariff in the place of another the next one is looked for
+pub returns-in-Replace : goal.returns-in-Replace
+returns-in-Replace g c =
+    let call = c.in_ok-lines.ensures.lines in
+    let naming = (g.L.Ledger.seen c.args.ledger.now).naming in
+    let first = c.in-Replace.first in
+    let named : NamesDay (Replace first) = subst NamesDay c.in-Replace.is c.requires.day in
+    rw c.in-Replace.is
+    (own_read naming c.args.period c.args.rows.now (priced_outcome first c.args.rows.now)
+    c.count_priced.result c.figures_and-in-Replace.result (λ book. refl) call
+    (rw (to_z-of_z w32 first (day_fits first named)) at c.count_priced.ensures)
+    (rw c.deref-in-Replace.ensures.value at c.figures_and-in-Replace.ensures))
+
+pub returns-in-Credit : goal.returns-in-Credit
+returns-in-Credit g c =
+    let call = c.in_ok-lines.ensures.lines in
+    let naming = (g.L.Ledger.seen c.args.ledger.now).naming in
+    rw c.in-Credit.is
+    (own_read naming c.args.period c.args.rows.now (credit_count_outcome c.args.period)
+    c.count_credits.result c.figures_and-in-Credit.result (λ book. refl) call c.count_credits.ensures
+    (rw c.deref-in-Credit.ensures.value at c.figures_and-in-Credit.ensures))
 
 pub returns : goal.returns
 returns g c =

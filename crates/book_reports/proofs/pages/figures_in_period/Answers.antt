@@ -1,4 +1,7 @@
-use Rattle.std.proofs.Common.{refl, rules, ◌≡◌}
+use Rattle.std.proofs.Common.{refl, rules, ◌≡◌, ◌∙◌, List, ap, map, subst, sym}
+use Rattle.book_model.specs.declared.bill.Credit.{Credit}
+use Rattle.book_model.specs.Words.{credit_shown}
+use Rattle.report_texts.specs.Charges.{FitCredits, plain_credits}
 use Rattle.book_reports.proofs.PageLemmas.{figures_known}
 use Rattle.book_reports.proofs.Words.{figures_of, figures_seen, call_failed, passed_on, answers}
 use Rattle.book_reports.proofs.Words.{answers_none, both_shown, refused_next, shown, then_stays}
@@ -15,6 +18,20 @@ returns-in_err-lines g c =
     (λ book. refl) (λ book. refl) (λ book known is. cc is)
     (shown (λ book. refl) c.in_ok-rows.ensures.rows) c.in_err-lines.ensures.lines
 
+-- there is no memory for its credits
+pub returns-in_err-own : goal.returns-in_err-own
+returns-in_err-own g c =
+    rw (passed_on c.from_residual-in_err-own.result c.from_residual-in_err-own.ensures.1)
+    (answers_none (λ book. refl)
+    (then_stays (λ book. refl) (shown (λ book. refl) c.in_ok-rows.ensures.rows)
+    c.in_ok-lines.ensures.lines))
+
+-- they can be shown
+pub period_figures-requires-clause-credits : goal.period_figures-requires-clause-credits
+period_figures-requires-clause-credits g c =
+    subst (λ (credits : List Credit). FitCredits (plain_credits (map credit_shown credits)))
+    (sym c.deref-3.ensures.value) c.in_ok-own.ensures.fit
+
 -- there is no memory for what each centre costs
 pub returns-in_err-figures : goal.returns-in_err-figures
 returns-in_err-figures g c =
@@ -29,6 +46,10 @@ returns g c =
     let rows = shown (λ book. refl) c.in_ok-rows.ensures.rows in
     let both = both_shown (λ book. refl) rows (rw rows.work.naming at c.in_ok-lines.ensures.lines) in
     let made : figures_seen c.in_ok-figures.figures
-    ≡ figures_of c.in_ok-rows.rows.items c.in_ok-lines.lines.items = search rules in
+    ≡ figures_of c.in_ok-rows.rows.items c.in_ok-lines.lines.items
+    (map credit_shown c.in_ok-own.own.items) = search rules in
+    let by_all = made ∙ ap (figures_of c.in_ok-rows.rows.items c.in_ok-lines.lines.items)
+    c.in_ok-own.ensures.credits in
     answers c.in_ok-figures.figures (λ book. refl)
-    (λ book known. figures_known naming c.args.period _ _ _ book made known.first known.next) both
+    (λ book known. figures_known naming c.args.period (map credit_shown c.args.credits.now) _ _ _ book
+    by_all known.first known.next) both

@@ -12,14 +12,22 @@ returns-in_err-closes g c =
     call_failed c.from_residual.result c.from_residual.ensures.1 (λ book. refl) (λ book. refl)
     (λ book is. cc is) c.in_err-closes.ensures.days
 
+pub returns-in_err-credits : goal.returns-in_err-credits
+returns-in_err-credits g c =
+    refused_next c.from_residual-in_err-credits.result c.from_residual-in_err-credits.ensures.1
+    (λ book. refl) (λ book. refl) (λ book known is. cc is)
+    (shown (λ book. refl) c.in_ok-closes.ensures.days) c.in_err-credits.ensures
+
 pub loop-before-init : goal.loop-before-init
 loop-before-init g c =
     shown_as
-    (λ book said. record {
-      closed = said;
+    (λ book known. record {
+      closed = known.first;
+      credited = known.next;
       figures = ap (map figures_seen) c.new-periods.ensures.items;
     })
-    (shown (λ book. refl) c.in_ok-closes.ensures.days)
+    (both_shown (λ book. refl) (shown (λ book. refl) c.in_ok-closes.ensures.days)
+    c.in_ok-credits.ensures)
 
 -- the figures of a period are refused
 pub returns-in_err-figures : goal.returns-in_err-figures
@@ -42,7 +50,7 @@ loop-before-preserved g c =
     then_shown (λ book. refl)
     (λ book known said. period_known known c.in_ok-figures.figures c.push.new.self.items said
     c.in_ok-push.ensures.items)
-    it (rw it.work.naming at c.in_ok-figures.ensures)
+    it (rw (it.work.naming, c.deref-in-loop-before.ensures.value) at c.in_ok-figures.ensures)
 
 -- the tariffs are refused, or the disputes
 pub returns-in_err-kept : goal.returns-in_err-kept

@@ -1,5 +1,7 @@
-use Rattle.std.proofs.Common.{◌≡◌, ap, map, refl, rules}
-use Rattle.book_model.specs.Words.{dispute_shown, letterhead_shown}
+use Rattle.std.proofs.Common.{◌≡◌, List, ap, map, refl, rules, subst, sym}
+use Rattle.book_model.specs.declared.bill.Credit.{Credit}
+use Rattle.book_model.specs.Words.{credit_shown, dispute_shown, letterhead_shown}
+use Rattle.report_texts.specs.Charges.{FitCredits, plain_credits}
 use Rattle.book_reports.specs.Pages.{page_with}
 use Rattle.book_reports.proofs.PageLemmas.{page_known}
 use Rattle.book_reports.proofs.Words.{period_page_text, shown_by, call_failed, passed_on, answers}
@@ -27,14 +29,26 @@ returns-in_err-lines g c =
     c.in_ok-rows.ensures.rows)
     c.in_err-lines.ensures.lines
 
-pub returns-in_err-disputes : goal.returns-in_err-disputes
-returns-in_err-disputes g c =
-    refused_next c.from_residual-in_err-disputes.result c.from_residual-in_err-disputes.ensures.1
+pub returns-in_err-credits : goal.returns-in_err-credits
+returns-in_err-credits g c =
+    refused_next c.from_residual-in_err-credits.result c.from_residual-in_err-credits.ensures.1
     (λ book. refl) (λ book. refl) (λ book known is. cc is)
     (then_stays (λ book. refl)
     (then_stays (λ book. refl) (shown (λ book. refl) c.in_ok-coverage.ensures)
     c.in_ok-rows.ensures.rows)
     c.in_ok-lines.ensures.lines)
+    c.in_err-credits.ensures.credits
+
+pub returns-in_err-disputes : goal.returns-in_err-disputes
+returns-in_err-disputes g c =
+    refused_next c.from_residual-in_err-disputes.result c.from_residual-in_err-disputes.ensures.1
+    (λ book. refl) (λ book. refl) (λ book known is. cc is)
+    (then_stays (λ book. refl)
+    (then_stays (λ book. refl)
+    (then_stays (λ book. refl) (shown (λ book. refl) c.in_ok-coverage.ensures)
+    c.in_ok-rows.ensures.rows)
+    c.in_ok-lines.ensures.lines)
+    c.in_ok-credits.ensures.credits)
     c.in_err-disputes.ensures.disputes
 
 pub returns-in_err-closes : goal.returns-in_err-closes
@@ -43,12 +57,15 @@ returns-in_err-closes g c =
     (λ book. refl) (λ book. refl) (λ book known is. cc is)
     (then_stays (λ book. refl)
     (then_stays (λ book. refl)
+    (then_stays (λ book. refl)
     (then_stays (λ book. refl) (shown (λ book. refl) c.in_ok-coverage.ensures)
     c.in_ok-rows.ensures.rows)
     c.in_ok-lines.ensures.lines)
+    c.in_ok-credits.ensures.credits)
     c.in_ok-disputes.ensures.disputes)
     c.in_err-closes.ensures.days
 
+-- the tariffs are refused
 pub returns-in_err-kept : goal.returns-in_err-kept
 returns-in_err-kept g c =
     refused_next c.from_residual-in_err-kept.result c.from_residual-in_err-kept.ensures.1
@@ -56,12 +73,20 @@ returns-in_err-kept g c =
     (then_stays (λ book. refl)
     (then_stays (λ book. refl)
     (then_stays (λ book. refl)
+    (then_stays (λ book. refl)
     (then_stays (λ book. refl) (shown (λ book. refl) c.in_ok-coverage.ensures)
     c.in_ok-rows.ensures.rows)
     c.in_ok-lines.ensures.lines)
+    c.in_ok-credits.ensures.credits)
     c.in_ok-disputes.ensures.disputes)
     c.in_ok-closes.ensures.days)
     c.in_err-kept.ensures.tariffs
+
+-- the credits can be shown
+pub period_page-requires-clause-credits : goal.period_page-requires-clause-credits
+period_page-requires-clause-credits g c =
+    subst (λ (credits : List Credit). FitCredits (plain_credits (map credit_shown credits)))
+    (sym c.deref-4.ensures.value) c.in_ok-credits.ensures.fit
 
 -- there is no memory for the page
 pub returns-in_err-page : goal.returns-in_err-page
@@ -72,9 +97,11 @@ returns-in_err-page g c =
     (then_stays (λ book. refl)
     (then_stays (λ book. refl)
     (then_stays (λ book. refl)
+    (then_stays (λ book. refl)
     (then_stays (λ book. refl) (shown (λ book. refl) c.in_ok-coverage.ensures)
     c.in_ok-rows.ensures.rows)
     c.in_ok-lines.ensures.lines)
+    c.in_ok-credits.ensures.credits)
     c.in_ok-disputes.ensures.disputes)
     c.in_ok-closes.ensures.days)
     c.in_ok-kept.ensures.tariffs))
@@ -86,20 +113,23 @@ returns g c =
     let coverage = shown (λ book. refl) c.in_ok-coverage.ensures in
     let rows = both_shown (λ book. refl) coverage c.in_ok-rows.ensures.rows in
     let lines = both_shown (λ book. refl) rows (rw rows.work.naming at c.in_ok-lines.ensures.lines) in
-    let disputes = both_shown (λ book. refl) lines
-    (rw lines.work.naming at c.in_ok-disputes.ensures.disputes) in
+    let credits = both_shown (λ book. refl) lines c.in_ok-credits.ensures.credits in
+    let disputes = both_shown (λ book. refl) credits
+    (rw credits.work.naming at c.in_ok-disputes.ensures.disputes) in
     let closes = both_shown (λ book. refl) disputes c.in_ok-closes.ensures.days in
     let all = both_shown (λ book. refl) closes c.in_ok-kept.ensures.tariffs in
     let made : c.into_bytes.result.items
     ≡ period_page_text c.args.period (letterhead_shown c.in_ok-kept.kept.letterhead)
     c.in_ok-closes.closes.items c.in_ok-rows.rows.items c.in_ok-lines.lines.items
+    (map credit_shown c.in_ok-credits.credits.items)
     (map dispute_shown c.in_ok-disputes.disputes.items) c.in_ok-coverage.coverage.items =
     search rules in
     answers c.into_bytes.result (λ book. refl)
     (λ book known. page_known naming c.args.period c.in_ok-kept.kept c.in_ok-closes.closes.items
     c.in_ok-rows.rows.items c.in_ok-lines.lines.items
+    (map credit_shown c.in_ok-credits.credits.items)
     (map dispute_shown c.in_ok-disputes.disputes.items) c.in_ok-coverage.coverage.items
-    c.into_bytes.result.items book made known.first.first.first.first.first
-    known.first.first.first.first.next known.first.first.first.next known.first.first.next
-    known.first.next known.next)
+    c.into_bytes.result.items book made known.first.first.first.first.first.first
+    known.first.first.first.first.first.next known.first.first.first.first.next
+    known.first.first.first.next known.first.first.next known.first.next known.next)
     all

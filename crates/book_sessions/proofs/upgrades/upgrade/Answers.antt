@@ -1,11 +1,11 @@
 use Rattle.std.proofs.Common.{◌≡◌, false, subst, sym, IfErr, IfOk, Result}
 use Rattle.book_model.specs.Words.{book_after}
 use Rattle.book_restarts.proofs.SessionLemmas.{still_held}
-use Rattle.book_trees.specs.FirstForm.{HasFirstTrees}
+use Rattle.book_trees.specs.OldForms.{HasOldTrees}
 use Rattle.book_trees.specs.LedgerFiles.{HoldsFile, rows_held}
 use Rattle.named_books.specs.declared.repository.Upgraded.{Upgraded}
-use Rattle.book_sessions.specs.Causes.{HaveNoFirstRow, IsToldOfThis, WhyNotUpgraded}
-use Rattle.book_sessions.specs.Openings.{IsFirstFrom, IsFirstOpening}
+use Rattle.book_sessions.specs.Causes.{HaveNoOldRow, IsToldOfThis, WhyNotUpgraded}
+use Rattle.book_sessions.specs.Openings.{IsOldFrom, IsOldOpening}
 use Rattle.book_sessions.proofs.Words.{∥∥₁_elim, ∥∥₁_prop, view, clean_of, IsClean, Image}
 use Rattle.book_sessions.proofs.Words.{file_names, RepositoryFault, has_book, MayFollow}
 use Rattle.book_sessions.specs.Upgrades.{BringsOver, HoldsWhatIsTold, LeavesUpgraded, TellsThisForm}
@@ -13,13 +13,13 @@ use Rattle.book_sessions.specs.declared.ended.Ended.TheVariants.{Closed}
 use Rattle.book_sessions.proofs.Causes.{cause_so, err_so, opened_not_this}
 use Rattle.book_sessions.proofs.Openings.{carried_closed, carried_refused, the_store}
 use Rattle.book_sessions.proofs.SessionParts.{found_clean}
-use Rattle.book_sessions.proofs.UpgradeParts.{brings_over, first_tells, opened_tells}
+use Rattle.book_sessions.proofs.UpgradeParts.{brings_over, old_tells, opened_tells}
 use Rattle.book_sessions.proofs.UpgradeParts.{rows_brought_over, tells_form, told_why, unupgraded}
 use Rattle.book_sessions.proofs.upgrades.upgrade.Goals as goal
 
 pub upgrade_and_close-upgraded-requires : goal.upgrade_and_close-upgraded-requires
 upgrade_and_close-upgraded-requires g c =
-    the_store (λ store. IsClean (view store) → HasFirstTrees (view store)) c.args.opened c.in-Ok.store
+    the_store (λ store. IsClean (view store) → HasOldTrees (view store)) c.args.opened c.in-Ok.store
     c.in-Ok.is c.requires
 
 pub returns-in-Ok-clause-upgraded : goal.returns-in-Ok-clause-upgraded
@@ -28,8 +28,8 @@ returns-in-Ok-clause-upgraded g c = λ found opening.
     let ended = Closed upgraded.result.1 in
     let told = sym c.told_upgraded.ensures in
     let store = c.in-Ok.store in
-    let opened : IsFirstFrom found store =
-    subst (IsFirstOpening g.D.Disk found) c.in-Ok.is opening in
+    let opened : IsOldFrom found store =
+    subst (IsOldOpening g.D.Disk found) c.in-Ok.is opening in
     record {
       history = λ form image may history held.
           subst (λ result. BringsOver file_names history result image) told
@@ -60,7 +60,7 @@ returns-in-Ok-clause-upgraded g c = λ found opening.
       refused = subst (λ result. IfErr result (WhyNotUpgraded g.D.Disk found ended)) told
           (told_why (WhyNotUpgraded g.D.Disk found ended) upgraded.result.0
           (err_so upgraded.result.0 upgraded.ensures.refused (λ fault cause honest.
-          cause_so (has_book (view store).trees ≡ false) (HaveNoFirstRow found) ⊥ ⊥
+          cause_so (has_book (view store).trees ≡ false) (HaveNoOldRow found) ⊥ ⊥
           (λ none held. subst (λ trees. has_book trees ≡ false)
           (opened.shows (clean_of _ (upgraded.ensures.clean honest)) held) none)
           (λ never. never) fault (cause honest))));
@@ -76,14 +76,14 @@ returns-in-Ok-clause-told g c =
 
 pub returns-in-Err-clause-upgraded : goal.returns-in-Err-clause-upgraded
 returns-in-Err-clause-upgraded g c = λ found opening.
-    let refusal = subst (IsFirstOpening g.D.Disk found) c.in-Err.is opening in
+    let refusal = subst (IsOldOpening g.D.Disk found) c.in-Err.is opening in
     unupgraded g.D.Disk found c.in-Err.fault c.in-Err.files c.not_upgraded.result
     c.not_upgraded.ensures refusal.0 refusal.1 refusal.2 refusal.3
 
 pub returns-in-Err-clause-told : goal.returns-in-Err-clause-told
 returns-in-Err-clause-told g c =
     subst (λ result. IfOk result TellsThisForm) (sym c.not_upgraded.ensures)
-    (first_tells c.in-Err.fault)
+    (old_tells c.in-Err.fault)
 
 pub returns-in-Ok-clause-carried : goal.returns-in-Ok-clause-carried
 returns-in-Ok-clause-carried g c =

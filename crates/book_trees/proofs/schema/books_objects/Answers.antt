@@ -1,6 +1,7 @@
-use Rattle.book_trees.specs.Schema.{books_schema, first_schema}
+use Rattle.std.proofs.Common.{◌∙◌, ap}
+use Rattle.book_trees.specs.Schema.{books_schema, tables_with}
 use Rattle.book_trees.proofs.schema.books_objects.Goals as goal
 
 pub returns : goal.returns
-unfolding books_schema first_schema
-returns c = cc
+unfolding books_schema
+returns c = c.objects_with.ensures ∙ ap tables_with c.choice_object.ensures

@@ -15,3 +15,13 @@ pub returns-in-Adopt : goal.returns-in-Adopt
 returns-in-Adopt g c =
     let asks = c.asked_adoption.ensures (g.F.Inputs.held c.args.inputs.now) in
     search rules
+
+pub returns-in-Withhold : goal.returns-in-Withhold
+returns-in-Withhold g c =
+    let asks = c.asked_withholding.ensures (g.F.Inputs.held c.args.inputs.now) in
+    search rules
+
+pub returns-in-Credit : goal.returns-in-Credit
+returns-in-Credit g c =
+    let asks = c.asked_credit.ensures (g.F.Inputs.held c.args.inputs.now) in
+    search rules

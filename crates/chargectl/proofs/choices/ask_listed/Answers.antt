@@ -4,7 +4,8 @@ use Rattle.chargectl.proofs.choices.ask_listed.Goals as goal
 
 pub returns-in_err-listed : goal.returns-in_err-listed
 returns-in_err-listed g c =
-    not_listed c.args.tried ((g.F.Inputs.held c.args.inputs.now).holds c.args.file.now) c.args.book.now
+    not_listed c.args.tried c.args.withheld
+    ((g.F.Inputs.held c.args.inputs.now).holds c.args.file.now) c.args.book.now
     (g.S.Repository.shelf c.args.repository.now)
     c.from_residual-in_err-listed.result c.in_err-listed.field-0.0
     c.from_residual-in_err-listed.ensures.0 c.from_residual-in_err-listed.ensures.1

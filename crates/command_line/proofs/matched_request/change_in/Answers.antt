@@ -22,8 +22,8 @@ unfolding known_table
 returns-in-tariff-clause-some c =
     λ has others.
     let words = subst (λ n. HasWordsOf n (rows_in c.args.found.now)) c.in-tariff.is has in
-    c.of_books_in.ensures.some words.0 words.1.1.1.1.0
-    (c.tariff_in.ensures.some words.1.0 words.1.1.0 words.1.1.1.0)
+    c.of_books_in.ensures.some words.0 words.1.1.1.1.1.0
+    (c.tariff_in.ensures.some words.1.0 words.1.1.0 words.1.1.1.0 words.1.1.1.1.0)
 
 pub returns-in-import-clause-request : goal.returns-in-import-clause-request
 returns-in-import-clause-request c =
@@ -58,7 +58,8 @@ unfolding known_table
 returns-in-choose-clause-some c =
     λ has others.
     let words = subst (λ n. HasWordsOf n (rows_in c.args.found.now)) c.in-choose.is has in
-    c.choice_in.ensures.some words.0 words.1.1.1.0 words.1.1.1.1.0
+    c.choice_in.ensures.some words.0 words.1.1.1.1.0 words.1.1.1.1.1.0 words.1.1.1.1.1.1.0
+    words.1.1.1.1.1.1.1.0
 
 pub returns-in-adopt-clause-request : goal.returns-in-adopt-clause-request
 returns-in-adopt-clause-request c =
@@ -71,3 +72,18 @@ returns-in-adopt-clause-some c =
     λ has others.
     let words = subst (λ n. HasWordsOf n (rows_in c.args.found.now)) c.in-adopt.is has in
     c.of_books_in-in-adopt.ensures.some words.0 words.1.1.0 (c.ruling_in.ensures.some words.1.0)
+
+pub returns-in-credit-clause-request : goal.returns-in-credit-clause-request
+returns-in-credit-clause-request c =
+    c.of_books_in-in-credit.ensures.request c.args.name.now
+    (subst (λ n. IfSome c.credit_in.result (IsOfBooks n (rows_in c.args.found.now)))
+    (sym c.in-credit.is) c.credit_in.ensures.asked)
+
+pub returns-in-credit-clause-some : goal.returns-in-credit-clause-some
+unfolding known_table
+returns-in-credit-clause-some c =
+    λ has others.
+    let words = subst (λ n. HasWordsOf n (rows_in c.args.found.now)) c.in-credit.is has in
+    c.of_books_in-in-credit.ensures.some words.0 words.1.1.1.1.1.1.0
+    (c.credit_in.ensures.some words.1.0 words.1.1.0 words.1.1.1.0 words.1.1.1.1.0
+    words.1.1.1.1.1.0)

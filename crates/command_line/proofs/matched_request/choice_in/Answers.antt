@@ -1,8 +1,8 @@
-use Rattle.std.proofs.Common.{codes, refl}
+use Rattle.std.proofs.Common.{refl}
 use Rattle.command_line.proofs.matched_request.choice_in.Goals as goal
 
-pub returns-in-None-text_in-clause-request : goal.returns-in-None-text_in-clause-request
-returns-in-None-text_in-clause-request c =
-    c.of_books_in.ensures.request (codes "choose")
-    (c.ruling_in.ensures.asked (codes "choose")
-    (refl, c.in-Some.ensures.text, c.in-None-text_in.ensures.left_out refl) refl)
+pub returns-in-Some-clause-request : goal.returns-in-Some-clause-request
+returns-in-Some-clause-request c = c.dumped_in.ensures.request c.in-Some.ensures.text
+
+pub returns-in-None-clause-request : goal.returns-in-None-clause-request
+returns-in-None-clause-request c = c.chosen_in.ensures.request (c.in-None.ensures.left_out refl)

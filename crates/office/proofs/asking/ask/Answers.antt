@@ -2,7 +2,7 @@ use Rattle.std.proofs.Common.{refl, subst, sym}
 use Rattle.std.specs.Prelude.{None, List, ℕ, Vec}
 use Rattle.std.specs.Global.{Global}
 use Rattle.streams.specs.InputOutput.{reader_seen}
-use Rattle.book_model.specs.Words.{HasDay, RulingAsked, rule_outcome}
+use Rattle.book_model.specs.Words.{MayBeAsked, RulingAsked, rule_outcome}
 use Rattle.book_core.specs.Calls.{Calls}
 use Rattle.book_core.specs.Transition.{IsTransition}
 use Rattle.book_import.specs.Imports.{Imports}
@@ -19,7 +19,7 @@ pub rule-requires : goal.rule-requires
 rule-requires g c =
     let may = subst (λ (asked : Asked).
     IsAskable asked (reader_seen g.R.Read.remaining c.args.source.now)) c.in-Rule.is c.requires in
-    subst HasDay (sym c.lent.ensures) may
+    subst MayBeAsked (sym c.lent.ensures) may
 
 pub returns-in-Rule : goal.returns-in-Rule
 returns-in-Rule g c =

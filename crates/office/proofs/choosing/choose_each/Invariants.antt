@@ -7,8 +7,8 @@ use Rattle.office.proofs.choosing.choose_each.Given as goal
 abbrev pub invariant-loop-name : goal.invariant-loop-name
 invariant-loop-name g l = record {
   chosen : IsTransition (g.L.Ledger.seen l.initial.ledger) (g.L.Ledger.seen l.ledger)
-      (ChoosesEach (g.L.Ledger.seen l.initial.ledger).naming (take l.name-index l.names)
-      l.answers.items None);
+      (ChoosesEach l.withheld (g.L.Ledger.seen l.initial.ledger).naming
+      (take l.name-index l.names) l.answers.items None);
   count : vec_len l.answers ≡ l.name-index;
   room : length l.names ≤ vec_capacity l.answers;
 }

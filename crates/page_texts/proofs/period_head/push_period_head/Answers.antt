@@ -6,8 +6,10 @@ pub returns : goal.returns
 unfolding period_head
 returns c =
     rw (
-      c.push_str-8.ensures,
+      c.push_str-9.ensures,
       c.push_owed.ensures,
+      c.push_str-8.ensures,
+      c.push_credits_figure.ensures,
       c.push_str-7.ensures,
       c.push_money-3.ensures,
       c.push_str-6.ensures,

@@ -33,7 +33,11 @@ loop-choice-preserved g c =
     elim c.if-eq.branch [
       | then-eq+in_ok-push w ↦
           let named : List ℕ → NamedChoice =
-          λ name. record { period = c.choice-item.result.period; name = name } in
+          λ name. record {
+            period = c.choice-item.result.period;
+            name = name;
+            counts = c.choice-item.result.counts;
+          } in
           ap (λ (v : _). v.items) w.named-is ∙ w.in_ok-push.ensures.items
           ∙ ap (λ name. c.loop-choice.named.items ++ named name ∷ []) (w.name_of.ensures
           ∙ ap (name_of (g.N.Naming.name_of c.args.naming.now)) w.deref.ensures.value)

@@ -7,4 +7,6 @@ returns c = record {
   jobs = c.in_ok-of_jobs.ensures;
   late = c.in_ok-late.ensures;
   reversed = c.in_ok-reversed.ensures;
+  credited = c.in_ok-credited.ensures;
+  debited = c.in_ok-debited.ensures;
 }

@@ -12,5 +12,5 @@ returns c =
     ∙ ap (map (charged_by amounts))
     (take_all _ _ c.loop-centre-test.false ∙ c.deref-centre-items.ensures.value
     ∙ c.in_ok-centres.ensures)
-    ∙ all_charged amounts args.steps.now args.jobs.now args.lines.now
-    (centres_of args.steps.now args.jobs.now args.lines.now) c.in_ok-amounts.ensures
+    ∙ all_charged amounts args.steps.now args.jobs.now args.lines.now args.credits.now
+    (centres_of args.steps.now args.jobs.now args.lines.now args.credits.now) c.in_ok-amounts.ensures

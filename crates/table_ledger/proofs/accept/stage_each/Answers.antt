@@ -21,6 +21,8 @@ loop-one-preserved g c =
       ruled = record {
         rulings = ruled.rulings ∙ before.ruled.rulings;
         choices = ruled.choices ∙ before.ruled.choices;
+        replaced = ruled.replaced ∙ before.ruled.replaced;
+        credits = ruled.credits ∙ before.ruled.credits;
       };
       survives = survives_then before.survives stages.survives;
       count = ap length all ∙ length-append c.loop-one.answers.items (c.in-Ok.accepted ∷ [])

@@ -42,4 +42,11 @@ returns-clause-stages g c =
     c.is_full.ensures c.if-is_full.false _ c.in-Some-price_in.ensures.bounds
     (saw_as c.name_of-name.result c.in_default.is c.in_ok-stored.ensures.looks)
     c.in_ok-write_new.ensures.does
-    (record { rulings = refl; choices = refl; held = refl; total = refl })
+    (record {
+      rulings = refl;
+      choices = refl;
+      replaced = refl;
+      credits = refl;
+      held = refl;
+      total = refl;
+    })

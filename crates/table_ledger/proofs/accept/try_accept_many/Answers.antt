@@ -11,4 +11,4 @@ pub returns-in-Err-clause-tries : goal.returns-in-Err-clause-tries
 returns-in-Err-clause-tries g c =
     let ruled = c.stage_many-staged.ensures.ruled in
     uncommitted g.S.Store _ (Err c.in-Err.error) refl c.stage_many-staged.ensures.stages
-    c.in-Err.ensures (remembers_same ruled.rulings ruled.choices refl refl)
+    c.in-Err.ensures (remembers_same ruled.rulings ruled.choices ruled.replaced ruled.credits refl refl)

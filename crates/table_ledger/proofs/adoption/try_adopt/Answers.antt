@@ -33,5 +33,12 @@ returns g c = record {
       c.open_number-period.result c.last_close.result c.open_number-period.ensures.number
       c.last_close.ensures book at))
       c.in_ok-commit_written.ensures
-      (record { rulings = c.adopt.ensures; choices = refl; held = refl; total = refl });
+      (record {
+        rulings = c.adopt.ensures;
+        choices = refl;
+        replaced = refl;
+        credits = refl;
+        held = refl;
+        total = refl;
+      });
 }

@@ -1,17 +1,11 @@
-use Rattle.std.proofs.Common.{◌≡◌, ◌∙◌, ℕ, Option, Some, None, ap, refl}
-use Rattle.book_model.proofs.Std.{get, option_map_or}
-use Rattle.book_core.specs.declared.effects.Effects.{Effects}
-use Rattle.table_model.specs.Words.{put_choice_row, apply, charge_in, ChoiceTable, Tables}
+use Rattle.std.proofs.Common.{◌∙◌, ap}
+use Rattle.book_model.proofs.Std.{get}
+use Rattle.table_model.specs.Words.{put_choice_row, charge_in, ChoiceTable}
 use Rattle.table_ledger.specs.Premises.{IsNext}
+use Rattle.table_ledger.proofs.ChoiceTries.{same_choices}
 use Rattle.table_ledger.proofs.StepLemmas.{does_then}
 use Rattle.table_ledger.proofs.Words.{state, Does}
 use Rattle.table_ledger.proofs.choices.write_choice.Goals as goal
-
--- effects leave the choices alone
-same_choices : (period : ℕ) (withdrawn : Option Effects) (tables : Tables)
-    → (option_map_or (λ gone. apply period gone tables) withdrawn tables).choices ≡ tables.choices
-same_choices period None tables = refl
-same_choices period (Some gone) tables = refl
 
 -- the record before, the chosen one, and the row of the choice
 pub returns : goal.returns

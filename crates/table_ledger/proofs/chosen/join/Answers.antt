@@ -7,8 +7,8 @@ use Rattle.table_ledger.proofs.chosen.join.Goals as goal
 pub returns-in_ok-put : goal.returns-in_ok-put
 returns-in_ok-put g c = record {
   looks =
-      let name = c.args.choice.now.name in
-      looks_known (saw_as name c.in-Some.is c.in_ok-stored.ensures.looks) (λ tables found.
-      joins_found c.args.chosen.now c.put.new.self name c.in-Some.stored tables found
+      let choice = c.args.choice.now in
+      looks_known (saw_as choice.name c.in-Some.is c.in_ok-stored.ensures.looks) (λ tables found.
+      joins_found c.args.chosen.now c.put.new.self choice c.in-Some.stored tables found
       c.in_ok-put.ensures);
 }

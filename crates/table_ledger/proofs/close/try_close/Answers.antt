@@ -36,7 +36,7 @@ returns-in_err-commit_written g c = record {
       (λ book at known. close_is_event c.args.summary.now close.period close.through
       c.last_close-last.result c.requires.day done c.last_close-last.ensures book at))
       c.in_err-commit_written.ensures
-      (remembers_same c.in_ok-reserve_close.ensures.same refl refl refl);
+      (remembers_same c.in_ok-reserve_close.ensures.same refl refl refl refl refl);
 }
 
 pub returns : goal.returns
@@ -55,6 +55,8 @@ returns g c = record {
         rulings = c.put_close.ensures
             ∙ (λ i. with_close (day i) (c.in_ok-reserve_close.ensures.same i));
         choices = refl;
+        replaced = refl;
+        credits = refl;
         held = refl;
         total = refl;
       });

@@ -1,6 +1,7 @@
 use Rattle.std.proofs.Common.{◌≡◌, map, take, filter}
 use Rattle.book_model.specs.Words.{AreDisputes, dispute_shown}
-use Rattle.table_model.specs.Words.{grouped, has_none_charged}
+use Rattle.table_model.specs.Words.{grouped, is_unsettled}
+use Rattle.table_ledger.specs.Adoptions.{IsLast}
 use Rattle.table_ledger.proofs.Words.{state, stored_entry, Saw}
 use Rattle.table_ledger.proofs.disputes.grouped.Given as goal
 
@@ -8,8 +9,8 @@ use Rattle.table_ledger.proofs.disputes.grouped.Given as goal
 abbrev pub invariant-loop-stored : goal.invariant-loop-stored
 invariant-loop-stored g l = record {
   saw : Saw (state g.S.Store l.initial.tables.store) (state g.S.Store l.tables.store) (λ tables.
-      map dispute_shown l.found.items
-      ≡ grouped (filter (has_none_charged tables.records)
-      (map stored_entry (take l.stored-index l.rows))));
+      IsLast l.chosen tables
+      → map dispute_shown l.found.items
+      ≡ grouped (filter (is_unsettled tables) (map stored_entry (take l.stored-index l.rows))));
   shown : AreDisputes (map dispute_shown l.found.items);
 }

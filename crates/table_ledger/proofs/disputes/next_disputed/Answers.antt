@@ -1,10 +1,8 @@
 use Rattle.std.proofs.Common.{ap, refl, subst, sym, ◌∙◌}
-use Rattle.book_model.proofs.Std.{list_any}
-use Rattle.table_model.specs.Words.{rows_with}
+use Rattle.table_ledger.specs.DisputeReads.{is_settled_in}
 use Rattle.table_ledger.proofs.DisputeTries.{PassedTo, next_is, passed_none, passed_on}
 use Rattle.table_ledger.proofs.LooksRefused.{look_given_up, look_refused}
 use Rattle.table_ledger.proofs.TryLemmas.{looks_known, saw_found, saw_none, saw_so, saw_then}
-use Rattle.table_ledger.proofs.Words.{is_charged}
 use Rattle.table_ledger.proofs.disputes.next_disputed.Goals as goal
 
 -- none is passed at first
@@ -14,7 +12,7 @@ identities-init g c =
     subst (λ reached. PassedTo c.args.from.now reached tables) (sym c.in_ok-reached.ensures.items)
     (passed_none c.args.from.now tables))
 
--- none of its records is charged
+-- it is not settled
 pub returns-then-not-settled : goal.returns-then-not-settled
 returns-then-not-settled g c = record {
   looks = looks_known (saw_then (saw_then c.identities.invariant
@@ -22,11 +20,11 @@ returns-then-not-settled g c = record {
       (saw_found c.in_ok-settled.ensures.looks))
       (λ tables known. next_is c.args.from.now c.identities.reached.items tables known.0.0
       c.in-Some.identity.items (rw c.deref.ensures.value at known.0.1)
-      (ap (λ k. list_any is_charged (rows_with k tables.records)) (sym c.deref-in-identities.ensures.value)
+      (ap (is_settled_in tables) (sym c.deref-in-identities.ensures.value)
       ∙ sym known.1 ∙ c.if-not-settled.true));
 }
 
--- it was settled, and is passed
+-- it is settled, and is passed
 pub identities-preserved : goal.identities-preserved
 identities-preserved g c =
     saw_so (saw_then (saw_then c.identities.invariant
@@ -35,7 +33,7 @@ identities-preserved g c =
     (λ tables known. passed_on c.args.from.now c.identities.reached.items tables known.0.0
     c.in-Some.identity.items (rw c.deref.ensures.value at known.0.1) c.push.new.self.items
     c.in_ok-push.ensures.items
-    (ap (λ k. list_any is_charged (rows_with k tables.records)) (sym c.deref-in-identities.ensures.value)
+    (ap (is_settled_in tables) (sym c.deref-in-identities.ensures.value)
     ∙ sym known.1 ∙ c.if-not-settled.false))
 
 -- ---- a look that fails leaves all as it was

@@ -15,15 +15,18 @@ returns-clause-looks g c =
     looks_known (saw_then (saw_then (saw_then (saw_found c.in_ok-row.ensures.looks)
     (saw_found c.in_ok-tariffs.ensures.looks))
     (saw_found c.in_ok-closes.ensures.looks))
-    (saw_found c.in_ok-choices.ensures.looks))
+    (saw_found c.in_ok-counts.ensures.looks))
     (λ (tables : Tables) known.
     let found = ap (option_map book_entry) (sym c.in-Some.is) ∙ known.0.0.0 in
-    recalled_by c.summary_of.result tables c.in-Some.row texts days c.in_ok-choices.choices
+    recalled_by c.summary_of.result tables c.in-Some.row texts days
+    c.in_ok-counts.counts.choices c.in_ok-counts.counts.replaced c.in_ok-counts.counts.credits
     c.summary_of.ensures.shows c.summary_of.ensures.kinds (record {
       book = (let e = found in cc);
       tariffs = ap (map tariff_of) all_texts ∙ known.0.0.1;
       closes = ap (map close_entry) all_days ∙ known.0.1;
-      made = known.1;
+      made = known.1.choices;
+      replaced = known.1.replaced;
+      credits = known.1.credits;
     }))
 
 -- ---- a look that fails leaves all as it was
@@ -43,10 +46,10 @@ returns-in_err-closes-clause-looks g c =
     (saw_then (saw_found c.in_ok-row.ensures.looks) (saw_found c.in_ok-tariffs.ensures.looks))
     c.in_err-closes.ensures.looks
 
-pub returns-in_err-choices-clause-looks : goal.returns-in_err-choices-clause-looks
-returns-in_err-choices-clause-looks g c =
-    look_refused _ c.from_residual-in_err-choices.ensures.0
+pub returns-in_err-counts-clause-looks : goal.returns-in_err-counts-clause-looks
+returns-in_err-counts-clause-looks g c =
+    look_refused _ c.from_residual-in_err-counts.ensures.0
     (saw_then (saw_then (saw_found c.in_ok-row.ensures.looks)
     (saw_found c.in_ok-tariffs.ensures.looks))
     (saw_found c.in_ok-closes.ensures.looks))
-    c.in_err-choices.ensures.looks
+    c.in_err-counts.ensures.looks

@@ -1,4 +1,6 @@
 use Rattle.std.proofs.Common.{◌∙◌, ◌+◌, Some, ap}
+use Rattle.table_model.specs.Words.{amount_under}
+use Rattle.table_ledger.specs.Repricing.{CanCost}
 use Rattle.table_ledger.proofs.NameSums.{names_full, names_last, names_next}
 use Rattle.table_ledger.proofs.Repriced.{room}
 use Rattle.table_ledger.proofs.TryLemmas.{looks_known, saw_found, saw_so, saw_then}
@@ -11,7 +13,8 @@ returns-in_default g c = record {
   looks = looks_known (saw_then c.records.invariant.saw
       (saw_found (rw c.in_default.is at c.in_ok-stored.ensures.looks)))
       (λ tables known.
-      names_last c.args.tariff.now tables c.records.last c.records.cost known.0 known.1
+      names_last (amount_under c.args.tariff.now) (CanCost c.args.tariff.now) tables
+      c.records.last c.records.cost known.0 known.1
       c.records.invariant.small);
 }
 
@@ -26,8 +29,9 @@ returns-in_default-cost_together g c =
       looks = looks_known (saw_then c.records.invariant.saw
           (saw_found (rw c.in-Some.is at c.in_ok-stored.ensures.looks)))
           (λ tables known.
-          names_full terms tables (Some stored.name) sum
-          (names_next terms tables c.records.last c.records.cost known.0 stored sum known.1
+          names_full (amount_under terms) (CanCost terms) tables (Some stored.name) sum
+          (names_next (amount_under terms) (CanCost terms) tables c.records.last c.records.cost
+          known.0 stored sum known.1
           (ap (λ n. c.records.cost + n) c.in_ok-amount.ensures.amount) c.in_ok-amount.ensures.can)
           c.in_default-cost_together.ensures.sum);
     }
@@ -40,7 +44,8 @@ records-preserved g c =
       saw = saw_so (saw_then c.records.invariant.saw
           (saw_found (rw c.in-Some.is at c.in_ok-stored.ensures.looks)))
           (λ tables known.
-          names_next c.args.tariff.now tables c.records.last c.records.cost known.0
+          names_next (amount_under c.args.tariff.now) (CanCost c.args.tariff.now) tables
+          c.records.last c.records.cost known.0
           c.in-Some.stored more known.1
           ((room (c.records.cost + c.in_ok-amount.amount) more
           c.in-Some-cost_together.ensures.sum).1

@@ -44,7 +44,7 @@ returns-in_err-commit_written g c = record {
       c.requires.said naming _ book at c.requires.done c.in-Some.amount known.1 c.utf8.text day
       c.open_number-period.result c.open_number-period.ensures.number))
       c.in_err-commit_written.ensures
-      (remembers_same c.in_ok-own.ensures.same refl refl refl);
+      (remembers_same c.in_ok-own.ensures.same refl refl refl refl refl);
 }
 
 -- the tariff is in force
@@ -65,6 +65,8 @@ returns g c = record {
         rulings = c.put_tariff.ensures ∙ (λ i. with_tariff (Some (c.in_ok-own.ensures.own i)) terms
             (c.in_ok-own.ensures.same i));
         choices = refl;
+        replaced = refl;
+        credits = refl;
         held = refl;
         total = refl;
       });
@@ -92,5 +94,5 @@ returns-in_err-own g c = record {
       untried _ c.from_residual-in_err-own.ensures.0
       (survives_so saw.survives (λ clean trees none. absurd none))
       (λ clean book ready. kept_last (kept_same (saw.seen clean).same))
-      (remembers_same c.in_err-own.ensures.same refl refl refl);
+      (remembers_same c.in_err-own.ensures.same refl refl refl refl refl);
 }

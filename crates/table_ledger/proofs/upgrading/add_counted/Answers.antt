@@ -3,7 +3,7 @@ use Rattle.std.proofs.lemmas.List.{map-append}
 use Rattle.std.specs.BTreeMap.{get}
 use Rattle.book_model.specs.Words.{by_bytes}
 use Rattle.table_model.specs.CountedRead.{charged_before_lines}
-use Rattle.table_ledger.specs.FirstForm.{names_of}
+use Rattle.table_ledger.specs.OldForms.{names_of}
 use Rattle.table_ledger.specs.declared.upgrading.Counted.{Counted}
 use Rattle.table_ledger.proofs.CountedList.{adds_none, adds_one}
 use Rattle.table_ledger.proofs.upgrading.add_counted.Goals as goal

@@ -1,6 +1,6 @@
 use Rattle.std.proofs.Common.{Ok, take}
 use Rattle.table_ledger.proofs.Words.{KeepsSchema, state, Always, Does, names_of}
-use Rattle.table_ledger.specs.FirstForm.{count_each}
+use Rattle.table_ledger.specs.OldForms.{count_each}
 use Rattle.table_ledger.proofs.upgrading.count_each.Given as goal
 
 -- those so far are counted

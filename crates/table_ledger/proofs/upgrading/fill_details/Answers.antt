@@ -1,5 +1,5 @@
 use Rattle.std.proofs.Common.{◌≡◌, List, subst, sym, IsPermutation}
-use Rattle.table_ledger.specs.FirstForm.{names_of, names_read, uncounted}
+use Rattle.table_ledger.specs.OldForms.{names_of, names_read, uncounted}
 use Rattle.table_ledger.specs.declared.upgrading.Counted.{Counted}
 use Rattle.table_ledger.proofs.CountedList.{details_told}
 use Rattle.table_ledger.proofs.StageLemmas.{does_seen}

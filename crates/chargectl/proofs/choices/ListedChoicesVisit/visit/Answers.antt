@@ -10,7 +10,8 @@ returns-clause-done g c =
     let old = c.args.books.now in
     let new = c.choose_each.new.ledger in
     let told = c.choose_each.result in
-    subst (λ names. IsTransition (seen old) (seen new) (ChoosesBy (seen old).naming names told))
+    subst (λ names. IsTransition (seen old) (seen new) (ChoosesBy c.args.self.now.withheld
+    (seen old).naming names told))
     c.deref.ensures.value
-    (choices_made seen old new c.deref.result.now told c.choose_each.ensures.chosen
+    (choices_made c.args.self.now.withheld seen old new c.deref.result.now told c.choose_each.ensures.chosen
     c.choose_each.ensures.none)

@@ -4,10 +4,10 @@ use Rattle.book_model.specs.declared.answer.Ruled.TheVariants.{Done}
 use Rattle.book_model.specs.Words.{terms_ruled, is_too_dear, most_cost, with_tariff}
 use Rattle.book_core.specs.OfficeRulings.{ruled_in}
 use Rattle.plain_ledger.specs.PlainBook.{book_in}
-use Rattle.plain_ledger.specs.Repricing.{cost_anew}
+use Rattle.plain_ledger.specs.Repricing.{cost_anew, price_anew}
 use Rattle.plain_ledger.proofs.RepricingLemmas.{has_room, no_room}
 use Rattle.book_model.proofs.LatestLemmas.{later-before}
-use Rattle.plain_ledger.proofs.TariffLemmas.{later_of, terms_answer-done, total_of-anew}
+use Rattle.plain_ledger.proofs.TariffLemmas.{each_anew, later_of, terms_answer-done, total_of-anew}
 use Rattle.plain_ledger.proofs.plain.PlainLedger.cost_in_force.Given.{Over}
 use Rattle.plain_ledger.proofs.plain.PlainLedger.cost_in_force.Goals.{After-cost_under}
 use Rattle.plain_ledger.proofs.plain.PlainLedger.cost_in_force.Goals as goal
@@ -29,7 +29,9 @@ dear_is g c dear is =
     (later_of (book_in ledger) c.args.text.now terms (ruled g c)) in
     sym is
     ∙ ap (nat_lt most_cost)
-    (sym (total_of-anew ledger.kept (Some c.args.text.now) terms later ledger.rising))
+    (sym (total_of-anew ledger.kept
+    (with_tariff (Some c.args.text.now) terms (book_in ledger).rulings) (price_anew terms)
+    (each_anew ledger.kept (Some c.args.text.now) terms later) ledger.rising))
 
 pub returns-in_default-clause-answer : goal.returns-in_default-clause-answer
 returns-in_default-clause-answer g c =

@@ -1,6 +1,6 @@
 use Rattle.std.proofs.Common.{◌≡◌, ◌∙◌, ◌+◌, [], ◌∷◌, Some, length, sym, subst, ap, length-append}
 use Rattle.book_model.specs.Words.{Rulings, with_close}
-use Rattle.plain_ledger.specs.Plain.{ruled_by, with_choices}
+use Rattle.plain_ledger.specs.Plain.{ruled_by}
 use Rattle.plain_ledger.specs.PlainBook.{book_in}
 use Rattle.plain_ledger.specs.Treatments.{IsPeriodEnd, charges, has_name_in, treatment_at}
 use Rattle.plain_ledger.proofs.BookLemmas.{book-closed, kept_ruled}
@@ -12,12 +12,18 @@ use Rattle.plain_ledger.proofs.plain.PlainLedger.end_period.Goals as goal
 
 -- the rulings then
 ruled : (g : Over) (c : After-put_close g)
-    → ruled_by c.put_close.new.self c.args.self.now.choices.items
+    → ruled_by c.put_close.new.self c.args.self.now.choices.items c.args.self.now.replaced.items
+    c.args.self.now.credits.items
     ≡ with_close c.args.through (book_in c.args.self.now).rulings
 ruled g c =
-    let choices = c.args.self.now.choices.items in
-    ap (with_choices choices) c.put_close.ensures
-    ∙ (λ i. with_choices choices (with_close (day_kept c.args.through c.requires.day i)
+    let book = book_in c.args.self.now in
+    let all : Rulings → Rulings = λ own. record book.rulings {
+      tariffs = own.tariffs;
+      closes = own.closes;
+      adopted = own.adopted;
+    } in
+    ap all c.put_close.ensures
+    ∙ (λ i. all (with_close (day_kept c.args.through c.requires.day i)
     (c.reserve_close.ensures.same i)))
 
 pub returns-clause-book : goal.returns-clause-book
@@ -47,6 +53,8 @@ invariant_of-self-2 g c =
           ledger.posted c.in_ok-posted.posted closed _ c.push.new.self.items
           pushed ledger.named c.in_ok-posted.ensures c.in_ok-treatments.ensures;
       few = ledger.few;
+      few_replaced = ledger.few_replaced;
+      few_credits = ledger.few_credits;
       counted = ap length pushed ∙ length-append closed _
           ∙ ap (λ n. n + 1) ledger.counted
           ∙ sym (length-append (book_in ledger).rulings.closes (c.args.through ∷ []))

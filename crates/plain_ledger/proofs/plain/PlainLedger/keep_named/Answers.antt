@@ -6,7 +6,7 @@ use Rattle.book_model.specs.declared.fault.LedgerFault.TheVariants.{DigestClash}
 use Rattle.book_model.specs.Words.{accept_priced, keep, after_any, most_held, most_cost}
 use Rattle.book_model.specs.Words.{accept_event, by_bytes, same_bytes, price_under, has}
 use Rattle.book_model.proofs.AnswerLemmas.{answers_itself, accept_calls}
-use Rattle.plain_ledger.specs.Plain.{AreBooked, CacheIsHeld, held_in, record_of, ruled_by}
+use Rattle.plain_ledger.specs.Plain.{AreBooked, CacheIsHeld, held_in, record_of}
 use Rattle.plain_ledger.specs.PlainBook.{book_in, book_with}
 use Rattle.plain_ledger.specs.Treatments.{AreNamed, under_name}
 use Rattle.plain_ledger.proofs.AcceptLemmas.{accept_answer-found, accept_answer-missing}
@@ -84,8 +84,7 @@ invariant_of-self-2 g c =
     record {
       rising = c.in_ok-insert.ensures.ordered;
       kept = subst
-          (λ entries. AreBooked names (ruled_by ledger.rulings ledger.choices.items) entries
-          (ledger.total + amount))
+          (λ entries. AreBooked names (book_in ledger).rulings entries (ledger.total + amount))
           (sym c.in_ok-insert.ensures.entries)
           (kept_with ledger.kept ledger.rising c.args.bytes.now c.name_of-name.result
           c.in_ok-held.held c.in-Some-price_in.priced
@@ -110,6 +109,8 @@ invariant_of-self-2 g c =
           (λ other. ap (under_name other) (sym c.in_ok-insert.ensures.entries)
           ∙ c.in_ok-insert.ensures.updates.0 other));
       few = ledger.few;
+      few_replaced = ledger.few_replaced;
+      few_credits = ledger.few_credits;
       counted = ledger.counted;
     }
 

@@ -1,5 +1,6 @@
-use Rattle.std.proofs.Common.{◌∙◌, [], ap, refl}
-use Rattle.plain_ledger.specs.Choices.{last_of}
+use Rattle.std.proofs.Common.{◌∙◌, [], ap, refl, option_map}
+use Rattle.book_model.specs.Words.{Choice}
+use Rattle.plain_ledger.specs.Choices.{last_at, last_of}
 use Rattle.plain_ledger.specs.Plain.{is_shared, rulings_of}
 use Rattle.plain_ledger.proofs.plain.PlainLedger.period_end.Goals as goal
 
@@ -13,6 +14,9 @@ returns g c =
           adopted;
       chosen = λ identity. c.in_ok-last_chosen.ensures identity
           ∙ (λ i. last_of (rulings_of (c.deref.ensures.value i) (adopted i)) identity);
+      counts = λ identity. c.in_ok-last_counts.ensures identity
+          ∙ (λ i. option_map (λ (choice : Choice). choice.counts)
+          (last_at (rulings_of (c.deref-2.ensures.value i) (adopted i)) identity));
       last = c.last_close.ensures;
       through = refl;
     }

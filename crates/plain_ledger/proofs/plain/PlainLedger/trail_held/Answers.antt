@@ -6,7 +6,8 @@ use Rattle.book_model.specs.declared.trail.Turn.{Turn}
 use Rattle.book_model.specs.Words.{IsDay, IsUsage, TrailSeen, choice_named, day_of, identity_by}
 use Rattle.book_model.specs.Words.{in_force, reckoning_by}
 use Rattle.plain_ledger.specs.Choices.{choice_of, is_of}
-use Rattle.plain_ledger.specs.Plain.{entry_has_identity, record_of, rulings_of, variant_at}
+use Rattle.plain_ledger.specs.Plain.{entry_has_identity, record_of, ruled_beside, rulings_of}
+use Rattle.plain_ledger.specs.Plain.{variant_at}
 use Rattle.plain_ledger.specs.PlainBook.{naming_in}
 use Rattle.plain_ledger.proofs.TrailLemmas.{members_dated, trail-answered, trail-missing}
 use Rattle.plain_ledger.proofs.plain.PlainLedger.trail_held.Goals as goal
@@ -14,13 +15,15 @@ use Rattle.plain_ledger.proofs.plain.PlainLedger.trail_held.Goals as goal
 pub returns-in_default-clause-trail : goal.returns-in_default-clause-trail
 returns-in_default-clause-trail g c =
     let ledger = c.args.self.now in
-    trail-missing ledger.rulings ledger.choices.items ledger.kept ledger.rising ledger.posted
+    trail-missing (ruled_beside ledger.rulings ledger.replaced.items ledger.credits.items)
+    ledger.choices.items ledger.kept ledger.rising ledger.posted
     ledger.closed.items c.args.name.now (sym c.in_default.ensures.value)
 
 pub returns-in_default-reckon_in-clause-trail : goal.returns-in_default-reckon_in-clause-trail
 returns-in_default-reckon_in-clause-trail g c =
     let ledger = c.args.self.now in
-    trail-answered ledger.rulings ledger.choices.items ledger.kept ledger.rising ledger.posted
+    trail-answered (ruled_beside ledger.rulings ledger.replaced.items ledger.credits.items)
+    ledger.choices.items ledger.kept ledger.rising ledger.posted
     ledger.closed.items c.args.name.now c.in-Some.held.now (sym c.in-Some.ensures.value) None
     (c.in_default-reckon_in.ensures.value
     ∙ (λ i. option_map (λ terms. reckoning_by terms (c.usage.ensures i))
@@ -50,7 +53,8 @@ returns-clause-trail g c =
       choices = choices;
       life = life;
     } in
-    trail-answered ledger.rulings ledger.choices.items ledger.kept ledger.rising ledger.posted
+    trail-answered (ruled_beside ledger.rulings ledger.replaced.items ledger.credits.items)
+    ledger.choices.items ledger.kept ledger.rising ledger.posted
     ledger.closed.items c.args.name.now held (sym c.in-Some.ensures.value) (Some reckoning)
     (c.in-Some-reckon_in.ensures.value
     ∙ (λ i. option_map (λ terms. reckoning_by terms (c.usage.ensures i))

@@ -8,7 +8,7 @@ use Rattle.table_ledger.proofs.chosen.Chosen.put.Goals as goal
 pub returns : goal.returns
 returns c other =
     ap (lookup _) c.in_ok-insert.ensures.entries
-    ∙ lookup-insert_entry (λ key. key.items) other c.args.identity c.args.name
-    c.args.self.now.names.entries
-    ∙ ap (λ b. cond b (Some c.args.name) (last_chosen c.args.self.now other))
+    ∙ lookup-insert_entry (λ key. key.items) other c.args.identity c.args.choice
+    c.args.self.now.lasts.entries
+    ∙ ap (λ b. cond b (Some c.args.choice) (last_chosen c.args.self.now other))
     (sym (texts_ties other c.args.identity.items))

@@ -11,4 +11,4 @@ returns-in-Ok-clause-books g c = λ clean rest none.
     (λ (trees : Trees). g.met.S.Store.settled c.make_books.new.tables.store trees) clean
     (c.in-Ok.ensures.makes.made clean (subst (λ store. IsAtRest (g.S.Store.view store)) given rest)
     (subst (λ store. HasNoRows (g.S.Store.view store).trees) given none))
-    c.new.ensures refl refl refl
+    c.new.ensures refl refl refl refl refl

@@ -7,7 +7,7 @@ pub returns-then-not-branch : goal.returns-then-not-branch
 returns-then-not-branch g c = record {
   looks = looks_found g.S.Store c.find_row.ensures.quiet c.in_ok-find_row.ensures.same
       (λ clean tables holds. choice_missing c.args.number tables holds.choices
-      c.in_ok-choice_key.ensures.made (c.in_ok-find_row.ensures.found clean) c.if-not-branch.true);
+      c.in_ok-ruling_key.ensures.made (c.in_ok-find_row.ensures.found clean) c.if-not-branch.true);
 }
 
 -- the row of the number is read
@@ -15,6 +15,6 @@ pub returns : goal.returns
 returns g c = record {
   looks = looks_found g.S.Store c.find_row.ensures.quiet c.in_ok-find_row.ensures.same
       (λ clean tables holds. choice_found c.args.number tables holds.choices
-      c.in_ok-choice_key.ensures.made (c.in_ok-find_row.ensures.found clean)
+      c.in_ok-ruling_key.ensures.made (c.in_ok-find_row.ensures.found clean)
       c.in_ok-read_choice.field-0 c.if-not-branch.false c.in_ok-read_choice.ensures.says);
 }

@@ -1,4 +1,5 @@
-use Rattle.tree_tables.proofs.ChoiceRows.{number_none, number_read}
+use Rattle.tree_tables.proofs.LastNumbers.{number_none, number_read}
+use Rattle.tree_tables.proofs.Layouts.{choice_layout}
 use Rattle.tree_tables.proofs.Looking.{looks_found, looks_read}
 use Rattle.tree_tables.proofs.tables.TreeTables.last_choice.Goals as goal
 
@@ -6,7 +7,8 @@ use Rattle.tree_tables.proofs.tables.TreeTables.last_choice.Goals as goal
 pub returns-then-not-branch : goal.returns-then-not-branch
 returns-then-not-branch g c = record {
   looks = looks_found g.S.Store c.last_row.ensures.quiet c.in_ok-last_row.ensures.same
-      (λ clean tables holds. number_none tables.choices _ c.last_row.new.row holds.choices
+      (λ clean tables holds.
+      number_none choice_layout.rest tables.choices _ c.last_row.new.row holds.choices
       (rw c.if-not-branch.true at (c.in_ok-last_row.ensures.found clean)));
 }
 
@@ -15,7 +17,7 @@ pub returns : goal.returns
 returns g c = record {
   looks = looks_read g.S.Store c.number_at.result c.last_row.ensures.quiet
       c.in_ok-last_row.ensures.same c.number_at.ensures.read
-      (λ number says clean tables holds. number_read tables.choices _ c.last_row.new.row
-      holds.choices number
+      (λ number says clean tables holds.
+      number_read choice_layout.rest tables.choices _ c.last_row.new.row holds.choices number
       (rw c.if-not-branch.false at (c.in_ok-last_row.ensures.found clean)) says);
 }

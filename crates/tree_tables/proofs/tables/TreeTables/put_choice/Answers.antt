@@ -12,7 +12,7 @@ returns g c = record {
       (λ clean. (c.in_ok-add_row.ensures.done clean).only)
       c.add_row-2.ensures.quiet c.add_row-2.ensures.kept c.add_row-2.ensures.done
       (λ clean rewritten tables holds new.
-      choice_added c.args.number c.args.name.now c.args.period
+      choice_added c.args.number c.args.name.now c.args.counts c.args.period
       (c.in_ok-add_row.ensures.done (clean_before ghosts c.add_row-2.ensures.quiet clean))
       rewritten c.in_ok-choice_row.ensures c.in_ok-choice_name_row.ensures holds new);
 }

@@ -1,0 +1,20 @@
+use Rattle.std.proofs.Common.{refl}
+use Rattle.table_model.specs.Steps.{put_credit_row}
+use Rattle.table_model.specs.Tables.{Tables}
+use Rattle.tree_tables.specs.Stored.{credit_given}
+use Rattle.tree_tables.proofs.Holding.{table_put}
+use Rattle.tree_tables.proofs.Layouts.{credit_layout}
+use Rattle.tree_tables.proofs.Looking.{does_alone}
+use Rattle.tree_tables.proofs.tables.TreeTables.put_credit.Goals as goal
+
+pub returns : goal.returns
+returns g c =
+    let number = c.args.number in
+    let given = credit_given c.args.credit.now in
+    record {
+      does = does_alone g.S.Store c.put_row.result c.put_row.ensures.quiet c.put_row.ensures.kept
+          c.put_row.ensures.puts (λ clean puts. table_put credit_layout
+          (λ (tables : Tables). tables.credits) number given (put_credit_row number given) puts
+          c.in_ok-ruling_key.ensures.made c.in_ok-credit_row.ensures
+          (λ tables holds. holds.credits) (λ tables. refl) (λ tables placed. placed));
+    }
