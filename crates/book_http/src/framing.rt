@@ -4,7 +4,7 @@ ghost use Rattle.std.specs.Prelude.{◌≡◌, All, length, map};
 ghost use Rattle.httparse.specs.Spans.{IsHeaderWithin, header_bytes};
 ghost use Rattle.book_http.specs.Framing as spec;
 
-use crate::decimal_value::decimal_value;
+use crate::numbers::decimal_value;
 use httparse::spans::HeaderSpan;
 
 /// What a head says of its body's length.

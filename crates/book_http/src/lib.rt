@@ -5,7 +5,6 @@ mod answer;
 mod answer_head;
 mod asked;
 mod body;
-mod decimal_value;
 mod endpoint;
 mod framing;
 mod head;
@@ -13,6 +12,7 @@ mod host;
 mod laws;
 mod method;
 mod notice;
+mod numbers;
 mod office_answers;
 mod request;
 mod requested;
@@ -25,10 +25,10 @@ mod status;
 
 pub use answer::Answer;
 pub use asked::Asked;
-pub use decimal_value::decimal_value;
 pub use laws::{
     answers_are_one, request_twice_is_once, requests_are_mended, requests_make_history,
 };
+pub use numbers::decimal_value;
 pub use office_answers::{answer_report, ask_office};
 pub use requested::read_request;
 pub use routes::Routes;

@@ -6,8 +6,8 @@ ghost use Rattle.book_http.specs.declared.endpoint.Endpoint.{Endpoint};
 ghost use Rattle.book_http.specs.Paths.{IsPathOf};
 ghost use Rattle.book_http.specs.Routes as spec;
 
-use crate::decimal_value::decimal_value;
 use crate::endpoint::{Endpoint, front_of, shape_of};
+use crate::numbers::decimal_value;
 use crate::routes::Routes;
 use book_reports::name_of_text;
 use office::centre_named;

@@ -17,7 +17,7 @@ use Rattle.book_audit.specs.declared.audited.Audited.{Audited}
 use Rattle.book_audit.specs.declared.audited.Audited.TheVariants.{Sound, Unsound}
 use Rattle.book_http.specs.declared.served.Served.{Served}
 use Rattle.book_http.specs.declared.served.Served.TheVariants as served
-use Rattle.book_import.specs.declared.dump_names.DumpNames.{DumpNames}
+use Rattle.book_import.specs.declared.names_in_dumps.DumpNames.{DumpNames}
 use Rattle.book_lists.specs.declared.fault.ReportFault.{ReportFault}
 use Rattle.book_lists.specs.Streamed.{WritesUntilOrRefuses}
 use Rattle.office.specs.declared.choosing.Chosen.{Chosen}

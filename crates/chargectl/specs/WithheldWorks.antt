@@ -9,7 +9,7 @@ use Rattle.book_model.specs.Words.{Naming}
 use Rattle.book_core.specs.Words.{Transition}
 use Rattle.book_import.specs.DumpNames.{AreNamed}
 use Rattle.book_import.specs.ReadLimits.{most_reads}
-use Rattle.book_import.specs.declared.dump_names.DumpNames.{DumpNames}
+use Rattle.book_import.specs.declared.names_in_dumps.DumpNames.{DumpNames}
 use Rattle.book_import.specs.declared.receipt.Stop.{Stop}
 use Rattle.book_import.specs.declared.receipt.Stop.TheVariants.{Ledger}
 use Rattle.book_reports.specs.ReceiptLines.{withheld_line_text}

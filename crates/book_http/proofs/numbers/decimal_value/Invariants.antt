@@ -1,7 +1,7 @@
 use Rattle.std.proofs.Common.{◌≡◌, take, true}
 use Rattle.book_model.proofs.Std.{list_all}
 use Rattle.book_http.proofs.Words.{is_ascii_digit, AllDigits, digits_value}
-use Rattle.book_http.proofs.decimal_value.decimal_value.Given as goal
+use Rattle.book_http.proofs.numbers.decimal_value.Given as goal
 
 abbrev pub invariant-loop-digit : goal.invariant-loop-digit
 invariant-loop-digit l = record {

@@ -38,7 +38,8 @@ fn push_name<N: Naming>(
     ensures { OnOk result (names.new.items
         ≡ names.old.items ++ name_of (N.name_of naming.now) bytes.now ∷ []) }
 {
-    names.push(name_of(naming, bytes))
+    names.push(name_of(naming, bytes))?;
+    Ok(())
 }
 
 /// The names of records join others.

@@ -2,7 +2,7 @@ use Rattle.std.proofs.Common.{◌∙◌, ◌++◌, ◌∷◌, [], List, ℕ, Vec
 use Rattle.std.proofs.Common.{sym, take, take_all}
 use Rattle.std.proofs.lemmas.List.{map-append, take_more}
 use Rattle.book_model.specs.Records.{name_of}
-use Rattle.book_import.proofs.dump_names.push_names.Goals as goal
+use Rattle.book_import.proofs.names_in_dumps.push_names.Goals as goal
 
 pub loop-one-init : goal.loop-one-init
 loop-one-init g c = sym (append-nil c.args.names.now.items)

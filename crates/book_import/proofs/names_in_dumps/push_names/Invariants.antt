@@ -1,6 +1,6 @@
 use Rattle.std.proofs.Common.{◌≡◌, ◌++◌, ℕ, Vec, Global, map, take}
 use Rattle.book_model.specs.Records.{name_of}
-use Rattle.book_import.proofs.dump_names.push_names.Given as goal
+use Rattle.book_import.proofs.names_in_dumps.push_names.Given as goal
 
 -- the names of the records so far have joined the others
 abbrev pub invariant-loop-one : goal.invariant-loop-one

@@ -10,7 +10,7 @@ use Rattle.book_import.specs.ReadLimits.{cut_of}
 use Rattle.book_import.proofs.FeedLemmas.{stop_is}
 use Rattle.book_import.proofs.NameLemmas.{is_broken, named_here, names_more, names_nothing, stop_broken}
 use Rattle.book_import.proofs.ReachLemmas.{ends_early, ends_late}
-use Rattle.book_import.proofs.dump_names.dump_names.Goals as goal
+use Rattle.book_import.proofs.names_in_dumps.dump_names.Goals as goal
 
 pub loop-init : goal.loop-init
 loop-init g c = record {

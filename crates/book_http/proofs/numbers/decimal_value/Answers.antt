@@ -2,7 +2,7 @@ use Rattle.std.proofs.Common.{rules, arith, ◌≡◌, ◌<◌, get_or, take_all
 use Rattle.std.proofs.lemmas.List.Folds.{list_all_more}
 use Rattle.book_http.proofs.NumberLemmas.{digit_behind_zero, few_digits, next_digit}
 use Rattle.book_http.proofs.Words.{digits_more, digits_value_more, digit_value, is_ascii_digit}
-use Rattle.book_http.proofs.decimal_value.decimal_value.Goals as goal
+use Rattle.book_http.proofs.numbers.decimal_value.Goals as goal
 
 pub overflow_mul-decimal_value : goal.overflow_mul-decimal_value
 overflow_mul-decimal_value c =

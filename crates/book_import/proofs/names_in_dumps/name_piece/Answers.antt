@@ -2,7 +2,7 @@ use Rattle.std.proofs.Common.{ℕ, Vec, Global, subst, sym}
 use Rattle.std.specs.Prelude.{All}
 use Rattle.book_model.specs.Words.{IsUsageRecord}
 use Rattle.book_import.proofs.NameLemmas.{group_named}
-use Rattle.book_import.proofs.dump_names.name_piece.Goals as goal
+use Rattle.book_import.proofs.names_in_dumps.name_piece.Goals as goal
 
 pub push_names-requires : goal.push_names-requires
 push_names-requires g c =

@@ -3,7 +3,7 @@ use Rattle.std.specs.Io.KnownBytes.{Consumes}
 use Rattle.streams.specs.Sources.{reader_of, reads_of, has_failed, has_ended}
 use Rattle.book_import.proofs.FeedLemmas.{HasPassed}
 use Rattle.book_import.proofs.NameLemmas.{AreNamesOf}
-use Rattle.book_import.proofs.dump_names.dump_names.Given as goal
+use Rattle.book_import.proofs.names_in_dumps.dump_names.Given as goal
 
 -- as many reads as turns, none of which failed or was the end; and the names of the records in their bytes
 abbrev pub invariant-loop : goal.invariant-loop
