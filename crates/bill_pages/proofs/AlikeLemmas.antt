@@ -1,22 +1,29 @@
 -- Each row of a bill stands in its text and on its page, and its figures are the same but for commas.
 use Rattle.std.proofs.Common.{◌≡◌, ◌∙◌, ◌<◌, ◌≤◌, ◌-◌, ◌==◌, ◌&&◌, ◌||◌, ℕ, Bool, true, false, not}
 use Rattle.std.proofs.Common.{List, [], ◌∷◌, ◌++◌, Some, ap, append-nil, arith, codes, cond, decimal}
-use Rattle.std.proofs.Common.{if◌then◌else◌, lt-ltb, nat_le, nat_lt, refl, sym}
+use Rattle.std.proofs.Common.{Contains, None, Option, if◌then◌else◌, length, lt-ltb, nat_le, nat_lt, refl}
+use Rattle.std.proofs.Common.{subst, sym, ℤ}
 use Rattle.std.specs.Str.{byte}
 use Rattle.book_model.proofs.Std.{and_parts, list_all, nat_tests}
+use Rattle.book_model.specs.Words.{BillSeen}
+use Rattle.book_model.specs.declared.bill.HeldBack.{HeldBack}
 use Rattle.html_text.specs.Escaping.{escape_byte}
 use Rattle.report_texts.specs.Centres.{centre_title}
 use Rattle.report_texts.specs.Periods.{title_line}
-use Rattle.bill_texts.specs.BillSheets.{centre_parts, centre_sheet}
-use Rattle.bill_texts.specs.BillTexts.{head_lines, sheet_lines}
+use Rattle.bill_texts.specs.BillSheets.{centre_parts, centre_sheet, office_sheet}
+use Rattle.bill_texts.specs.BillTexts.{bill_text, head_lines, office_bill_text, sheet_lines}
 use Rattle.bill_texts.specs.SheetTexts.{parts_text, row_text}
-use Rattle.bill_pages.specs.BillPages.{bill_top, centre_links, check_page, links_end, links_start}
+use Rattle.bill_texts.specs.Sheets.{Fields, PartSeen, PartsSeen, SheetSeen}
+use Rattle.bill_pages.specs.BillPages.{HeadSeen, bill_top, centre_bill_page, centre_links, check_page}
+use Rattle.bill_pages.specs.BillPages.{links_end, links_start, office_bill_page, sums_box}
 use Rattle.bill_pages.specs.Grouped.{digit, grouped, has_comma, in_thousands, whole_length}
-use Rattle.bill_pages.specs.SheetPages.{line_page, parts_page, terms_page}
-use Rattle.bill_pages.specs.ShownAlike.{SheetsAreShownAlike, is_figure_byte, is_kept, without_commas}
-use Rattle.bill_pages.proofs.PageRows.{in_pages}
-use Rattle.bill_pages.proofs.StandLemmas.{behind_three, stands_twice}
-use Rattle.bill_pages.proofs.TextRows.{in_texts}
+use Rattle.bill_pages.specs.SheetPages.{line_page, part_lines, parts_page, terms_page}
+use Rattle.bill_pages.specs.ShownAlike.{SheetsAreShownAlike, StandsIn, is_figure_byte, is_kept}
+use Rattle.bill_pages.specs.ShownAlike.{parts_in, parts_on, terms_in, without_commas}
+use Rattle.bill_pages.proofs.PageRows.{in_pages, in_part_lines, in_terms_page, in_top}
+use Rattle.bill_pages.proofs.StandLemmas.{behind_five, behind_six, behind_three, behind_two}
+use Rattle.bill_pages.proofs.StandLemmas.{stands_twice}
+use Rattle.bill_pages.proofs.TextRows.{in_sheet_lines, in_texts}
 
 -- a digit, a sign and a point lie between these
 above_comma : (b : ℕ) → (((nat_le 48 b && nat_le b 57) || (b == 45)) || (b == 46)) ≡ true → 44 < b
@@ -93,31 +100,138 @@ figures : (figure : List ℕ) → list_all is_figure_byte figure ≡ true
 unfolding grouped
 figures figure all = left_of (whole_length figure) figure all
 
+-- what stands on the sheet of a bill stands in its text
+in_sheet : (part : List ℕ) (front behind : List ℕ) (sheet : SheetSeen) (held : Option HeldBack)
+    → StandsIn part (sheet_lines sheet held)
+    → StandsIn part (front ++ sheet_lines sheet held ++ behind)
+in_sheet part front behind sheet held stands =
+    stands_twice part (sheet_lines sheet held) (front ++ sheet_lines sheet held ++ behind) stands
+    (record { front = front; behind = behind; is = refl })
+
+-- the laws of texts
+parts_in_text : (centre : List ℕ) (period : ℕ) (through : Option ℤ) (bill : BillSeen)
+    (part : PartSeen) (row : Fields) → Contains (parts_in (centre_parts bill)) part
+    → Contains part.rows row
+    → StandsIn (row_text part.layout row) (bill_text centre period through bill)
+parts_in_text centre period through bill part row among its =
+    let front : List ℕ = title_line (centre_title (codes "BILL") centre) period through
+    ++ head_lines period (Some centre) through bill
+    ++ sheet_lines (centre_sheet centre bill) bill.held_back in
+    stands_twice (row_text part.layout row) (parts_text (centre_parts bill))
+    (front ++ parts_text (centre_parts bill)) (in_texts (centre_parts bill) part row among its)
+    (record {
+      front = front;
+      behind = [];
+      is = sym (append-nil (front ++ parts_text (centre_parts bill)));
+    })
+
+sheet_in_text : (centre : List ℕ) (period : ℕ) (through : Option ℤ) (bill : BillSeen)
+    (part : PartSeen) (row : Fields) → Contains (parts_on (centre_sheet centre bill)) part
+    → Contains part.rows row
+    → StandsIn (row_text part.layout row) (bill_text centre period through bill)
+sheet_in_text centre period through bill part row among its =
+    in_sheet (row_text part.layout row)
+    (title_line (centre_title (codes "BILL") centre) period through
+    ++ head_lines period (Some centre) through bill) (parts_text (centre_parts bill))
+    (centre_sheet centre bill) bill.held_back
+    (in_sheet_lines (centre_sheet centre bill) bill.held_back part row among its)
+
+office_in_text : (period : ℕ) (through : Option ℤ) (bill : BillSeen) (part : PartSeen)
+    (row : Fields) → Contains (parts_on (office_sheet bill)) part → Contains part.rows row
+    → StandsIn (row_text part.layout row) (office_bill_text period through bill)
+office_in_text period through bill part row among its =
+    let front : List ℕ = title_line (codes "BILL") period through
+    ++ head_lines period None through bill in
+    let lines : List ℕ = sheet_lines (office_sheet bill) bill.held_back in
+    subst (StandsIn (row_text part.layout row)) (append-nil (front ++ lines))
+    (in_sheet (row_text part.layout row) front [] (office_sheet bill) bill.held_back
+    (in_sheet_lines (office_sheet bill) bill.held_back part row among its))
+
+-- the laws of pages
+parts_in_page : (head : HeadSeen) (sheet : SheetSeen) (parts : PartsSeen) (part : PartSeen)
+    (row : Fields) → Contains (parts_in parts) part → Contains part.rows row
+    → StandsIn (line_page (decimal head.period) part.layout row) (centre_bill_page head sheet parts)
+parts_in_page head sheet parts part row among its =
+    let period : List ℕ = decimal head.period in
+    let front : List ℕ = bill_top head sheet ++ terms_page period sheet ++ check_page sheet in
+    stands_twice (line_page period part.layout row) (parts_page period parts)
+    (front ++ parts_page period parts ++ links_start head ++ centre_links head ++ links_end head)
+    (in_pages period parts part row among its) (record {
+      front = front;
+      behind = links_start head ++ centre_links head ++ links_end head;
+      is = behind_three (front ++ parts_page period parts) (links_start head) (centre_links head)
+          (links_end head);
+    })
+
+box_on_page : (head : HeadSeen) (sheet : SheetSeen) (parts : PartsSeen) (row : Fields)
+    → sheet.sums.total ≡ None → Contains sheet.sums.rows row
+    → StandsIn (sums_box head.letterhead.currency sheet.sums.layout row)
+    (centre_bill_page head sheet parts)
+box_on_page head sheet parts row none its =
+    let period : List ℕ = decimal head.period in
+    stands_twice (sums_box head.letterhead.currency sheet.sums.layout row) (bill_top head sheet)
+    (centre_bill_page head sheet parts) (in_top head sheet row none its) (record {
+      front = [];
+      behind = terms_page period sheet ++ check_page sheet ++ parts_page period parts
+          ++ links_start head ++ centre_links head ++ links_end head;
+      is = behind_six (bill_top head sheet) (terms_page period sheet) (check_page sheet)
+          (parts_page period parts) (links_start head) (centre_links head) (links_end head);
+    })
+
+terms_on_page : (head : HeadSeen) (sheet : SheetSeen) (parts : PartsSeen) (part : PartSeen)
+    (row : Fields) → nat_lt 0 (length sheet.prices.rows) ≡ true
+    → Contains (terms_in sheet) part → Contains part.rows row
+    → StandsIn (line_page (decimal head.period) part.layout row) (centre_bill_page head sheet parts)
+terms_on_page head sheet parts part row priced among its =
+    let period : List ℕ = decimal head.period in
+    stands_twice (line_page period part.layout row) (terms_page period sheet)
+    (centre_bill_page head sheet parts) (in_terms_page period sheet part row priced among its)
+    (record {
+      front = bill_top head sheet;
+      behind = check_page sheet ++ parts_page period parts ++ links_start head
+          ++ centre_links head ++ links_end head;
+      is = behind_five (bill_top head sheet ++ terms_page period sheet) (check_page sheet)
+          (parts_page period parts) (links_start head) (centre_links head) (links_end head);
+    })
+
+sums_on_page : (head : HeadSeen) (sheet : SheetSeen) (row : Fields)
+    → Contains sheet.sums.rows row
+    → StandsIn (line_page (decimal head.period) sheet.sums.layout row) (office_bill_page head sheet)
+sums_on_page head sheet row its =
+    let period : List ℕ = decimal head.period in
+    stands_twice (line_page period sheet.sums.layout row) (part_lines period sheet.sums)
+    (office_bill_page head sheet) (in_part_lines period sheet.sums row its) (record {
+      front = bill_top head sheet;
+      behind = terms_page period sheet ++ links_start head ++ links_end head;
+      is = behind_three (bill_top head sheet ++ part_lines period sheet.sums)
+          (terms_page period sheet) (links_start head) (links_end head);
+    })
+
+terms_on_office_page : (head : HeadSeen) (sheet : SheetSeen) (part : PartSeen) (row : Fields)
+    → nat_lt 0 (length sheet.prices.rows) ≡ true
+    → Contains (terms_in sheet) part → Contains part.rows row
+    → StandsIn (line_page (decimal head.period) part.layout row) (office_bill_page head sheet)
+terms_on_office_page head sheet part row priced among its =
+    let period : List ℕ = decimal head.period in
+    let front : List ℕ = bill_top head sheet ++ part_lines period sheet.sums in
+    stands_twice (line_page period part.layout row) (terms_page period sheet)
+    (office_bill_page head sheet) (in_terms_page period sheet part row priced among its)
+    (record {
+      front = front;
+      behind = links_start head ++ links_end head;
+      is = behind_two (front ++ terms_page period sheet) (links_start head) (links_end head);
+    })
+
 -- the law
 pub sheets_are_shown_alike : SheetsAreShownAlike
 sheets_are_shown_alike = record {
-  text = λ centre period through bill part row among its.
-      let front : List ℕ = title_line (centre_title (codes "BILL") centre) period through
-      ++ head_lines period (Some centre) through bill
-      ++ sheet_lines (centre_sheet centre bill) bill.held_back in
-      stands_twice (row_text part.layout row) (parts_text (centre_parts bill))
-      (front ++ parts_text (centre_parts bill)) (in_texts (centre_parts bill) part row among its)
-      (record {
-        front = front;
-        behind = [];
-        is = sym (append-nil (front ++ parts_text (centre_parts bill)));
-      });
-  page = λ head sheet parts part row among its.
-      let period : List ℕ = decimal head.period in
-      let front : List ℕ = bill_top head sheet ++ terms_page period sheet ++ check_page sheet in
-      stands_twice (line_page period part.layout row) (parts_page period parts)
-      (front ++ parts_page period parts ++ links_start head ++ centre_links head ++ links_end head)
-      (in_pages period parts part row among its)
-      (record {
-        front = front;
-        behind = links_start head ++ centre_links head ++ links_end head;
-        is = behind_three (front ++ parts_page period parts) (links_start head) (centre_links head)
-            (links_end head);
-      });
+  text = parts_in_text;
+  sheet_text = sheet_in_text;
+  office_text = office_in_text;
+  page = parts_in_page;
+  box = box_on_page;
+  terms = terms_on_page;
+  office_sums = sums_on_page;
+  office_terms = terms_on_office_page;
   figures = figures;
 }

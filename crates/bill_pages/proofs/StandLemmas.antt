@@ -12,8 +12,22 @@ three a b c d = simp append_assoc
 four : (a b c d e : List ℕ) → a ++ (b ++ c ++ d) ++ e ≡ a ++ b ++ c ++ (d ++ e)
 four a b c d e = simp append_assoc
 
+pub behind_two : (all a b : List ℕ) → all ++ a ++ b ≡ all ++ (a ++ b)
+behind_two all a b = simp append_assoc
+
 pub behind_three : (all a b c : List ℕ) → all ++ a ++ b ++ c ≡ all ++ (a ++ b ++ c)
 behind_three all a b c = simp append_assoc
+
+pub behind_five : (all a b c d e : List ℕ)
+    → all ++ a ++ b ++ c ++ d ++ e ≡ all ++ (a ++ b ++ c ++ d ++ e)
+behind_five all a b c d e = simp append_assoc
+
+pub behind_six : (all a b c d e f : List ℕ)
+    → all ++ a ++ b ++ c ++ d ++ e ++ f ≡ all ++ (a ++ b ++ c ++ d ++ e ++ f)
+behind_six all a b c d e f = simp append_assoc
+
+pub two_between : (a b c d : List ℕ) → a ++ b ++ c ++ d ≡ a ++ (b ++ (c ++ [])) ++ d
+two_between a b c d = simp (append_assoc, append-nil)
 
 pub in_order : (a b c d e f g : List ℕ) → a ++ b ++ c ++ d ++ e ++ f ++ g
     ≡ a ++ (b ++ (c ++ (d ++ (e ++ (f ++ (g ++ []))))))

@@ -103,12 +103,16 @@ credits_sum laid.CreditedSums row = other_sum (codes "Credits") (text_at row 6)
 credits_sum layout row = []
 
 -- the box: what is owed and booked, and of what
-unfoldable pub sums_box : Option (List ℕ) → Layout → Fields → List ℕ
-sums_box currency layout row =
+unfoldable pub box_start : Option (List ℕ) → Fields → List ℕ
+box_start currency row =
     codes "<dl>\n" ++ main_sum (codes "Owed") (text_at row 4) currency
     ++ main_sum (codes "Booked") (text_at row 5) currency
     ++ other_sum (codes "Charged") (text_at row 1) ++ other_sum (codes "Late") (text_at row 2)
-    ++ other_sum (codes "Reversed") (text_at row 3) ++ credits_sum layout row ++ codes "</dl>\n"
+    ++ other_sum (codes "Reversed") (text_at row 3)
+
+unfoldable pub sums_box : Option (List ℕ) → Layout → Fields → List ℕ
+sums_box currency layout row =
+    box_start currency row ++ credits_sum layout row ++ codes "</dl>\n"
 
 -- of the sums of all centres, or of the one
 abbrev pub box_of : Option (List ℕ) → Layout → List Fields → Option Fields → List ℕ

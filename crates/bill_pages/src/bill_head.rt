@@ -209,11 +209,11 @@ fn push_credits_sum(out: &mut Draft, layout: Layout, row: &StringRecord)
     }
 }
 
-/// Appends the box of sums.
-#[tactic(auto, unfolding(crate::specs::BillPages::sums_box))]
-fn push_sums(out: &mut Draft, currency: &Option<String>, layout: Layout, row: &StringRecord)
+/// Appends what is owed and booked, and of what.
+#[tactic(auto, unfolding(crate::specs::BillPages::box_start))]
+fn push_sums(out: &mut Draft, currency: &Option<String>, row: &StringRecord)
     ensures { out.new ≡ out.old
-        ++ spec.sums_box (option_map (λ text. string_bytes text) currency.now) layout
+        ++ spec.box_start (option_map (λ text. string_bytes text) currency.now)
         (fields_of row.now) }
 {
     out.push_str("<dl>\n");
@@ -222,19 +222,38 @@ fn push_sums(out: &mut Draft, currency: &Option<String>, layout: Layout, row: &S
     push_other_sum(out, "Charged", text_at(row, 1));
     push_other_sum(out, "Late", text_at(row, 2));
     push_other_sum(out, "Reversed", text_at(row, 3));
-    push_credits_sum(out, layout, row);
-    out.push_str("</dl>\n");
 }
 
-/// Appends it, if there was memory to make its sums.
+/// Appends these, if there was memory to make them.
+fn push_made_sums(out: &mut Draft, currency: &Option<String>, row: &RowDraft)
+    ensures { out.new ≡ out.old
+        ++ spec.box_start (option_map (λ text. string_bytes text) currency.now) row.now }
+{
+    match row.whole() {
+        Some(fields) => push_sums(out, currency, fields),
+        None => out.leave_out(&(currency, row)),
+    }
+}
+
+/// Appends what is credited, if there was memory to make it.
+fn push_made_credits(out: &mut Draft, layout: Layout, row: &RowDraft)
+    ensures { out.new ≡ out.old ++ spec.credits_sum layout row.now }
+{
+    match row.whole() {
+        Some(fields) => push_credits_sum(out, layout, fields),
+        None => out.leave_out(&(layout, row)),
+    }
+}
+
+/// Appends the box of sums.
+#[tactic(auto, unfolding(crate::specs::BillPages::sums_box))]
 fn push_box(out: &mut Draft, currency: &Option<String>, layout: Layout, row: &RowDraft)
     ensures { out.new ≡ out.old
         ++ spec.sums_box (option_map (λ text. string_bytes text) currency.now) layout row.now }
 {
-    match row.whole() {
-        Some(fields) => push_sums(out, currency, layout, fields),
-        None => out.leave_out(&((currency, layout), row)),
-    }
+    push_made_sums(out, currency, row);
+    push_made_credits(out, layout, row);
+    out.push_str("</dl>\n");
 }
 
 /// Appends that of each row.

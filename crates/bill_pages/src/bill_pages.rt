@@ -111,7 +111,7 @@ pub fn office_bill_page(
     page.finish()
 }
 
-/// The page of the bill of a centre. Each row of its parts stands there and in the bill's text.
+/// The page of the bill of a centre. Each row of its sheet and its parts stands there and in the bill's text.
 pub fn centre_bill_page(
     alloc: Global,
     head: &PageHead<'_>,

@@ -137,12 +137,12 @@ refused_work naming names fault some held was before events is called = called
 
 -- ---- a change that takes one work, by a call of its own
 
-pub one_refused : {old new : Seen} {names : List (List ℕ)} {name : List ℕ} {fault : LedgerFault}
-    (told : Result Withheld LedgerFault) → told ≡ Err fault → 0 < length names
+pub one_refused : {old new : Seen} {name : List ℕ} {fault : LedgerFault}
+    (names : List (List ℕ)) (told : Result Withheld LedgerFault) → told ≡ Err fault → 0 < length names
     → is_not_held fault ≡ false → first_of names ≡ name
     → IsCall said old new (Err fault) (withhold_outcome old.naming name)
     → IsTransition old new (TakesWorks old.naming names told)
-one_refused {old} {new} {names} {name} {fault} told is some held first called =
+one_refused {old} {new} {name} {fault} names told is some held first called =
     subst (λ told. IsTransition old new (TakesWorks old.naming names told)) (sym is)
     (work_as old new (Calls said (withhold_outcome old.naming name) (Err fault))
     (TakesWorks old.naming names (Err fault))

@@ -1,6 +1,7 @@
 -- The texts of tariffs that others took the place of, as the list of rulings has them.
-use Rattle.std.specs.Prelude.{ℕ, ◌&&◌, ℤ, int_eq, Bool, if◌then◌else◌, List, Option, Some, None, Ok}
+use Rattle.std.specs.Prelude.{ℕ, ◌&&◌, ℤ, Bool, if◌then◌else◌, List, Option, Some, None, Ok}
 use Rattle.std.specs.Prelude.{filter_map, slice_get}
+use Rattle.std.specs.Ordering.{int_eq}
 use Rattle.sha2.specs.Sha256.{sha256}
 use Rattle.book_model.specs.Words.{Book, Naming, Outcome, ReplacedSeen, RulingSeen, no_event}
 use Rattle.book_model.specs.Words.{rulings_listed, same_bytes}

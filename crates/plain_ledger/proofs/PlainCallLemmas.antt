@@ -1,13 +1,15 @@
 -- Calls of a ledger that keeps its books in memory: no store fails, and nothing is left to open.
 use Rattle.std.proofs.Common.{◌≡◌, ◌∙◌, refl, sym, ap, subst, false, true≢false, None, Result, Ok, Err}
-use Rattle.book_model.specs.Words.{Answers, Book, Naming, Outcome, after_any, event_of}
+use Rattle.book_model.specs.Words.{Answers, Book, Naming, Outcome, RulingAsked, after_any, event_of}
+use Rattle.book_model.specs.Words.{rule_outcome}
+use Rattle.book_model.specs.declared.answer.Ruled.{Ruled}
 use Rattle.book_model.specs.declared.fault.LedgerFault.{LedgerFault}
 use Rattle.book_model.specs.declared.fault.LedgerFault.TheVariants.{Memory, Store, Reopen}
 use Rattle.book_model.specs.declared.naming.Naming.{Ghosts}
 use Rattle.book_core.specs.Calls.{IsCall, LeavesOpen, Makes, Reopens, is_reopen, is_store, listed}
 use Rattle.book_core.specs.Ledgers.{in_memory}
 use Rattle.book_core.proofs.MemoryLemmas.{after_listed}
-use Rattle.book_core.proofs.OpenAnswers.{opens}
+use Rattle.book_core.proofs.OpenAnswers.{opens, ruling_open}
 use Rattle.plain_ledger.specs.declared.plain.PlainLedger.{PlainLedger}
 use Rattle.plain_ledger.specs.PlainBook.{IsPlainCall, book_in, naming_in, seen_in}
 
@@ -93,3 +95,15 @@ module _ {N : Type 0} {names : Ghosts N} where
       (sym call.naming)
       (call_in_memory view (names.name_of (naming_in old)) (book_in old) (book_in new) result
       outcome plain call.call.answer call.call.book)
+
+  -- so is a ruling that is asked for
+  pub ruling_call : (old new : PlainLedger N names) (result : Result Ruled LedgerFault)
+      (asked : RulingAsked)
+      → IsPlainCall (λ (ruled : Ruled). ruled) old new result
+      (rule_outcome (names.name_of (naming_in old)) asked)
+      → IsCall (λ (ruled : Ruled). ruled) (seen_in old) (seen_in new) result
+      (rule_outcome (names.name_of (naming_in old)) asked)
+  ruling_call old new result asked call =
+      plain_call (λ (ruled : Ruled). ruled) old new result
+      (rule_outcome (names.name_of (naming_in old)) asked)
+      (ruling_open (names.name_of (naming_in old)) (book_in old) asked) call

@@ -113,7 +113,20 @@ impl<N: Naming + Drop> Ledger for PlainLedger<N> {
     ghost seen = { seen_in };
 
     fn rule(&mut self, ruling: Ruling<'_>) -> Result<Ruled, LedgerFault> {
-        self.make_ruling(ruling)
+        match ruling {
+            Ruling::Tariff(text) => self.put_in_force(text),
+            Ruling::Close { period, through } => self.close_period(period, through),
+            Ruling::Choose(name) => self.choose_named(name),
+            Ruling::Adopt(rule) => self.adopt_rule(rule),
+            Ruling::Replace(text) => self.replace_in_force(text),
+            Ruling::Withhold(name) => self.withhold_named(name),
+            Ruling::Credit {
+                period,
+                centre,
+                amount,
+                reason,
+            } => self.give_credit(period, centre, amount, reason),
+        }
     }
 
     fn accept(&mut self, bytes: &[u8]) -> Result<Accepted, LedgerFault> {

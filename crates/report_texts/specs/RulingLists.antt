@@ -26,6 +26,11 @@ unfoldable pub choice_columns : ℕ → ℕ → List ℕ → List ℕ
 choice_columns number period name =
     decimal number ++ codes " " ++ period_column period ++ codes " " ++ encode_lower name
 
+-- a credit, by its centre and its amount, with its reason
+unfoldable pub reasoned_credit : List ℕ → ℤ → List ℕ → List ℕ
+reasoned_credit centre amount reason =
+    centre ++ codes " " ++ credit_text amount ++ codes " " ++ reason
+
 -- the line of a ruling
 unfoldable pub ruling_line : RulingSeen → List ℕ
 ruling_line (TariffSeen day text) =
@@ -40,8 +45,8 @@ ruling_line (ReplacedSeen day period text) =
     codes "REPLACED " ++ day_text_of day ++ codes " " ++ period_column period ++ codes " "
     ++ file_columns text ++ newline
 ruling_line (CreditSeen number period centre amount reason) =
-    codes "CREDIT " ++ decimal number ++ codes " " ++ period_column period ++ codes " " ++ centre
-    ++ codes " " ++ credit_text amount ++ codes " " ++ reason ++ newline
+    codes "CREDIT " ++ decimal number ++ codes " " ++ period_column period ++ codes " "
+    ++ reasoned_credit centre amount reason ++ newline
 
 -- what stands above the lines
 abbrev pub ruling_list_head : List ℕ

@@ -86,12 +86,12 @@ fn answer_word(answer: Ruled) -> &'static str
 
 /// Appends the first line.
 #[tactic(auto, unfolding(crate::specs::DryRuns::dry_run_head))]
-fn push_head(out: &mut Draft, ruling: TriedRuling, answer: Ruled)
-    requires { NamesDay ruling }
-    ensures { out.new ≡ out.old ++ spec.dry_run_head ruling answer }
+fn push_head(out: &mut Draft, ruling: &TriedRuling, answer: Ruled)
+    requires { NamesDay ruling.now }
+    ensures { out.new ≡ out.old ++ spec.dry_run_head ruling.now answer }
 {
     out.push_str("DRY RUN ");
-    push_ruling(out, ruling);
+    push_ruling(out, *ruling);
     out.push(' ');
     out.push_str(answer_word(answer));
     out.push('\n');
@@ -250,7 +250,7 @@ pub fn dry_run_text(
         ≡ spec.dry_run_text ruling answer period before.now after.now) }
 {
     let mut out = Draft::new(alloc);
-    push_head(&mut out, ruling, answer);
+    push_head(&mut out, &ruling, answer);
     push_figures(&mut out, ruling, answer, period, before, after);
     out.finish()
 }

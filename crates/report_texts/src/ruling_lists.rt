@@ -111,6 +111,18 @@ fn push_replaced(out: &mut Draft, day: i32, period: u16, text: &str)
     out.push('\n');
 }
 
+/// Appends a credit, by its centre and its amount, with its reason.
+#[tactic(auto, unfolding(crate::specs::RulingLists::reasoned_credit))]
+fn push_reasoned_credit(out: &mut Draft, centre: Name, amount: i64, reason: &str)
+    ensures { out.new ≡ out.old ++ spec.reasoned_credit centre amount reason.now }
+{
+    out.push_str(centre.text());
+    out.push(' ');
+    push_credit_amount(out, amount);
+    out.push(' ');
+    out.push_str(reason);
+}
+
 /// Appends the line of a credit.
 #[tactic(auto, unfolding(crate::specs::RulingLists::ruling_line))]
 fn push_credit(out: &mut Draft, number: u32, period: u16, centre: Name, amount: i64, reason: &str)
@@ -122,11 +134,7 @@ fn push_credit(out: &mut Draft, number: u32, period: u16, centre: Name, amount: 
     out.push(' ');
     push_period(out, period);
     out.push(' ');
-    out.push_str(centre.text());
-    out.push(' ');
-    push_credit_amount(out, amount);
-    out.push(' ');
-    out.push_str(reason);
+    push_reasoned_credit(out, centre, amount, reason);
     out.push('\n');
 }
 

@@ -1,8 +1,8 @@
 -- Choices of older forms, whose rows get the mark that they count: a row that has it, and all that do.
-use Rattle.std.proofs.Common.{◌≡◌, ◌==◌, ◌∙◌, ◌||◌, ℕ, pos, List, [], ◌∷◌, Bool, true, false, cond}
-use Rattle.std.proofs.Common.{Option, Some, None, Result, Ok, Err, map, refl, sym, ap, arith, subst}
-use Rattle.std.proofs.Common.{true≢false}
-use Rattle.std.specs.Prelude.{IsErr, OnErr, OnOk, fold, if◌then◌else◌}
+use Rattle.std.proofs.Common.{◌≡◌, ◌==◌, ◌∙◌, ◌||◌, ◌+◌, ◌<◌, ◌≤◌, ℕ, pos, List, [], ◌∷◌, ◌++◌, Bool}
+use Rattle.std.proofs.Common.{true, false, cond, Option, Some, None, Result, Ok, Err, length, map, refl}
+use Rattle.std.proofs.Common.{get_or, sym, ap, arith, subst, take, true≢false}
+use Rattle.std.specs.Prelude.{IsErr, IsOk, OnErr, OnOk, fold, if◌then◌else◌}
 use Rattle.std.specs.Cmp.{nat_cmp_total}
 use Rattle.std.specs.FinMap.{entries, find, get, get-entries, get-insert, insert}
 use Rattle.std.specs.FinMap.{nat_cmp-IsAntisymmetric, same_map}
@@ -10,7 +10,8 @@ use Rattle.std.specs.List.{AllByRecursion, AllZip, list_any}
 use Rattle.std.specs.Option.{option_map}
 use Rattle.std.specs.Ordering.{is_eq, nat_cmp}
 use Rattle.std.proofs.lemmas.Bool.Decides.{nat_tests}
-use Rattle.std.proofs.lemmas.List.{map-id}
+use Rattle.std.proofs.lemmas.List.{map-id, take_all, take_more}
+use Rattle.std.proofs.lemmas.List.Sums.{fold-append}
 use Rattle.std.proofs.lemmas.Map.Views.{tells_apart}
 use Rattle.sqlite_trees.proofs.ListLemmas.{map-map}
 use Rattle.sqlite_trees.specs.Tree.{Trees}
@@ -88,6 +89,40 @@ marks_alone ghosts (Err error) call kept done only holds = record {
   refused = kept;
 }
 
+-- a choice that is marked after others
+pub marks_more : {T : Type 0} {old mid new : State} (all : List OldChoice) (i : ℕ)
+    (other : OldChoice) (result : Result T StoreError) → i < length all
+    → Marks {T = Unit {0}} (Ok tt) old mid (mark_each (take i all)) → IsOk result
+    → Marks result mid new
+    (λ choices. insert choices (get_or all i other).number (marked (get_or all i other)))
+    → Marks {T = Unit {0}} (Ok tt) old new (mark_each (take (i + 1) all))
+marks_more {old = old} {new = new} all i other (Ok value) inside so_far good next = record {
+  survives = survives_both so_far.survives next.survives;
+  done = λ clean.
+      let before = so_far.done (was_clean next.survives clean) in
+      let made = next.done clean in (
+        only_both old.view before.0 made.0,
+        λ tables choices part. subst (HoldsPart new.view.trees tables) (sym (one_more choices))
+            (made.1 tables (mark_each (take i all) choices) (before.1 tables choices part)),
+      );
+  refused = λ clean. tt;
+}
+  where
+    one_more : (choices : ChoiceTable) → mark_each (take (i + 1) all) choices
+        ≡ insert (mark_each (take i all) choices) (get_or all i other).number
+        (marked (get_or all i other))
+    one_more choices =
+        ap (λ some. mark_each some choices) (take_more all i other inside)
+        ∙ fold-append _ choices (take i all) (get_or all i other ∷ [])
+marks_more all i other (Err error) inside so_far good next = absurd (true≢false (sym good))
+
+-- all of them, where the last was marked
+pub marks_whole : {old new : State} (all : List OldChoice) (i : ℕ) → length all ≤ i
+    → Marks {T = Unit {0}} (Ok tt) old new (mark_each (take i all))
+    → Marks {T = Unit {0}} (Ok tt) old new (mark_each all)
+marks_whole {old} {new} all i last =
+    subst (λ some. Marks {T = Unit {0}} (Ok tt) old new (mark_each some)) (take_all i all last)
+
 -- one that fails
 pub marks_err : {T : Type 0} {change : ChoiceTable → ChoiceTable} {old new : State}
     (result : Result T StoreError) → IsErr result → Survives old new (λ trees. ⊥)
@@ -121,7 +156,7 @@ joined : (whole : ChoiceTable) (es : List (ℕ × ChoiceRow)) (m : ChoiceTable)
     → AllByRecursion (λ (e : ℕ × ChoiceRow). get whole e.0 ≡ Some e.1) es
     → ((q : ℕ) → has_number q es ≡ false → get m q ≡ get whole q)
     → (q : ℕ) → get (join_each es m) q ≡ get whole q
-joined whole [] m there rest q = rest q refl
+joined whole [] m there rest = λ q. rest q refl
 joined whole (e ∷ es) m there rest =
     joined whole es (insert m e.0 e.1) there.1 (λ q none.
     get-insert nat_cmp_total m e.0 e.1 q ∙ by q none (is_eq (nat_cmp q e.0)) refl)
@@ -136,12 +171,13 @@ joined whole (e ∷ es) m there rest =
 none_found : (q : ℕ) (es : List (ℕ × ChoiceRow)) → has_number q es ≡ false
     → find nat_cmp q es ≡ None
 none_found q [] none = refl
-none_found q (e ∷ es) none = by (is_eq (nat_cmp q e.0)) refl none
+none_found q (e ∷ es) none = by (is_eq (nat_cmp q e.0)) refl none (none_found q es)
   where
     by : (own : Bool) → is_eq (nat_cmp q e.0) ≡ own → (own || has_number q es) ≡ false
+        → (has_number q es ≡ false → find nat_cmp q es ≡ None)
         → cond own (Some e.1) (find nat_cmp q es) ≡ None
-    by true is none = absurd (cc)
-    by false is none = none_found q es none
+    by true is none later = absurd (true≢false none)
+    by false is none later = later none
 
 -- so the choices of a table that get their mark again are those of the table
 all_joined : (choices : ChoiceTable)

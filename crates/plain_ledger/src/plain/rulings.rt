@@ -1,4 +1,4 @@
-//! Rulings that a plain ledger is asked for: which it is, tariffs, and closes.
+//! Rulings that a plain ledger is asked for: tariffs, and closes.
 
 ghost use Rattle.book_model.specs.RulingAnswers as spec;
 
@@ -6,7 +6,7 @@ use super::PlainLedger;
 use crate::repricing::{cost_under, reprice};
 use crate::treatment::ClosedPeriod;
 use book_core::is_done;
-use book_model::{LedgerFault, Naming, Ruled, Ruling};
+use book_model::{LedgerFault, Naming, Ruled};
 use std::alloc::AllocError;
 use tariff_rules::Tariff;
 
@@ -15,34 +15,11 @@ impl<N: Naming + Drop> PlainLedger<N> {
     ghost use Rattle.std.specs.BTreeMap.{values};
     ghost use Rattle.book_model.specs.Words.{IsDay, TariffAccepted, close, give, last_period};
     ghost use Rattle.book_model.specs.Words.{close_outcome, open_number, tariff_outcome};
-    ghost use Rattle.book_model.specs.Words.{MayBeAsked, rule_outcome, ruling_asked};
     ghost use Rattle.plain_ledger.specs.PlainBook.{IsPlainCall, book_in, naming_in};
     ghost use Rattle.plain_ledger.specs.Repricing.{cost_anew, ruled_by_cost};
 
-    /// Makes a ruling.
-    pub(super) fn make_ruling(&mut self, ruling: Ruling<'_>) -> Result<Ruled, LedgerFault>
-        requires { MayBeAsked (ruling_asked ruling) }
-        ensures { IsPlainCall (λ ruled. ruled) self.old self.new result
-            (rule_outcome (N.name_of (naming_in self.old)) (ruling_asked ruling.entry)) }
-    {
-        match ruling {
-            Ruling::Tariff(text) => self.put_in_force(text),
-            Ruling::Close { period, through } => self.close_period(period, through),
-            Ruling::Choose(name) => self.choose_named(name),
-            Ruling::Adopt(rule) => self.adopt_rule(rule),
-            Ruling::Replace(text) => self.replace_in_force(text),
-            Ruling::Withhold(name) => self.withhold_named(name),
-            Ruling::Credit {
-                period,
-                centre,
-                amount,
-                reason,
-            } => self.give_credit(period, centre, amount, reason),
-        }
-    }
-
     /// Puts the tariff of a file in force.
-    fn put_in_force(&mut self, text: &str) -> Result<Ruled, LedgerFault>
+    pub(super) fn put_in_force(&mut self, text: &str) -> Result<Ruled, LedgerFault>
         ensures { IsPlainCall (λ ruled. ruled) self.old self.new result
             (tariff_outcome text.now) }
     {
@@ -93,7 +70,7 @@ impl<N: Naming + Drop> PlainLedger<N> {
     }
 
     /// Closes the open period.
-    fn close_period(&mut self, period: u16, through: i32) -> Result<Ruled, LedgerFault>
+    pub(super) fn close_period(&mut self, period: u16, through: i32) -> Result<Ruled, LedgerFault>
         requires { IsDay through }
         ensures { IsPlainCall (λ ruled. ruled) self.old self.new result
             (close_outcome period through) }

@@ -9,6 +9,7 @@ returns c =
       c.push_str-3.ensures,
       c.push_draft-2.ensures,
       c.push_str-2.ensures,
+      c.push_credit_style.ensures,
       c.push_bill_style.ensures,
       c.push_str.ensures,
       c.push_draft.ensures,

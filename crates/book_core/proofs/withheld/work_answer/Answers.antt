@@ -9,5 +9,5 @@ returns-then-is_not_held-clause-answer c =
     ∙ ap Err (absent_fault c.in-Err.fault (sym c.is_not_held.ensures ∙ c.if-is_not_held.true))
 
 -- or another fault is told
-pub returns-in-Err-clause-held : goal.returns-in-Err-clause-held
-returns-in-Err-clause-held c = sym c.is_not_held.ensures ∙ c.if-is_not_held.false
+pub returns-else-is_not_held-clause-held : goal.returns-else-is_not_held-clause-held
+returns-else-is_not_held-clause-held c = sym c.is_not_held.ensures ∙ c.if-is_not_held.false

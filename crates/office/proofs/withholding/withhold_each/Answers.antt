@@ -18,8 +18,8 @@ withhold_many-requires g c =
     some_left (length c.loop-rest.rest.now) (sym c.is_empty.ensures ∙ c.loop-rest-test.true)
 
 -- no more are answered than there are
-pub with_taken-requires-clause-few : goal.with_taken-requires-clause-few
-with_taken-requires-clause-few g c =
+pub with_taken-counts-requires-clause-few : goal.with_taken-counts-requires-clause-few
+with_taken-counts-requires-clause-few g c =
     let so = c.loop-rest.invariant in
     let all : length so.passed + length c.loop-rest.rest.now ≡ length c.args.names.now =
     sym (length-append so.passed c.loop-rest.rest.now) ∙ ap length so.parts in
@@ -37,8 +37,8 @@ loop-rest-smaller g c = omega (arith, c.in-Ok.ensures.some, c.split_at.ensures.b
 pub loop-rest-preserved : goal.loop-rest-preserved
 loop-rest-preserved g c =
     passes (g.L.Ledger.seen c.withhold_many.new.self) c.loop-rest.invariant c.in-Ok.told
-    c.with_taken.result c.split_at.result.1.now c.in-Ok.ensures.takes c.with_taken.ensures.value
-    c.with_taken.ensures.answered c.in-Ok.ensures.few c.split_at.ensures.back
+    c.with_taken-counts.result c.split_at.result.1.now c.in-Ok.ensures.takes c.with_taken-counts.ensures.value
+    c.with_taken-counts.ensures.answered c.in-Ok.ensures.few c.split_at.ensures.back
 
 pub returns : goal.returns
 returns g c =

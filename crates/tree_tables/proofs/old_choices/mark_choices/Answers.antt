@@ -17,5 +17,5 @@ returns-clause-marks g c =
     c.mark_these.ensures.marks (λ clean.
     subst (λ some. AllZip SaysOldChoice some c.deref.result.now)
     (ap (λ part. run_of part (trees 8)) c.new-key.ensures ∙ run_whole (trees 8))
-    (subst (λ all. AllZip SaysOldChoice _ all) (sym c.deref.ensures.value)
+    (subst (λ all. AllZip SaysOldChoice (run_of c.new-key.result (trees 8)) all) (sym c.deref.ensures.value)
     (c.in_ok-all.ensures.found clean)))

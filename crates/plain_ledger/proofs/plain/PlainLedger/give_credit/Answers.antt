@@ -14,5 +14,7 @@ keep_credit-requires g c =
     (to_z-of_z w64 c.args.amount c.ranges.amount) in
     let done = sym (c.answer_to_credit-answer.ensures ∙ amount)
     ∙ c.is_done.ensures.done c.if-not-is_done.false in
-    leb-false most_credits (length book.rulings.credits)
-    (credit_passes book c.args.period c.args.centre c.args.amount c.args.reason.now done).room
+    record {
+      room = leb-false most_credits (length book.rulings.credits)
+          (credit_passes book c.args.period c.args.centre c.args.amount c.args.reason.now done).room;
+    }

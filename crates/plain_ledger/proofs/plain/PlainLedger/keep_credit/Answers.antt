@@ -1,8 +1,7 @@
-use Rattle.std.proofs.Common.{◌∙◌, ◌++◌, ◌≤◌, [], ◌∷◌, List, ap, arith, length, map, refl, subst, sym}
-use Rattle.std.proofs.Common.{length-append, w64}
+use Rattle.std.proofs.Common.{◌∙◌, ◌++◌, [], ◌∷◌, List, ap, arith, map, refl, w64}
 use Rattle.std.proofs.lemmas.List.{length-map}
 use Rattle.book_model.proofs.Std.{map-append, to_z-of_z}
-use Rattle.book_model.specs.Words.{Credit, credit_shown, most_credits}
+use Rattle.book_model.specs.Words.{Credit, credit_shown}
 use Rattle.plain_ledger.specs.Plain.{credit_with}
 use Rattle.plain_ledger.specs.PlainBook.{book_in, book_with}
 use Rattle.plain_ledger.proofs.BookLemmas.{kept_ruled}
@@ -22,13 +21,15 @@ returns-clause-book g c =
     ∙ map-append credit_shown credits (c.in_ok-credit.credit ∷ [])
     ∙ ap (λ last. map credit_shown credits ++ last ∷ []) one)
 
-pub invariant_of-self-2 : goal.invariant_of-self-2
-invariant_of-self-2 g c =
+-- one more of them at most
+pub invariant_of-self : goal.invariant_of-self
+invariant_of-self g c =
     let ledger = c.args.self.now in
-    let credits = ledger.credits.items in
-    let long = length-map credits credit_shown in
-    let more = length-append credits (c.in_ok-credit.credit ∷ []) in
-    let room = c.requires in
+    let long = length-map ledger.credits.items credit_shown in
+    let room = c.requires.room in
+    let before = ledger.credits.ok.0 in
+    let after = c.push.new.self.ok.0 in
+    let more = c.push.ensures.upper_bound in
     record {
       rising = ledger.rising;
       kept = kept_ruled _ refl ledger.kept;
@@ -36,7 +37,6 @@ invariant_of-self-2 g c =
       named = ledger.named;
       few = ledger.few;
       few_replaced = ledger.few_replaced;
-      few_credits = subst (λ credits. length credits ≤ most_credits)
-          (sym c.in_ok-push.ensures.items) (omega (arith, long, more, room));
+      few_credits = omega (arith, long, room, before, after, more);
       counted = ledger.counted;
     }

@@ -19,8 +19,8 @@ use Rattle.plain_ledger.proofs.plain.PlainLedger.keep_replacement.Goals.{After-r
 use Rattle.plain_ledger.proofs.plain.PlainLedger.keep_replacement.Goals as goal
 
 -- the tariff to be replaced is there
-pub put_replacement-requires-clause-there : goal.put_replacement-requires-clause-there
-put_replacement-requires-clause-there g c =
+pub put_replacement-was-requires-clause-there : goal.put_replacement-was-requires-clause-there
+put_replacement-was-requires-clause-there g c =
     subst (λ (rulings : Rulings).
     list_any (is_effective c.args.tariff.effective) rulings.tariffs ≡ true)
     (sym c.reserve_tariff.ensures.same)
@@ -38,27 +38,27 @@ repriced g c =
 
 -- the rulings then
 ruled : (g : Over) (c : After-push_reserved g)
-    → ruled_by c.put_replacement.new.self c.args.self.now.choices.items
+    → ruled_by c.put_replacement-was.new.self c.args.self.now.choices.items
     c.push_reserved.new.self.items c.args.self.now.credits.items
     ≡ with_replaced c.args.text.now c.args.tariff (book_in c.args.self.now).rulings
 ruled g c =
     let ledger = c.args.self.now in
     let new : AcceptedTerms =
     record { text = Some (string_bytes c.in_ok-text.text); terms = c.args.tariff } in
-    ruled-replaced c.put_replacement.new.self ledger.rulings ledger.choices.items
+    ruled-replaced c.put_replacement-was.new.self ledger.rulings ledger.choices.items
     ledger.replaced.items c.push_reserved.new.self.items ledger.credits.items c.args.text.now
-    c.args.tariff c.put_replacement.result c.open_number-period.result
-    (c.put_replacement.ensures.put
+    c.args.tariff c.put_replacement-was.result c.open_number-period.result
+    (c.put_replacement-was.ensures.put
     ∙ ap (in_its_place new) c.reserve_tariff.ensures.same
     ∙ ap (λ (text : List ℕ). in_its_place (record { text = Some text; terms = c.args.tariff })
     (ruled_in ledger.rulings)) c.in_ok-text.ensures.ok)
     (ap (λ (rulings : Rulings). filter (is_effective c.args.tariff.effective) rulings.tariffs)
-    (sym c.reserve_tariff.ensures.same) ∙ c.put_replacement.ensures.was)
+    (sym c.reserve_tariff.ensures.same) ∙ c.put_replacement-was.ensures.was)
     (c.open_number-period.ensures.number
     ∙ ap open_by c.reserve_tariff.ensures.same)
     (c.push_reserved.ensures.items
     ∙ ap (λ replaced. replaced ++ record {
-      tariff = c.put_replacement.result;
+      tariff = c.put_replacement-was.result;
       period = c.open_number-period.result;
     } ∷ []) c.reserve.ensures.items)
 
@@ -68,15 +68,15 @@ returns-clause-book g c =
     let at = goal.at.returns-clause-book g c in
     let closed = ledger.closed.items in
     book_stays (repriced g at.After-replace_prices)
-    (ruled_by c.put_replacement.new.self ledger.choices.items c.push_reserved.new.self.items
+    (ruled_by c.put_replacement-was.new.self ledger.choices.items c.push_reserved.new.self.items
     ledger.credits.items) ledger.posted closed
     ∙ ap (λ rulings. book_with rulings ledger.held.entries ledger.posted closed)
     (ruled g at.After-push_reserved)
 
-pub invariant_of-self-3 : goal.invariant_of-self-3
-invariant_of-self-3 g c =
+pub invariant_of-self-2 : goal.invariant_of-self-2
+invariant_of-self-2 g c =
     let ledger = c.args.self.now in
-    let at = goal.at.invariant_of-self-3 g c in
+    let at = goal.at.invariant_of-self-2 g c in
     let names = g.N.Naming.name_of ledger.naming in
     let text = c.args.text.now in
     let terms = c.args.tariff in
@@ -95,7 +95,7 @@ invariant_of-self-3 g c =
     let ruled = sym (ruled g at.After-push_reserved) in
     let put = c.push_reserved.ensures.items
     ∙ ap (λ replaced. replaced ++ record {
-      tariff = c.put_replacement.result;
+      tariff = c.put_replacement-was.result;
       period = c.open_number-period.result;
     } ∷ []) c.reserve.ensures.items in
     record {
@@ -110,7 +110,7 @@ invariant_of-self-3 g c =
       few_replaced =
           let long = length-map ledger.replaced.items replaced_of in
           let more = length-append ledger.replaced.items (record {
-            tariff = c.put_replacement.result;
+            tariff = c.put_replacement-was.result;
             period = c.open_number-period.result;
           } ∷ []) in
           let room = fits.1 in
