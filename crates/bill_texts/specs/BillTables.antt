@@ -68,13 +68,18 @@ unfoldable pub billed_row : ℕ → BilledLine → List ℕ
 billed_row period billed =
     fields_line (decimal period ∷ key_fields billed.line.priced ++ billed_fields billed)
 
--- a credit, with its reason where a line has a job: what it takes off is below 0 here
+-- what a credit comes to, with its reason where a line has a job: what it takes off is below 0 here
+unfoldable pub given_fields : Credit → Fields
+given_fields credit =
+    let plain = plain_credit credit in
+    signed_text plain.debited plain.credited
+    ∷ [] ∷ [] ∷ credit.reason ∷ [] ∷ [] ∷ [] ∷ [] ∷ []
+
+-- its row
 unfoldable pub credit_row : ℕ → Credit → List ℕ
 credit_row period credit =
-    let plain = plain_credit credit in
     fields_line (decimal period ∷ [] ∷ credit.centre ∷ [] ∷ codes "CREDIT" ∷ [] ∷ [] ∷ []
-    ∷ signed_text plain.debited plain.credited
-    ∷ [] ∷ [] ∷ credit.reason ∷ [] ∷ [] ∷ [] ∷ [] ∷ [])
+    ∷ given_fields credit)
 
 -- the prices of a tariff: of a record, of a CPU second and of 1,000 blocks, each where the rows have
 -- what it multiplies. No amount stands there, so all amounts together are what is owed.

@@ -177,14 +177,27 @@ fn add_lines(table: &mut TableDraft, period: u16, billed: &[BilledLine])
     }
 }
 
+/// Adds what a credit comes to, with its reason.
+#[tactic(auto, unfolding(crate::specs::BillTables::given_fields))]
+fn add_given(fields: &mut RowDraft, credit: &Credit)
+    ensures { fields.new ≡ fields.old ++ spec.given_fields (credit_shown credit.now) }
+{
+    let plain = plain_credit(credit);
+    let mut amount = Draft::new(fields.alloc());
+    push_difference(&mut amount, plain.debited, plain.credited);
+    fields.add_draft(&amount);
+    fields.add_str("");
+    fields.add_str("");
+    fields.add_str(credit.reason.as_str());
+    add_blanks(fields);
+    fields.add_str("");
+}
+
 /// Adds the row of a credit.
 #[tactic(auto, unfolding(crate::specs::BillTables::credit_row))]
 fn add_credit(table: &mut TableDraft, period: u16, credit: &Credit)
     ensures { table.new ≡ table.old ++ spec.credit_row period (credit_shown credit.now) }
 {
-    let plain = plain_credit(credit);
-    let mut amount = Draft::new(table.alloc());
-    push_difference(&mut amount, plain.debited, plain.credited);
     let mut fields = RowDraft::new(table.alloc());
     add_number(&mut fields, u64::from(period));
     fields.add_str("");
@@ -192,12 +205,7 @@ fn add_credit(table: &mut TableDraft, period: u16, credit: &Credit)
     fields.add_str("");
     fields.add_str("CREDIT");
     add_blanks(&mut fields);
-    fields.add_draft(&amount);
-    fields.add_str("");
-    fields.add_str("");
-    fields.add_str(credit.reason.as_str());
-    add_blanks(&mut fields);
-    fields.add_str("");
+    add_given(&mut fields, credit);
     add_row(table, &fields);
 }
 

@@ -8,6 +8,7 @@ use Rattle.book_audit.specs.declared.finding.Tree.{Tree}
 use Rattle.book_audit.specs.declared.finding.Tree.TheVariants.{Book, Tariffs, Closes, Records}
 use Rattle.book_audit.specs.declared.finding.Tree.TheVariants.{Days, Lines, Identities, Marks}
 use Rattle.book_audit.specs.declared.finding.Tree.TheVariants.{Choices, ChoiceNames, Details}
+use Rattle.book_audit.specs.declared.finding.Tree.TheVariants.{Credits, Replaced}
 use Rattle.book_audit.specs.Walks.{AreRising, AreWide}
 
 -- a column has bytes,
@@ -31,6 +32,8 @@ IsEntry Days row = ⊥
 IsEntry Lines row = ⊥
 IsEntry Choices row = ⊥
 IsEntry Details row = ⊥
+IsEntry Credits row = ⊥
+IsEntry Replaced row = ⊥
 
 -- the rows are entries, in the order of their keys, and so many
 pub record AreCounted (tree : Tree) (rows : List Row) (count : ℕ) : Type 0 where

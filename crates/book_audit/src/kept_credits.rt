@@ -1,6 +1,6 @@
 //! The credits, one after the other.
 
-ghost use Rattle.std.specs.Prelude.{◌≡◌, IfOk, length, true};
+ghost use Rattle.std.specs.Prelude.{◌≡◌, ◌<◌, ◌≤◌, IfOk, length, true};
 ghost use Rattle.consistent_tables.specs.Consistent.{IsOwnCredit};
 ghost use Rattle.tree_tables.specs.Columns.{credit_columns};
 ghost use Rattle.tree_tables.specs.Stored.{credit_entry};
@@ -11,7 +11,7 @@ use crate::finding::{Place, Tree, Wrong};
 use crate::stop::{Stop, met, unsound};
 use crate::trees::Trees;
 use crate::walk::{MOST_ROWS, Walk, endless};
-use book_core::{CREDIT_END, is_reason};
+use book_core::{is_credit_amount, is_reason};
 use sqlite_trees::error::StoreError;
 use sqlite_trees::store::Store;
 use sqlite_value::row::Row;
@@ -35,16 +35,26 @@ fn credit_in(alloc: Global, row: &Row) -> Result<StoredCredit, StoreError>
     })
 }
 
+/// A period has begun.
+fn has_begun(period: u16, open_period: u16) -> bool
+    ensures { result ≡ true → (0 < period) × (period ≤ open_period) }
+{
+    0 < period && period <= open_period
+}
+
 /// The credit is one that can have been given, in a period that has begun.
 fn may_be_given(credit: &StoredCredit, open_period: u16) -> bool
     ensures { result ≡ true → IsOwnCredit open_period (credit_entry credit.now).1 }
 {
-    1 <= credit.period
-        && credit.period <= open_period
-        && -CREDIT_END < credit.amount
-        && credit.amount < CREDIT_END
-        && credit.amount != 0
-        && is_reason(credit.reason.as_str())
+    // The text of a centre is a name, so it needs no test.
+    let _centre = credit.centre.text();
+    if !has_begun(credit.period, open_period) {
+        return false;
+    }
+    if !is_credit_amount(credit.amount) {
+        return false;
+    }
+    is_reason(credit.reason.as_str())
 }
 
 /// The row is that of the next credit after so many.

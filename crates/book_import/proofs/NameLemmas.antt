@@ -32,11 +32,11 @@ usage_both (one ∷ rest) more =
     by_class class early late = refl
 
 -- the names of the records of a group join those of the text before it
-pub group_named : {naming : Naming} {layout : Layout} {text piece : List ℕ} {group : Group}
+pub group_named : (naming : Naming) {layout : Layout} {text piece : List ℕ} {group : Group}
     {old new : List (List ℕ)} → Gathers layout text piece group
     → new ≡ old ++ map (λ (one : Vec ℕ Global). name_of naming one.items) group.usage.items
     → NamesMore naming layout text piece old new
-group_named {naming} {layout} {text} {piece} {group} {old} {new} gathers added =
+group_named naming {layout} {text} {piece} {group} {old} {new} gathers added =
     λ before.
     let first = (front layout text).records in
     let name : List ℕ → List ℕ = name_of naming in
@@ -63,8 +63,8 @@ names_nothing naming layout joiner names is stands found none = record {
   done = none ∙ sym (ap (λ (f : Front). names_of naming f.records) found);
 }
 
-module _ {naming : Naming} {layout : Layout} {bytes : List ℕ} {joiner : Joining} {names : List (List ℕ)}
-    (passed : HasPassed layout bytes joiner (AreNamesOf naming names)) {piece : List ℕ}
+module _ (naming : Naming) {layout : Layout} {bytes : List ℕ} {joiner : Joining} {names : List (List ℕ)}
+    (passed : HasPassed layout bytes joiner (AreNamesOf naming names)) (piece : List ℕ)
     {more : List (List ℕ)}
     (named : (text : List ℕ) → HasTaken text joiner
     → NamesMore naming joiner.layout text piece names more)

@@ -61,6 +61,7 @@ module _ (one other : Image) (alike : AreAlike one other) where
     pub shown_so : {D : Type 0} {g : Ghosts D} (store : FileStore D g)
         → ((held : HoldsTables (old_schema form) other) → (view store).trees ≡ trees_held held)
         → (old : HoldsOldBooks one) → (view store).trees ≡ old_trees old
+    unfolding old_on
     shown_so store shows old =
         shows (old_on old)
         ∙ ap (λ (form : OlderForm). file_trees page_size (old_schema form) old.held.pages)
@@ -68,10 +69,12 @@ module _ (one other : Image) (alike : AreAlike one other) where
 
     -- where the others do not say that they are of a newer form, neither do the first,
     pub none_newer_so : HoldNoNewer (old_schema form) other → OldNoNewer one
+    unfolding old_on
     none_newer_so within older held = within (old_on (record { form = older; held = held }))
 
     -- and where the first are as a ledger leaves them, so are the others
     pub form_on : HoldsOldForm one → HoldsForm form other
+    unfolding old_on
     form_on old =
         let own : HoldsOldBooks one = record { form = old.form; held = old.own.held } in
         record {

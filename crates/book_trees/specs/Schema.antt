@@ -31,6 +31,13 @@ index_object name table sql = sorted (codes "index") name table sql
 abbrev pub first_table : Wanted
 first_table = table_object (codes "book") book_text
 
+-- the tariffs and the closed periods
+abbrev pub tariff_table : Wanted
+tariff_table = table_object (codes "tariff") tariff_text
+
+abbrev pub closed_table : Wanted
+closed_table = table_object (codes "closed") closed_text
+
 -- the records
 abbrev pub record_table : Wanted
 record_table = table_object (codes "record") record_text
@@ -39,12 +46,27 @@ record_table = table_object (codes "record") record_text
 abbrev pub day_sum_table : Wanted
 day_sum_table = table_object (codes "day_sum") day_sum_text
 
+-- the lines
+abbrev pub line_table : Wanted
+line_table = table_object (codes "line") line_text
+
+-- the indexes on the identities and on the marks of records
+abbrev pub identity_index : Wanted
+identity_index = index_object (codes "record_ident") (codes "record") record_ident_text
+
+abbrev pub charged_index : Wanted
+charged_index = index_object (codes "record_charged") (codes "record") record_charged_text
+
 -- the choices, and those of older forms
 abbrev pub choice_table : Wanted
 choice_table = table_object (codes "choice") choice_text
 
 abbrev pub old_choice_table : Wanted
 old_choice_table = table_object (codes "choice") old_choice_text
+
+-- the index on their names
+abbrev pub choice_name_index : Wanted
+choice_name_index = index_object (codes "choice_name") (codes "choice") choice_name_text
 
 -- the details, the credits, and the tariffs that were replaced
 abbrev pub detail_table : Wanted
@@ -60,15 +82,15 @@ replaced_table = table_object (codes "replaced") replaced_text
 abbrev pub tables_with : Wanted → List Wanted
 tables_with choices =
     first_table
-    ∷ table_object (codes "tariff") tariff_text
-    ∷ table_object (codes "closed") closed_text
+    ∷ tariff_table
+    ∷ closed_table
     ∷ record_table
     ∷ day_sum_table
-    ∷ table_object (codes "line") line_text
-    ∷ index_object (codes "record_ident") (codes "record") record_ident_text
-    ∷ index_object (codes "record_charged") (codes "record") record_charged_text
+    ∷ line_table
+    ∷ identity_index
+    ∷ charged_index
     ∷ choices
-    ∷ index_object (codes "choice_name") (codes "choice") choice_name_text
+    ∷ choice_name_index
     ∷ detail_table
     ∷ credit_table
     ∷ replaced_table

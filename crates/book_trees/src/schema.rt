@@ -2,10 +2,12 @@
 
 ghost use Rattle.std.specs.Prelude.{◌≡◌, map};
 ghost use Rattle.sqlite_store.specs.Catalog.{wanted_of};
-ghost use Rattle.book_trees.specs.Schema.{books_schema, choice_table, credit_table, day_sum_table};
-ghost use Rattle.book_trees.specs.Schema.{detail_table, first_table, index_object, old_choice_table};
-ghost use Rattle.book_trees.specs.Schema.{old_schema, record_table, replaced_table, table_count};
-ghost use Rattle.book_trees.specs.Schema.{table_object, tables_with};
+ghost use Rattle.book_trees.specs.Schema.{books_schema, charged_index, choice_name_index};
+ghost use Rattle.book_trees.specs.Schema.{choice_table, closed_table, credit_table, day_sum_table};
+ghost use Rattle.book_trees.specs.Schema.{detail_table, first_table, identity_index, index_object};
+ghost use Rattle.book_trees.specs.Schema.{line_table, old_choice_table, old_schema, record_table};
+ghost use Rattle.book_trees.specs.Schema.{replaced_table, table_count, table_object, tables_with};
+ghost use Rattle.book_trees.specs.Schema.{tariff_table};
 
 use sqlite_trees::schema::Object;
 use sqlite_trees::store::Shape;
@@ -146,46 +148,88 @@ pub(crate) fn detail_object() -> Object<'static>
     )
 }
 
+/// The table of tariffs.
+fn tariff_object() -> Object<'static>
+    ensures { wanted_of result ≡ tariff_table }
+{
+    table(
+        "tariff",
+        "CREATE TABLE tariff (day INT NOT NULL PRIMARY KEY, body TEXT NOT NULL) STRICT, \
+         WITHOUT ROWID",
+    )
+}
+
+/// The table of closed periods.
+fn closed_object() -> Object<'static>
+    ensures { wanted_of result ≡ closed_table }
+{
+    table(
+        "closed",
+        "CREATE TABLE closed (period INT NOT NULL PRIMARY KEY, through INT NOT NULL) STRICT, \
+         WITHOUT ROWID",
+    )
+}
+
+/// The table of lines.
+fn line_object() -> Object<'static>
+    ensures { wanted_of result ≡ line_table }
+{
+    table(
+        "line",
+        "CREATE TABLE line (period INT NOT NULL, name BLOB NOT NULL, plus INT NOT NULL, \
+         PRIMARY KEY (period, name)) STRICT, WITHOUT ROWID",
+    )
+}
+
+/// The index on the identities of records.
+fn identity_object() -> Object<'static>
+    ensures { wanted_of result ≡ identity_index }
+{
+    index(
+        "record_ident",
+        "record",
+        "CREATE INDEX record_ident ON record (ident)",
+    )
+}
+
+/// The index on the marks of records.
+fn charged_object() -> Object<'static>
+    ensures { wanted_of result ≡ charged_index }
+{
+    index(
+        "record_charged",
+        "record",
+        "CREATE INDEX record_charged ON record (charged, ident)",
+    )
+}
+
+/// The index on the names of choices.
+fn choice_name_object() -> Object<'static>
+    ensures { wanted_of result ≡ choice_name_index }
+{
+    index(
+        "choice_name",
+        "choice",
+        "CREATE INDEX choice_name ON choice (name)",
+    )
+}
+
 /// What a file of books lists, with this table of choices. The tables are numbered in this order,
 /// from 0.
 fn objects_with(choices: Object<'static>) -> [Object<'static>; 13]
-    ensures { map wanted_of result ≡ tables_with (wanted_of choices) }
+    ensures { map wanted_of result ≡ tables_with (wanted_of choices.entry) }
 {
     [
         book_object(),
-        table(
-            "tariff",
-            "CREATE TABLE tariff (day INT NOT NULL PRIMARY KEY, body TEXT NOT NULL) STRICT, \
-             WITHOUT ROWID",
-        ),
-        table(
-            "closed",
-            "CREATE TABLE closed (period INT NOT NULL PRIMARY KEY, through INT NOT NULL) STRICT, \
-             WITHOUT ROWID",
-        ),
+        tariff_object(),
+        closed_object(),
         record_object(),
         day_sum_object(),
-        table(
-            "line",
-            "CREATE TABLE line (period INT NOT NULL, name BLOB NOT NULL, plus INT NOT NULL, \
-             PRIMARY KEY (period, name)) STRICT, WITHOUT ROWID",
-        ),
-        index(
-            "record_ident",
-            "record",
-            "CREATE INDEX record_ident ON record (ident)",
-        ),
-        index(
-            "record_charged",
-            "record",
-            "CREATE INDEX record_charged ON record (charged, ident)",
-        ),
+        line_object(),
+        identity_object(),
+        charged_object(),
         choices,
-        index(
-            "choice_name",
-            "choice",
-            "CREATE INDEX choice_name ON choice (name)",
-        ),
+        choice_name_object(),
         detail_object(),
         credit_object(),
         replaced_object(),

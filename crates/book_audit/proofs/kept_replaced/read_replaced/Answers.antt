@@ -8,7 +8,7 @@ use Rattle.consistent_tables.specs.Consistent.{IsOwnReplaced}
 use Rattle.book_audit.specs.KeptRulings.{replaced_rows, IsReplacedRow}
 use Rattle.book_audit.specs.Looks.{IsLook}
 use Rattle.book_audit.specs.Walks.{HasWalked}
-use Rattle.book_audit.specs.declared.finding.Tree.TheVariants as tree
+use Rattle.book_audit.specs.declared.finding.Tree.TheVariants as kept
 use Rattle.book_audit.proofs.Rows.KeptRulings.{replaced_pushed}
 use Rattle.book_audit.proofs.Walks.Looks.{looked_on, nothing, passed, stopped_on}
 use Rattle.book_audit.proofs.Walks.Steps.{look_back, read_all, read_on}
@@ -49,9 +49,9 @@ tariffs-preserved g c =
           let counted = read.3 in
           let long = length-append all (its.replaced ∷ []) in (
             all ++ its.replaced ∷ [],
-            subst (HasWalked tree.Replaced c.next.new.self.key ((g.S.Store.view start).trees 12))
+            subst (HasWalked kept.Replaced c.next.new.self.key ((g.S.Store.view start).trees 12))
                 (replaced_pushed all its.replaced count row its.is counted)
-                (read_on g.S.Store start mid new tree.Replaced c.tariffs.walk c.next.new.self
+                (read_on g.S.Store start mid new kept.Replaced c.tariffs.walk c.next.new.self
                 c.in_ok-next.field-0 so_far.tree so_far.looks.same call.same
                 c.in_ok-next.ensures.next
                 (λ back. (replaced_rows (so_far.read back).0, (so_far.read back).1)) clean
@@ -74,7 +74,7 @@ returns-then-not-branch-clause-replaced g c clean =
     let few = so_far.few in
     record {
       replaced = read.0;
-      are = read_all g.S.Store start mid next tree.Replaced c.tariffs.walk c.next.new.self
+      are = read_all g.S.Store start mid next kept.Replaced c.tariffs.walk c.next.new.self
           c.in_ok-next.field-0 so_far.tree so_far.looks.same call.same c.in_ok-next.ensures.next
           (λ back. (replaced_rows (so_far.read back).0, (so_far.read back).1)) clean c.if-not-branch.true;
       own = read.2;

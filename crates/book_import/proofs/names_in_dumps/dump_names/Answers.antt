@@ -58,6 +58,7 @@ returns-clause-named g c =
 -- a descriptor has a fault
 pub returns-in-Ok-Some-clause-named : goal.returns-in-Ok-Some-clause-named
 returns-in-Ok-Some-clause-named g c =
+    let naming = g.N.Naming.name_of c.args.naming.now in
     let joins = c.loop.invariant.joins in
     let part = take c.in-Some.count c.read_piece.new.piece in
     let came = c.in-Some.ensures in
@@ -69,13 +70,14 @@ returns-in-Ok-Some-clause-named g c =
     record {
       bytes = joins.0 ++ part;
       taken = Consumes-trans _ _ _ joins.0 part joins.1 came.taken;
-      names = named_here joins.2 named;
-      stop = stop_broken joins.2 named fault breaks (cut_of c.read_piece.new.source);
-      ends = ends_early (is_broken joins.2 named fault breaks) came.failed came.ended;
+      names = named_here naming joins.2 part named;
+      stop = stop_broken naming joins.2 part named fault breaks (cut_of c.read_piece.new.source);
+      ends = ends_early (is_broken naming joins.2 part named fault breaks) came.failed came.ended;
     }
 
 pub loop-preserved : goal.loop-preserved
 loop-preserved g c =
+    let naming = g.N.Naming.name_of c.args.naming.now in
     let joins = c.loop.invariant.joins in
     let part = take c.in-Some.count c.read_piece.new.piece in
     let came = c.in-Some.ensures in
@@ -86,7 +88,7 @@ loop-preserved g c =
       joins = (
         joins.0 ++ part,
         Consumes-trans _ _ _ joins.0 part joins.1 came.taken,
-        names_more joins.2 c.in-Ok-None.ensures.named
+        names_more naming joins.2 part c.in-Ok-None.ensures.named
             (c.in-Ok-None.ensures.taken c.in-Ok-None.field-0-is),
       );
     }

@@ -11,7 +11,7 @@ push_names-requires g c =
 
 pub returns-clause-named : goal.returns-clause-named
 returns-clause-named g c = λ text stood.
-    group_named (c.in_ok-group.ensures.gathers text stood)
+    group_named (g.N.Naming.name_of c.args.naming.now) (c.in_ok-group.ensures.gathers text stood)
     (rw c.deref.ensures.value at c.in_ok-push_names.ensures)
 
 pub returns-clause-taken : goal.returns-clause-taken
