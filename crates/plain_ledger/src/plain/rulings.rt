@@ -2,7 +2,7 @@
 
 ghost use Rattle.book_model.specs.RulingAnswers as spec;
 
-use super::PlainLedger;
+use super::PlainBooks;
 use crate::repricing::{cost_under, reprice};
 use crate::treatment::ClosedPeriod;
 use book_core::is_done;
@@ -10,8 +10,8 @@ use book_model::{LedgerFault, Naming, Ruled, Ruling};
 use std::alloc::AllocError;
 use tariff_rules::Tariff;
 
-impl<N: Naming + Drop> PlainLedger<N> {
-    ghost use Rattle.std.specs.Prelude.{◌≡◌, ◌<◌, IfOk, IfSome, Ok, OnErr, OnOk, Some};
+impl<N: Naming + Drop> PlainBooks<N> {
+    ghost use Rattle.std.specs.Prelude.{◌≡◌, ◌<◌, IfOk, IfSome, None, Ok, OnErr, OnOk, Some};
     ghost use Rattle.std.specs.BTreeMap.{values};
     ghost use Rattle.book_model.specs.Words.{IsDay, TariffAccepted, close, give, last_period};
     ghost use Rattle.book_model.specs.Words.{close_outcome, open_number, tariff_outcome};
@@ -20,10 +20,10 @@ impl<N: Naming + Drop> PlainLedger<N> {
     ghost use Rattle.plain_ledger.specs.Repricing.{cost_anew, ruled_by_cost};
 
     /// Makes a ruling.
-    pub(super) fn make_ruling(&mut self, ruling: Ruling<'_>) -> Result<Ruled, LedgerFault>
+    pub(crate) fn make_ruling(&mut self, ruling: Ruling<'_>) -> Result<Ruled, LedgerFault>
         requires { MayBeAsked (ruling_asked ruling) }
         ensures { IsPlainCall (λ ruled. ruled) self.old self.new result
-            (rule_outcome (N.name_of (naming_in self.old)) (ruling_asked ruling.entry)) }
+            (rule_outcome (N.name_of (naming_in self.old)) None (ruling_asked ruling.entry)) }
     {
         match ruling {
             Ruling::Tariff(text) => self.put_in_force(text),
@@ -44,7 +44,7 @@ impl<N: Naming + Drop> PlainLedger<N> {
     /// Puts the tariff of a file in force.
     fn put_in_force(&mut self, text: &str) -> Result<Ruled, LedgerFault>
         ensures { IsPlainCall (λ ruled. ruled) self.old self.new result
-            (tariff_outcome text.now) }
+            (tariff_outcome None text.now) }
     {
         let tariff = Tariff::parse(self.alloc, text)?;
         match self.cost_in_force(text, &tariff)? {
@@ -96,7 +96,7 @@ impl<N: Naming + Drop> PlainLedger<N> {
     fn close_period(&mut self, period: u16, through: i32) -> Result<Ruled, LedgerFault>
         requires { IsDay through }
         ensures { IsPlainCall (λ ruled. ruled) self.old self.new result
-            (close_outcome period through) }
+            (close_outcome None period through) }
     {
         let answer = self.rulings.close_answer(period, through);
         if !is_done(&answer) {
