@@ -110,17 +110,17 @@ choices_answered naming [] [] (Some refusal) = λ book was events is never. absu
 choices_answered naming [] (ruled ∷ answers) refusal = λ book was events is never. absurd never
 choices_answered naming (name ∷ names) [] None = λ book was events is never. absurd never
 choices_answered naming (name ∷ names) [] (Some refusal) =
-    ruling_answered naming (λ ruled. ruled) (ChoiceAsked name) (Err refusal)
+    ruling_answered naming (λ ruled. ruled) None (ChoiceAsked name) (Err refusal)
 choices_answered naming (name ∷ names) (ruled ∷ answers) refusal =
     then_answered naming (Chooses naming name (Ok ruled)) (ChoosesEach naming names answers refusal)
-    (ruling_answered naming (λ ruled. ruled) (ChoiceAsked name) (Ok ruled))
+    (ruling_answered naming (λ ruled. ruled) None (ChoiceAsked name) (Ok ruled))
     (choices_answered naming names answers refusal)
 
 -- a refusal of open books is the one that the definitions say, unless memory or the store hindered it
 refusal_done : (naming : Naming) (name : List ℕ) (refusal : LedgerFault) (book : Book)
     (events : List Event) (is : Bool) → Chooses naming name (Err refusal) false book events is
     → are_hindered (Some refusal) ≡ false
-    → ((choose_outcome naming name book).answer ≡ Err refusal) × (events ≡ [])
+    → ((choose_outcome naming None name book).answer ≡ Err refusal) × (events ≡ [])
 refusal_done naming name Memory book events is called free = cc free
 refusal_done naming name Store book events is called free = cc free
 refusal_done naming name Reopen book events is called free = let no = called.reopens.reopen in cc no
@@ -148,10 +148,11 @@ choices_done naming [] (ruled ∷ answers) refusal book events is made free = ab
 choices_done naming (name ∷ names) [] None book events is made free = absurd made
 choices_done naming (name ∷ names) [] (Some refusal) book events is made free =
     let done = refusal_done naming name refusal book events is made free in
-    choices_of (choose_outcome naming name book) book (choices_outcome naming names) (Err refusal) done.0
+    choices_of (choose_outcome naming None name book) book (choices_outcome naming names)
+    (Err refusal) done.0
     ∙ ap (λ events. record { answers = []; refusal = Some refusal; events = events }) (sym done.1)
 choices_done naming (name ∷ names) (ruled ∷ answers) refusal book events is made free =
-    let outcome = choose_outcome naming name book in
+    let outcome = choose_outcome naming None name book in
     let one = made.first in
     let still : made.between ≡ false = one.reopens.store in
     let middle : Book = after_all (listed outcome.event) book in

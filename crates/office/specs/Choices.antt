@@ -13,7 +13,7 @@ use Rattle.office.specs.Requests.{Never, Ruling}
 
 -- the record of a name was chosen, and that is the answer
 abbrev pub Chooses : Naming → List ℕ → Result Ruled LedgerFault → Transition
-Chooses naming name told = Calls (λ ruled. ruled) (choose_outcome naming name) told
+Chooses naming name told = Calls (λ ruled. ruled) (choose_outcome naming None name) told
 
 -- The records of names were chosen in turn, each of the book that those before it left, and these are
 -- the answers: one for each name; or those before the first refusal, after which none is chosen.
@@ -53,7 +53,7 @@ choices_after outcome book later =
 abbrev pub choices_outcome : Naming → List (List ℕ) → Book → ChoicesOutcome
 choices_outcome naming [] book = record { answers = []; refusal = None; events = [] }
 choices_outcome naming (name ∷ names) book =
-    choices_after (choose_outcome naming name book) book (choices_outcome naming names)
+    choices_after (choose_outcome naming None name book) book (choices_outcome naming names)
 
 -- a lack of memory, or a fault of the store, is in place of an answer
 abbrev pub are_hindered : Option LedgerFault → Bool

@@ -31,7 +31,7 @@ pub fn choose_each<L: Ledger>(
     // The room for all answers is taken first: if there is too little, the books stay as they were.
     let mut answers = Vec::with_capacity(alloc, names.len())?;
     for name in names {
-        match ledger.choose(*name) {
+        match ledger.choose(*name, &None) {
             Ok(ruled) => answers.push(ruled)?,
             Err(fault) => {
                 return Ok(Chosen {
