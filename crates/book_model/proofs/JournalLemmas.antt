@@ -21,8 +21,10 @@ use Rattle.book_model.specs.JournalLaws.{close_in}
 use Rattle.book_model.specs.JournalLaws.{credit_in, entered, goes_on_in, kept_outside, Stays}
 use Rattle.book_model.specs.JournalLaws.{unjournaled, without_notes}
 use Rattle.book_model.specs.JournalLaws.{ReadsNoJournal, TellsTheSame}
-use Rattle.book_model.specs.JournalLaws.{days_back, newest_first, tariff_in}
+use Rattle.book_model.specs.JournalLaws.{adoption_in, adoption_once, days_back, newest_first}
+use Rattle.book_model.specs.JournalLaws.{tariff_in}
 use Rattle.book_model.specs.Words.{AcceptedTerms, or_new}
+use Rattle.book_model.proofs.AdoptedLemmas.{first_adopted}
 use Rattle.book_model.proofs.ReplacedLemmas.{same_day}
 use Rattle.book_model.proofs.Std.{map-append}
 use Rattle.std.proofs.Common.{map, ℤ}
@@ -806,8 +808,49 @@ tariffs_entered (ImportEnded ending ∷ older) noted =
     (named-ended tariff_in ((λ r k. refl), (λ r e k. refl)) ending) (journal older)
     ∙ tariffs_entered older noted
 
+adoption_entered : (naming : Naming) (history : List Event) → IsMadeByCalls naming history
+    → AreNoted history
+    → entered adoption_in (journal history) ≡ adoption_once (rulings history).adopted
+adoption_entered naming [] made noted = refl
+adoption_entered naming (RecordKept bytes ∷ older) made noted =
+    named-changed adoption_in ((λ r k. refl), (λ r e k. refl)) (keep_in bytes)
+    (named-kept adoption_in ((λ r k. refl), (λ r e k. refl)) bytes) (journal older)
+    ∙ adoption_entered naming older made.1 noted
+adoption_entered naming (PeriodClosed None day ∷ older) made noted = absurd noted
+adoption_entered naming (PeriodClosed (Some note) day ∷ older) made noted =
+    adoption_entered naming older made.1 noted
+adoption_entered naming (RulingGiven None ruling ∷ older) made noted = absurd noted
+adoption_entered naming (RulingGiven (Some note) (TariffAccepted text terms) ∷ older) made noted =
+    adoption_entered naming older made.1 noted
+adoption_entered naming (RulingGiven (Some note) (TariffReplaced text terms) ∷ older) made noted =
+    adoption_entered naming older made.1 noted
+adoption_entered naming (RulingGiven (Some note) (RecordChosen bytes) ∷ older) made noted =
+    adoption_entered naming older made.1 noted
+adoption_entered naming (RulingGiven (Some note) (WorkWithheld bytes) ∷ older) made noted =
+    adoption_entered naming older made.1 noted
+adoption_entered naming (RulingGiven (Some note) SecondRuleAdopted ∷ older) made noted =
+    let never : (rulings older).adopted ≡ None =
+    sym (ap (λ (ruled : Rulings). ruled.adopted) (rulings_are older))
+    ∙ first_adopted (book_after older) made.0 in
+    ap (λ rest. tt ∷ rest)
+    (adoption_entered naming older made.1 noted ∙ ap adoption_once never)
+adoption_entered naming (RulingGiven (Some note) (CreditGiven centre amount reason) ∷ older) made
+    noted =
+    adoption_entered naming older made.1 noted
+adoption_entered naming (ImportBegun note ∷ older) made noted =
+    adoption_entered naming older made.1 noted
+adoption_entered naming (ImportRead reading ∷ older) made noted =
+    named-changed adoption_in ((λ r k. refl), (λ r e k. refl)) (read_on reading)
+    (named-read adoption_in ((λ r k. refl), (λ r e k. refl)) reading) (journal older)
+    ∙ adoption_entered naming older made.1 noted
+adoption_entered naming (ImportEnded ending ∷ older) made noted =
+    named-changed adoption_in ((λ r k. refl), (λ r e k. refl)) (end_with ending)
+    (named-ended adoption_in ((λ r k. refl), (λ r e k. refl)) ending) (journal older)
+    ∙ adoption_entered naming older made.1 noted
+
 pub rulings_are_entered : RulingsAreEntered
 rulings_are_entered = record {
+  adoption = adoption_entered;
   tariffs = tariffs_entered;
   closes = closes_entered;
   choices = choices_entered;

@@ -6,7 +6,7 @@ use Rattle.tariff_rules.specs.Terms.{Terms}
 use Rattle.book_model.specs.Sets.{has, members}
 use Rattle.book_model.specs.Records.{Naming, name_of}
 use Rattle.book_model.specs.Journal.{Act, Entry, Place, Ruled, CloseOf, ChoiceOf, CreditOf, Note}
-use Rattle.book_model.specs.Journal.{ReplacementOf, TariffOf, place_of}
+use Rattle.book_model.specs.Journal.{AdoptionOf, ReplacementOf, TariffOf, place_of}
 use Rattle.book_model.specs.Rulings.{TariffAccepted, TariffReplaced, with_replaced, with_tariff}
 use Rattle.book_model.specs.RulingLists.{TariffSeen}
 use Rattle.book_model.specs.Rulings.{AcceptedTerms}
@@ -224,6 +224,16 @@ abbrev pub tariff_in : Act → Option ℤ
 tariff_in (Ruled (TariffOf day)) = Some day
 tariff_in act = None
 
+-- the adoption of the second rule of identity
+abbrev pub adoption_in : Act → Option (Unit {0})
+adoption_in (Ruled AdoptionOf) = Some tt
+adoption_in act = None
+
+-- it is named once, if the rule was adopted
+abbrev pub adoption_once : Option ℕ → List (Unit {0})
+adoption_once None = []
+adoption_once (Some period) = tt ∷ []
+
 -- what the entries name so, the newest first
 abbrev pub entered : {X : Type 0} → (Act → Option X) → List Entry → List X
 entered kind entries = filter_map (λ entry. kind entry.act) entries
@@ -238,8 +248,11 @@ abbrev pub days_back : List AcceptedTerms → List ℤ
 days_back tariffs = newest_first (map (λ tariff. tariff.terms.effective) tariffs)
 
 -- Where each ruling came with a note, the journal names each tariff, each close, each choice and
--- each credit once, in the order in which they came.
+-- each credit once, in the order in which they came; and the adoption once, if calls made it.
 pub record RulingsAreEntered : Type 0 where
+  pub adoption : (naming : Naming) (history : List Event) → IsMadeByCalls naming history
+      → AreNoted history
+      → entered adoption_in (journal history) ≡ adoption_once (rulings history).adopted
   pub tariffs : (history : List Event) → AreNoted history
       → entered tariff_in (journal history) ≡ days_back (rulings history).tariffs
   pub closes : (history : List Event) → AreNoted history
