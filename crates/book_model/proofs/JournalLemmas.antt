@@ -23,7 +23,9 @@ use Rattle.book_model.specs.JournalLaws.{unjournaled, without_notes}
 use Rattle.book_model.specs.JournalLaws.{ReadsNoJournal, TellsTheSame}
 use Rattle.book_model.specs.JournalLaws.{adoption_in, adoption_once, days_back, newest_first}
 use Rattle.book_model.specs.JournalLaws.{tariff_in}
-use Rattle.book_model.specs.Words.{AcceptedTerms, or_new}
+use Rattle.book_model.specs.Words.{AcceptedTerms, AdoptionAsked, ChoiceAsked, CloseAsked}
+use Rattle.book_model.specs.Words.{CreditAsked, ReplacementAsked, RulingAsked, TariffAsked}
+use Rattle.book_model.specs.Words.{WithholdingAsked, or_new, rule_outcome}
 use Rattle.book_model.proofs.AdoptedLemmas.{first_adopted}
 use Rattle.book_model.proofs.ReplacedLemmas.{same_day}
 use Rattle.book_model.proofs.Std.{map-append}
@@ -79,6 +81,17 @@ journal_stands_apart before (event ∷ older) =
     (after_all (without_notes older) (unjournaled before)) (journal_stands_apart before older))
     ∙ sym (one_by_one event older (unjournaled before))
 
+-- no ruling that is asked for reads the journal
+rule_reads_none : (naming : Naming) (said : Option Note) (asked : RulingAsked)
+    → ReadsNoJournal (rule_outcome naming said asked)
+rule_reads_none naming said (TariffAsked text) book = refl
+rule_reads_none naming said (CloseAsked period through) book = refl
+rule_reads_none naming said (ChoiceAsked name) book = refl
+rule_reads_none naming said (AdoptionAsked rule) book = refl
+rule_reads_none naming said (ReplacementAsked text) book = refl
+rule_reads_none naming said (WithholdingAsked name) book = refl
+rule_reads_none naming said (CreditAsked period centre amount reason) book = refl
+
 pub none_reads_the_journal : NoneReadsTheJournal
 none_reads_the_journal = record {
   accept = λ naming bytes book. refl;
@@ -89,6 +102,7 @@ none_reads_the_journal = record {
   withhold = λ naming said name book. refl;
   adopt = λ said rule book. refl;
   credit = λ said number centre amount reason book. refl;
+  rule = rule_reads_none;
   charges = λ number book. refl;
   what_if = λ number terms book. refl;
   adjustments = λ naming number book. refl;

@@ -20,12 +20,13 @@ use Rattle.book_model.specs.Books.{Book}
 use Rattle.book_model.specs.Journal.{Ending}
 use Rattle.book_model.specs.Events.{ImportEnded}
 use Rattle.book_model.specs.Events.{Event, RecordKept, PeriodClosed, RulingGiven, after, after_all}
+use Rattle.book_model.specs.RulingsAsked.{RulingAsked}
 use Rattle.book_model.specs.Outcomes.{Outcome, accept_outcome, tariff_outcome, replace_outcome}
 use Rattle.book_model.specs.Outcomes.{close_outcome, choose_outcome, withhold_outcome}
 use Rattle.book_model.specs.Outcomes.{adopt_outcome}
 use Rattle.book_model.specs.Outcomes.{credit_outcome, charges_outcome, what_if_outcome}
 use Rattle.book_model.specs.Outcomes.{adjustments_outcome, disputes_outcome, dispute_outcome}
-use Rattle.book_model.specs.Outcomes.{periods_outcome, ruling_outcome}
+use Rattle.book_model.specs.Outcomes.{periods_outcome, rule_outcome, ruling_outcome}
 use Rattle.book_model.specs.Details.{details_outcome}
 use Rattle.book_model.specs.Trails.{trail_outcome}
 use Rattle.book_model.specs.Bills.{bill_outcome}
@@ -74,6 +75,8 @@ pub record NoneReadsTheJournal : Type 0 where
   pub adopt : (said : Option Note) (rule : ℕ) → ReadsNoJournal (adopt_outcome said rule)
   pub credit : (said : Option Note) (number : ℕ) (centre : List ℕ) (amount : ℤ) (reason : List ℕ)
       → ReadsNoJournal (credit_outcome said number centre amount reason)
+  pub rule : (naming : Naming) (said : Option Note) (asked : RulingAsked)
+      → ReadsNoJournal (rule_outcome naming said asked)
   pub charges : (number : ℕ) → ReadsNoJournal (charges_outcome number)
   pub what_if : (number : ℕ) (terms : Terms) → ReadsNoJournal (what_if_outcome number terms)
   pub adjustments : (naming : Naming) (number : ℕ)
