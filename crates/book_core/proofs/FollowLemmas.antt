@@ -14,7 +14,7 @@ use Rattle.book_model.specs.Words.{Terms, terms_in, Naming, Book, new_book, Even
 use Rattle.book_model.specs.Words.{RulingGiven, SecondRuleAdopted, after_all, accept_answer}
 use Rattle.book_model.specs.Words.{tariff_answer, close_answer, Outcome, accept_event, if_done}
 use Rattle.book_model.specs.Words.{ruled_as, rule_outcome, book_after, book_of, IsAnswered}
-use Rattle.book_model.specs.Words.{IsMadeByCalls, choose_answer, record_named, adopt_answer}
+use Rattle.book_model.specs.Words.{IsMadeByCalls, Note, choose_answer, record_named, adopt_answer}
 use Rattle.book_model.specs.Words.{rule_by, second_rule, TariffFault, RulingAsked, TariffAsked}
 use Rattle.book_model.specs.Words.{CloseAsked, ChoiceAsked, AdoptionAsked, CreditAsked, CreditGiven}
 use Rattle.book_model.specs.Words.{ReplacementAsked, WithholdingAsked, credit_answer}
@@ -140,36 +140,38 @@ rulings_answered naming view submitted answer result done =
     (λ book. if_done-answered naming book (submitted book) (answer book) (done book))
 
 -- a tariff that a text says
-tariff_done : (naming : Naming) (text : List ℕ) (said : Result Terms TariffFault) (book : Book)
-    → tariff_answer book text said ≡ Ok Done
-    → IfSome (said_by text said) (λ event. IsAnswered naming event book)
-tariff_done naming text (Ok terms) book done = done
-tariff_done naming text (Err fault) book done = tt
+tariff_done : (naming : Naming) (noted : Option Note) (text : List ℕ)
+    (said : Result Terms TariffFault) (book : Book) → tariff_answer book text said ≡ Ok Done
+    → IfSome (said_by noted text said) (λ event. IsAnswered naming event book)
+tariff_done naming noted text (Ok terms) book done = done
+tariff_done naming noted text (Err fault) book done = tt
 
 -- the choice of a record that is meant
-choice_done : (naming : Naming) (name : List ℕ) (book : Book) (meant : Option (List ℕ))
+choice_done : (naming : Naming) (noted : Option Note) (name : List ℕ) (book : Book)
+    (meant : Option (List ℕ))
     → record_named naming book.held name ≡ meant → choose_answer naming book name ≡ Ok Done
-    → IfSome (meant_by meant) (λ event. IsAnswered naming event book)
-choice_done naming name book None found done = tt
-choice_done naming name book (Some bytes) found done =
+    → IfSome (meant_by noted meant) (λ event. IsAnswered naming event book)
+choice_done naming noted name book None found done = tt
+choice_done naming noted name book (Some bytes) found done =
     let named = sym (its_name naming book.held name bytes found) in (
       subst (λ name. choose_answer naming book name ≡ Ok Done) named done,
       subst (λ name. record_named naming book.held name ≡ Some bytes) named found,
     )
 
 -- a tariff in the place of another
-replacement_done : (naming : Naming) (text : List ℕ) (said : Result Terms TariffFault) (book : Book)
-    → replacing_answer book text said ≡ Ok Done
-    → IfSome (replaced_by text said) (λ event. IsAnswered naming event book)
-replacement_done naming text (Ok terms) book done = done
-replacement_done naming text (Err fault) book done = tt
+replacement_done : (naming : Naming) (noted : Option Note) (text : List ℕ)
+    (said : Result Terms TariffFault) (book : Book) → replacing_answer book text said ≡ Ok Done
+    → IfSome (replaced_by noted text said) (λ event. IsAnswered naming event book)
+replacement_done naming noted text (Ok terms) book done = done
+replacement_done naming noted text (Err fault) book done = tt
 
 -- the choice of none of the work of a record that is meant
-withholding_done : (naming : Naming) (name : List ℕ) (book : Book) (meant : Option (List ℕ))
+withholding_done : (naming : Naming) (noted : Option Note) (name : List ℕ) (book : Book)
+    (meant : Option (List ℕ))
     → record_named naming book.held name ≡ meant → withhold_answer naming book name ≡ Ok Done
-    → IfSome (withheld_by meant) (λ event. IsAnswered naming event book)
-withholding_done naming name book None found done = tt
-withholding_done naming name book (Some bytes) found done =
+    → IfSome (withheld_by noted meant) (λ event. IsAnswered naming event book)
+withholding_done naming noted name book None found done = tt
+withholding_done naming noted name book (Some bytes) found done =
     let named = sym (its_name naming book.held name bytes found) in (
       subst (λ name. withhold_answer naming book name ≡ Ok Done) named done,
       subst (λ name. record_named naming book.held name ≡ Some bytes) named found,
@@ -190,58 +192,59 @@ second_done rule book done =
     by_tests false false is done = cc
 
 -- a ruling makes only an event that the books answered
-pub ruling_answered : {V : Type 0} (naming : Naming) (view : V → Ruled) (ruling : RulingAsked)
-    (result : Result V LedgerFault)
-    → MakesAnswered naming (Calls view (rule_outcome naming ruling) result)
-ruling_answered naming view (TariffAsked text) result =
-    rulings_answered naming view (λ book. said_by text (terms_in text))
+pub ruling_answered : {V : Type 0} (naming : Naming) (view : V → Ruled) (noted : Option Note)
+    (ruling : RulingAsked) (result : Result V LedgerFault)
+    → MakesAnswered naming (Calls view (rule_outcome naming noted ruling) result)
+ruling_answered naming view noted (TariffAsked text) result =
+    rulings_answered naming view (λ book. said_by noted text (terms_in text))
     (λ book. tariff_answer book text (terms_in text)) result
-    (tariff_done naming text (terms_in text))
-ruling_answered naming view (CloseAsked number day) result =
-    rulings_answered naming view (λ book. Some (PeriodClosed day))
+    (tariff_done naming noted text (terms_in text))
+ruling_answered naming view noted (CloseAsked number day) result =
+    rulings_answered naming view (λ book. Some (PeriodClosed noted day))
     (λ book. close_answer book.rulings number day) result (λ book done.
     subst (λ number. close_answer book.rulings number day ≡ Ok Done)
     (closed_open book number day done) done)
-ruling_answered naming view (ChoiceAsked name) result =
-    rulings_answered naming view (λ book. meant_by (record_named naming book.held name))
+ruling_answered naming view noted (ChoiceAsked name) result =
+    rulings_answered naming view (λ book. meant_by noted (record_named naming book.held name))
     (λ book. choose_answer naming book name) result
-    (λ book. choice_done naming name book (record_named naming book.held name) refl)
-ruling_answered naming view (AdoptionAsked rule) result =
-    rulings_answered naming view (λ book. Some (RulingGiven SecondRuleAdopted))
+    (λ book. choice_done naming noted name book (record_named naming book.held name) refl)
+ruling_answered naming view noted (AdoptionAsked rule) result =
+    rulings_answered naming view (λ book. Some (RulingGiven noted SecondRuleAdopted))
     (λ book. adopt_answer book.rulings rule) result (second_done rule)
-ruling_answered naming view (ReplacementAsked text) result =
-    rulings_answered naming view (λ book. replaced_by text (terms_in text))
+ruling_answered naming view noted (ReplacementAsked text) result =
+    rulings_answered naming view (λ book. replaced_by noted text (terms_in text))
     (λ book. replacing_answer book text (terms_in text)) result
-    (replacement_done naming text (terms_in text))
-ruling_answered naming view (WithholdingAsked name) result =
-    rulings_answered naming view (λ book. withheld_by (record_named naming book.held name))
+    (replacement_done naming noted text (terms_in text))
+ruling_answered naming view noted (WithholdingAsked name) result =
+    rulings_answered naming view (λ book. withheld_by noted (record_named naming book.held name))
     (λ book. withhold_answer naming book name) result
-    (λ book. withholding_done naming name book (record_named naming book.held name) refl)
-ruling_answered naming view (CreditAsked number centre amount reason) result =
-    rulings_answered naming view (λ book. Some (RulingGiven (CreditGiven centre amount reason)))
+    (λ book. withholding_done naming noted name book (record_named naming book.held name) refl)
+ruling_answered naming view noted (CreditAsked number centre amount reason) result =
+    rulings_answered naming view
+    (λ book. Some (RulingGiven noted (CreditGiven centre amount reason)))
     (λ book. credit_answer book.rulings number centre amount reason) result (λ book done.
     subst (λ number. credit_answer book.rulings number centre amount reason ≡ Ok Done)
     (credited_open book number centre amount reason done) done)
 
 -- so do works that are withheld one after another,
-withholds_answered : (naming : Naming) (names : List (List ℕ)) (answers : List (Option Ruled))
-    → MakesAnswered naming (Withholds naming names answers)
-withholds_answered naming names [] = none_answered naming
-withholds_answered naming [] (answer ∷ later) = λ book was events is never. absurd never
-withholds_answered naming (name ∷ rest) (answer ∷ later) =
+withholds_answered : (naming : Naming) (noted : Option Note) (names : List (List ℕ)) (answers : List (Option Ruled))
+    → MakesAnswered naming (Withholds naming noted names answers)
+withholds_answered naming noted names [] = none_answered naming
+withholds_answered naming noted [] (answer ∷ later) = λ book was events is never. absurd never
+withholds_answered naming noted (name ∷ rest) (answer ∷ later) =
     then_answered naming
-    (Calls (λ (ruled : Ruled). ruled) (withhold_outcome naming name) (told_as answer))
-    (Withholds naming rest later)
-    (ruling_answered naming (λ (ruled : Ruled). ruled) (WithholdingAsked name) (told_as answer))
-    (withholds_answered naming rest later)
+    (Calls (λ (ruled : Ruled). ruled) (withhold_outcome naming noted name) (told_as answer))
+    (Withholds naming noted rest later)
+    (ruling_answered naming (λ (ruled : Ruled). ruled) noted (WithholdingAsked name) (told_as answer))
+    (withholds_answered naming noted rest later)
 
 -- also several together
-pub works_answered : (naming : Naming) (names : List (List ℕ)) (told : Result Withheld LedgerFault)
-    → MakesAnswered naming (TakesWorks naming names told)
-works_answered naming names (Ok told) = λ book was events is takes.
-    withholds_answered naming names takes.answers book was events is takes.made
-works_answered naming names (Err Store) = λ book was events is keeps.
-    withholds_answered naming names keeps.answers book false events false keeps.kept
-works_answered naming names (Err NoSuchRecord) = λ book was events is never. absurd never
-works_answered naming names (Err fault) =
-    ruling_answered naming (λ (ruled : Ruled). ruled) (WithholdingAsked (first_of names)) (Err fault)
+pub works_answered : (naming : Naming) (noted : Option Note) (names : List (List ℕ)) (told : Result Withheld LedgerFault)
+    → MakesAnswered naming (TakesWorks naming noted names told)
+works_answered naming noted names (Ok told) = λ book was events is takes.
+    withholds_answered naming noted names takes.answers book was events is takes.made
+works_answered naming noted names (Err Store) = λ book was events is keeps.
+    withholds_answered naming noted names keeps.answers book false events false keeps.kept
+works_answered naming noted names (Err NoSuchRecord) = λ book was events is never. absurd never
+works_answered naming noted names (Err fault) =
+    ruling_answered naming (λ (ruled : Ruled). ruled) noted (WithholdingAsked (first_of names)) (Err fault)

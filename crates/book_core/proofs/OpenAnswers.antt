@@ -18,7 +18,7 @@ use Rattle.book_model.specs.Words.{terms_in, is_withheld, was_withheld, CreditAs
 use Rattle.book_model.specs.Words.{ReplacementAsked, WithholdingAsked, credit_ruled, is_after}
 use Rattle.book_model.specs.Words.{has_most_choices, is_credit, is_known_centre, last_close, most_credits}
 use Rattle.book_model.specs.Words.{most_replaced, replace_ruled, replacing_answer, with_replaced}
-use Rattle.book_model.specs.Words.{withheld_answer}
+use Rattle.book_model.specs.Words.{Note, withheld_answer}
 use Rattle.book_core.specs.Calls.{LeavesOpen, is_reopen, is_store}
 
 -- an answer leaves books open
@@ -142,17 +142,17 @@ credit_open rulings given full number centre =
     (opens_if full (opens refl refl) (opens refl refl))))
 
 -- any of these rulings
-pub ruling_open : (naming : Naming) (book : Book) (ruling : RulingAsked)
-    → LeavesOpen (rule_outcome naming ruling book).answer
-ruling_open naming book (TariffAsked text) = tariff_open book text (terms_in text)
-ruling_open naming book (CloseAsked number day) = close_open book.rulings number day
-ruling_open naming book (ChoiceAsked name) =
+pub ruling_open : (naming : Naming) (noted : Option Note) (book : Book) (ruling : RulingAsked)
+    → LeavesOpen (rule_outcome naming noted ruling book).answer
+ruling_open naming noted book (TariffAsked text) = tariff_open book text (terms_in text)
+ruling_open naming noted book (CloseAsked number day) = close_open book.rulings number day
+ruling_open naming noted book (ChoiceAsked name) =
     choose_open book (record_named naming book.held name)
-ruling_open naming book (AdoptionAsked rule) = adopt_open book.rulings rule
-ruling_open naming book (ReplacementAsked text) = replace_open book text (terms_in text)
-ruling_open naming book (WithholdingAsked name) =
+ruling_open naming noted book (AdoptionAsked rule) = adopt_open book.rulings rule
+ruling_open naming noted book (ReplacementAsked text) = replace_open book text (terms_in text)
+ruling_open naming noted book (WithholdingAsked name) =
     withhold_open book (record_named naming book.held name)
-ruling_open naming book (CreditAsked number centre amount reason) =
+ruling_open naming noted book (CreditAsked number centre amount reason) =
     credit_open book.rulings
     (list_any (is_credit number centre amount reason) book.rulings.credits)
     (nat_le most_credits (length book.rulings.credits)) number centre

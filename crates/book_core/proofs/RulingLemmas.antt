@@ -10,9 +10,10 @@ use Rattle.std.specs.Ordering.{int_eq}
 use Rattle.book_model.proofs.Std.{last_or, option_map_or, result_ok}
 use Rattle.book_model.specs.declared.answer.Ruled.TheVariants.{Done}
 use Rattle.book_model.specs.declared.fault.LedgerFault.TheVariants.{Full}
-use Rattle.book_model.specs.Words.{AcceptedTerms, are_rising, is_later, Terms, Event, RulingGiven}
-use Rattle.book_model.specs.Words.{TariffAccepted, TariffReplaced, RecordChosen, TariffFault}
-use Rattle.book_model.specs.Words.{WorkWithheld, has_begun, is_effective, is_under, latest}
+use Rattle.book_model.specs.Words.{AcceptedTerms, are_rising, is_later, Note, Terms, Event}
+use Rattle.book_model.specs.Words.{RulingGiven, TariffAccepted, TariffReplaced, RecordChosen}
+use Rattle.book_model.specs.Words.{TariffFault, WorkWithheld, has_begun, is_effective, is_under}
+use Rattle.book_model.specs.Words.{latest}
 use Rattle.book_model.proofs.Lemmas.{begun-last, later-before, rising-behind}
 use Rattle.book_model.proofs.ListLemmas.{last_or-is}
 use Rattle.book_core.specs.declared.rulings.Rulings.{Rulings}
@@ -77,18 +78,19 @@ done_by false false false much done = cc
 done_by false false true much done = refl
 
 -- the tariff that a text says, if it says one
-abbrev pub said_by : List ℕ → Result Terms TariffFault → Option Event
-said_by text said =
-    option_map (λ terms. RulingGiven (TariffAccepted (Some text) terms)) (result_ok said)
+abbrev pub said_by : Option Note → List ℕ → Result Terms TariffFault → Option Event
+said_by noted text said =
+    option_map (λ terms. RulingGiven noted (TariffAccepted (Some text) terms)) (result_ok said)
 
 -- the choice of the record that is meant, if there is one
-abbrev pub meant_by : Option (List ℕ) → Option Event
-meant_by meant = option_map (λ bytes. RulingGiven (RecordChosen bytes)) meant
+abbrev pub meant_by : Option Note → Option (List ℕ) → Option Event
+meant_by noted meant = option_map (λ bytes. RulingGiven noted (RecordChosen bytes)) meant
 
 -- the tariff that a text says in the place of another, if it says one
-abbrev pub replaced_by : List ℕ → Result Terms TariffFault → Option Event
-replaced_by text said = option_map (λ terms. RulingGiven (TariffReplaced text terms)) (result_ok said)
+abbrev pub replaced_by : Option Note → List ℕ → Result Terms TariffFault → Option Event
+replaced_by noted text said =
+    option_map (λ terms. RulingGiven noted (TariffReplaced text terms)) (result_ok said)
 
 -- the choice of none of the work of the record that is meant, if there is one
-abbrev pub withheld_by : Option (List ℕ) → Option Event
-withheld_by meant = option_map (λ bytes. RulingGiven (WorkWithheld bytes)) meant
+abbrev pub withheld_by : Option Note → Option (List ℕ) → Option Event
+withheld_by noted meant = option_map (λ bytes. RulingGiven noted (WorkWithheld bytes)) meant

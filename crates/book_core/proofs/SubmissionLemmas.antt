@@ -2,16 +2,26 @@
 use Rattle.std.proofs.Common.{◌≡◌, ◌∙◌, ◌<◌, ℕ, Bool, true, false, List, [], ◌∷◌, ◌++◌, length}
 use Rattle.std.proofs.Common.{refl, sym, ap, subst, Result, Ok, Err, ◌⊎◌, inl, inr, Vec, Global}
 use Rattle.std.proofs.Common.{arith, drop, get_or, take, ◌||◌, true≢false, take-append-drop, All}
+use Rattle.std.proofs.Common.{◌==◌, Option, Some, None, append-nil}
 use Rattle.std.proofs.lemmas.List.{map-append}
 use Rattle.std.proofs.lemmas.List.Elements.{All-cons, All-nil}
 use Rattle.book_model.specs.declared.answer.Accepted.{Accepted}
+use Rattle.book_model.specs.declared.answer.Accepted.TheVariants.{Kept, Known, Unpriced}
 use Rattle.book_model.specs.declared.fault.LedgerFault.{LedgerFault}
 use Rattle.book_model.specs.declared.fault.LedgerFault.TheVariants.{Memory, Reopen, Store}
+use Rattle.book_model.specs.declared.note.Share.{Share}
+use Rattle.book_model.specs.declared.note.Stop.{Stop}
+use Rattle.book_model.specs.JournalLaws.{unjournaled}
 use Rattle.book_model.specs.Words.{Book, Event, Naming, accept_outcome, accept_answer, accept_event}
-use Rattle.book_model.specs.Words.{IsUsageRecord, after_all}
+use Rattle.book_model.specs.Words.{AreMadeOf, ImportBegun, ImportEnded, ImportRead, IsUsageRecord}
+use Rattle.book_model.specs.Words.{Note, PeriodClosed, Reading, RecordKept, RulingGiven, after_all}
+use Rattle.book_model.specs.Words.{keep, note_shown, read_with, reading_shown, told, told_by}
+use Rattle.book_model.specs.Words.{told_end}
 use Rattle.book_core.specs.Calls.{Calls, IsCall, Reopens, listed}
+use Rattle.book_core.specs.Follow.{MakesAnswered}
 use Rattle.book_core.specs.Ledgers.{Seen}
-use Rattle.book_core.specs.Submissions.{Accepts, KeepsFirst, Takes, first_of, records_in}
+use Rattle.book_core.specs.Submissions.{Accepts, AcceptsOf, KeepsFirst, Takes, TakesOf, first_of}
+use Rattle.book_core.specs.Submissions.{records_in}
 use Rattle.book_core.specs.Transition.{IsTransition}
 use Rattle.book_core.proofs.ThenLemmas.{nothing_more, then_nothing}
 use Rattle.book_core.proofs.TransitionLemmas.{Implies, wanting, failed, to_reopen, refused, fails}
@@ -243,3 +253,147 @@ module _ {old new : Seen} (naming : Naming) (bytes : List ℕ) where
         (refused_alone naming bytes fault) work;
     reopens = reopens_as (Vec Accepted Global) Accepted fault old.must_reopen new.must_reopen reopens;
   }
+
+-- ---- what an import says of itself
+
+-- with no word of an import, a change takes what it takes of records alone,
+pub without_import : (naming : Naming) (records : List (List ℕ))
+    (result : Result (Vec Accepted Global) LedgerFault)
+    → Implies (Takes naming records result) (TakesOf naming None records result)
+without_import naming records (Ok answers) was before events is takes =
+    record { kept = events; accepts = takes; told = refl }
+without_import naming records (Err Store) was before events is takes = record {
+  was_open = takes.was_open;
+  closed = takes.closed;
+  answers = takes.answers;
+  kept = record { kept = events; accepts = takes.kept; told = refl };
+}
+without_import naming records (Err fault) was before events is takes = takes
+
+-- and no more
+pub of_no_import : (naming : Naming) (records : List (List ℕ))
+    (result : Result (Vec Accepted Global) LedgerFault)
+    → Implies (TakesOf naming None records result) (Takes naming records result)
+of_no_import naming records (Ok answers) was before events is takes =
+    subst (λ made. Accepts naming records answers.items was before made is) (sym takes.told)
+    takes.accepts
+of_no_import naming records (Err Store) was before events is takes = record {
+  was_open = takes.was_open;
+  closed = takes.closed;
+  answers = takes.answers;
+  kept = subst (λ made. Accepts naming records takes.answers false before made false)
+      (sym takes.kept.told) takes.kept.accepts;
+}
+of_no_import naming records (Err fault) was before events is takes = takes
+
+-- it says nothing where none was kept
+no_end : (ending : Option Stop) (whole : Bool) → told_end ending whole [] ≡ []
+no_end None whole = refl
+no_end (Some stop) true = refl
+no_end (Some stop) false = refl
+
+pub none_told : (import : Option Share) (whole : Bool) (answers : List Accepted)
+    → told_by import whole answers [] ≡ []
+none_told None whole answers = refl
+none_told (Some share) whole answers = no_end share.ending whole
+
+-- the events of records that were kept
+abbrev AreKept : List Event → Type 0
+AreKept [] = Unit {0}
+AreKept (RecordKept bytes ∷ older) = AreKept older
+AreKept (event ∷ older) = ⊥
+
+both_kept : (late early : List Event) → AreKept late → AreKept early → AreKept (late ++ early)
+both_kept [] early of_late of_early = of_early
+both_kept (RecordKept bytes ∷ late) early of_late of_early = both_kept late early of_late of_early
+both_kept (PeriodClosed said day ∷ late) early of_late of_early = absurd of_late
+both_kept (RulingGiven said ruling ∷ late) early of_late of_early = absurd of_late
+both_kept (ImportBegun note ∷ late) early of_late of_early = absurd of_late
+both_kept (ImportRead reading ∷ late) early of_late of_early = absurd of_late
+both_kept (ImportEnded ending ∷ late) early of_late of_early = absurd of_late
+
+-- an answer to a record keeps that one, or none
+one_kept : (bytes : List ℕ) (answer : Result Accepted LedgerFault)
+    → AreKept (listed (accept_event bytes answer))
+one_kept bytes (Ok Kept) = tt
+one_kept bytes (Ok Known) = tt
+one_kept bytes (Ok Unpriced) = tt
+one_kept bytes (Err fault) = tt
+
+-- so do the answers to some
+all_kept : (naming : Naming) (records : List (List ℕ)) (answers : List Accepted) (was : Bool)
+    (before : Book) (events : List Event) (is : Bool)
+    → Accepts naming records answers was before events is → AreKept events
+all_kept naming records [] was before events is accepts = subst AreKept (sym accepts.none) tt
+all_kept naming [] (answer ∷ later) was before events is accepts = absurd accepts
+all_kept naming (bytes ∷ rest) (answer ∷ later) was before events is accepts =
+    subst AreKept (sym accepts.all)
+    (both_kept accepts.late accepts.early
+    (all_kept naming rest later accepts.between (after_all accepts.early before) accepts.late is
+    accepts.next)
+    (subst AreKept (sym accepts.first.makes.1) (one_kept bytes (accept_answer naming before bytes))))
+
+-- records that calls keep are kept so where an import has begun before them
+begun_too : (naming : Naming) (note : Note) (kept : List Event) (book : Book) → AreKept kept
+    → AreMadeOf naming book kept → AreMadeOf naming book (kept ++ ImportBegun note ∷ [])
+begun_too naming note [] book all made = (tt, tt)
+begun_too naming note (RecordKept bytes ∷ kept) book all made = (
+  ap (λ (left : Book). accept_answer naming left bytes) (beside kept book note all) ∙ made.0,
+  begun_too naming note kept book all made.1,
+)
+  where
+    beside : (kept : List Event) (book : Book) (note : Note) → AreKept kept
+        → unjournaled (after_all (kept ++ ImportBegun note ∷ []) book)
+        ≡ unjournaled (after_all kept book)
+    beside [] book note all = refl
+    beside (RecordKept bytes ∷ kept) book note all =
+        ap (λ before. unjournaled (keep bytes before)) (beside kept book note all)
+    beside (PeriodClosed said day ∷ kept) book note all = absurd all
+    beside (RulingGiven said ruling ∷ kept) book note all = absurd all
+    beside (ImportBegun other ∷ kept) book note all = absurd all
+    beside (ImportRead reading ∷ kept) book note all = absurd all
+    beside (ImportEnded ending ∷ kept) book note all = absurd all
+begun_too naming note (PeriodClosed said day ∷ kept) book all made = absurd all
+begun_too naming note (RulingGiven said ruling ∷ kept) book all made = absurd all
+begun_too naming note (ImportBegun other ∷ kept) book all made = absurd all
+begun_too naming note (ImportRead reading ∷ kept) book all made = absurd all
+begun_too naming note (ImportEnded ending ∷ kept) book all made = absurd all
+
+-- and so is all that an import says with them
+all_told : (naming : Naming) (note : Note) (begun : Bool) (reading : Reading) (kept : List Event)
+    (book : Book) → AreKept kept → AreMadeOf naming book kept
+    → AreMadeOf naming book (told note begun reading kept)
+all_told naming note begun reading [] book all made = made
+all_told naming note true reading (newest ∷ earlier) book all made =
+    (tt, subst (AreMadeOf naming book) (sym (append-nil (newest ∷ earlier))) made)
+all_told naming note false reading (newest ∷ earlier) book all made =
+    (tt, begun_too naming note (newest ∷ earlier) book all made)
+
+end_told : (naming : Naming) (stop : Option Stop) (whole : Bool) (events : List Event)
+    (book : Book) → AreMadeOf naming book events
+    → AreMadeOf naming book (told_end stop whole events)
+end_told naming None whole events book made = made
+end_told naming (Some stop) false events book made = made
+end_told naming (Some stop) true [] book made = made
+end_told naming (Some stop) true (newest ∷ earlier) book made = (tt, made)
+
+told_answered : (naming : Naming) (import : Option Share) (whole : Bool) (answers : List Accepted)
+    (kept : List Event) (book : Book) → AreKept kept → AreMadeOf naming book kept
+    → AreMadeOf naming book (told_by import whole answers kept)
+told_answered naming None whole answers kept book all made = made
+told_answered naming (Some share) whole answers kept book all made =
+    end_told naming share.ending whole
+    (told (note_shown share.note) share.begun (read_with answers (reading_shown share.reading)) kept)
+    book
+    (all_told naming (note_shown share.note) share.begun
+    (read_with answers (reading_shown share.reading)) kept book all made)
+
+-- So where calls made the records that a change kept, they made all that it says.
+pub of_answered : (naming : Naming) (import : Option Share) (records : List (List ℕ))
+    (answers : List Accepted) → MakesAnswered naming (Accepts naming records answers)
+    → MakesAnswered naming (AcceptsOf naming import records answers)
+of_answered naming import records answers accepted book was events is of =
+    subst (AreMadeOf naming book) (sym of.told)
+    (told_answered naming import (length answers == length records) answers of.kept book
+    (all_kept naming records answers was book of.kept is of.accepts)
+    (accepted book was of.kept is of.accepts))

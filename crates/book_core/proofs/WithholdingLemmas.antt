@@ -8,8 +8,8 @@ use Rattle.book_model.specs.declared.answer.Ruled.{Ruled}
 use Rattle.book_model.specs.declared.fault.LedgerFault.{LedgerFault}
 use Rattle.book_model.specs.declared.fault.LedgerFault.TheVariants.{Memory, NoSuchRecord, Reopen}
 use Rattle.book_model.specs.declared.fault.LedgerFault.TheVariants.{Store}
-use Rattle.book_model.specs.Words.{Book, Event, Naming, RulingGiven, WorkWithheld, after_all, if_done}
-use Rattle.book_model.specs.Words.{record_named, withhold_answer, withhold_outcome}
+use Rattle.book_model.specs.Words.{Book, Event, Naming, Note, RulingGiven, WorkWithheld, after_all}
+use Rattle.book_model.specs.Words.{if_done, record_named, withhold_answer, withhold_outcome}
 use Rattle.book_core.specs.Calls.{Calls, IsCall, listed}
 use Rattle.book_core.specs.Ledgers.{Seen}
 use Rattle.book_core.specs.Submissions.{first_of}
@@ -60,109 +60,109 @@ absent_fault NoSuchRecord is = refl
 absent_fault fault is = absurd (true≢false (sym is))
 
 -- the first name was answered
-pub withholds_one : (naming : Naming) (names : List (List ℕ)) (answer : Option Ruled)
+pub withholds_one : (naming : Naming) (noted : Option Note) (names : List (List ℕ)) (answer : Option Ruled)
     → 0 < length names
-    → Implies (Calls said (withhold_outcome naming (first_of names)) (told_as answer))
-    (Withholds naming names (answer ∷ []))
-withholds_one naming [] answer some was before events is called = absurd (omega arith)
-withholds_one naming (name ∷ rest) answer some was before events is called =
-    nothing_more (Calls said (withhold_outcome naming name) (told_as answer)) was before events is
+    → Implies (Calls said (withhold_outcome naming noted (first_of names)) (told_as answer))
+    (Withholds naming noted names (answer ∷ []))
+withholds_one naming noted [] answer some was before events is called = absurd (omega arith)
+withholds_one naming noted (name ∷ rest) answer some was before events is called =
+    nothing_more (Calls said (withhold_outcome naming noted name) (told_as answer)) was before events is
     called
 
 -- the event of a work that is refused is none
-refused_event : (naming : Naming) (name : List ℕ) (before : Book) (fault : LedgerFault)
+refused_event : (naming : Naming) (noted : Option Note) (name : List ℕ) (before : Book) (fault : LedgerFault)
     → withhold_answer naming before name ≡ Err fault
-    → listed (withhold_outcome naming name before).event ≡ []
-refused_event naming name before fault is =
-    ap (λ answer. listed (if_done (withheld_by (record_named naming before.held name)) answer)) is
+    → listed (withhold_outcome naming noted name before).event ≡ []
+refused_event naming noted name before fault is =
+    ap (λ answer. listed (if_done (withheld_by noted (record_named naming before.held name)) answer)) is
 
 -- the store failed, and the event of the first work was made, if its answer makes one
-first_kept : (naming : Naming) (names : List (List ℕ)) (before : Book) (events : List Event)
+first_kept : (naming : Naming) (noted : Option Note) (names : List (List ℕ)) (before : Book) (events : List Event)
     (answer : Result Ruled LedgerFault) → 0 < length names
     → withhold_answer naming before (first_of names) ≡ answer
-    → events ≡ listed (withhold_outcome naming (first_of names) before).event
-    → KeepsWithheld naming names false before events true
-first_kept naming names before events (Ok answer) some is made = record {
+    → events ≡ listed (withhold_outcome naming noted (first_of names) before).event
+    → KeepsWithheld naming noted names false before events true
+first_kept naming noted names before events (Ok answer) some is made = record {
   was_open = refl;
   closed = refl;
   answers = Some answer ∷ [];
-  kept = withholds_one naming names (Some answer) some false before events false (record {
+  kept = withholds_one naming noted names (Some answer) some false before events false (record {
     makes = (is, made);
     reopens = record { reopen = refl; store = refl };
   });
 }
-first_kept naming names before events (Err fault) some is made = record {
+first_kept naming noted names before events (Err fault) some is made = record {
   was_open = refl;
   closed = refl;
   answers = [];
   kept = record {
-    none = made ∙ refused_event naming (first_of names) before fault is;
+    none = made ∙ refused_event naming noted (first_of names) before fault is;
     same = refl;
   };
 }
 
 -- the store of open books failed, before or after the event of the first work
-store_keeps : (naming : Naming) (names : List (List ℕ)) (was : Bool) (before : Book)
+store_keeps : (naming : Naming) (noted : Option Note) (names : List (List ℕ)) (was : Bool) (before : Book)
     (events : List Event) (is : Bool) → 0 < length names → was ≡ false → is ≡ true
-    → (events ≡ []) ⊎ (events ≡ listed (withhold_outcome naming (first_of names) before).event)
-    → KeepsWithheld naming names was before events is
-store_keeps naming names was before events is some opened closed (inl none) = record {
+    → (events ≡ []) ⊎ (events ≡ listed (withhold_outcome naming noted (first_of names) before).event)
+    → KeepsWithheld naming noted names was before events is
+store_keeps naming noted names was before events is some opened closed (inl none) = record {
   was_open = opened;
   closed = closed;
   answers = [];
   kept = record { none = none; same = refl };
 }
-store_keeps naming names was before events is some opened closed (inr made) =
-    let keeps = first_kept naming names before events (withhold_answer naming before (first_of names))
+store_keeps naming noted names was before events is some opened closed (inr made) =
+    let keeps = first_kept naming noted names before events (withhold_answer naming before (first_of names))
     some refl made in
     record { was_open = opened; closed = closed; answers = keeps.answers; kept = keeps.kept }
 
 -- the first work was refused in a call of its own, and its record is held
-pub refused_work : (naming : Naming) (names : List (List ℕ)) (fault : LedgerFault) → 0 < length names
+pub refused_work : (naming : Naming) (noted : Option Note) (names : List (List ℕ)) (fault : LedgerFault) → 0 < length names
     → is_not_held fault ≡ false
-    → Implies (Calls said (withhold_outcome naming (first_of names)) (Err fault))
-    (TakesWorks naming names (Err fault))
-refused_work naming names Store some held was before events is called =
-    elim (fails said (withhold_outcome naming (first_of names)) Store was before events is called) [
+    → Implies (Calls said (withhold_outcome naming noted (first_of names)) (Err fault))
+    (TakesWorks naming noted names (Err fault))
+refused_work naming noted names Store some held was before events is called =
+    elim (fails said (withhold_outcome naming noted (first_of names)) Store was before events is called) [
       | wanting memory none same ↦ absurd (cc)
       | failed store opened closed either ↦
-          store_keeps naming names was before events is some opened closed either
+          store_keeps naming noted names was before events is some opened closed either
       | to_reopen reopen opened closed none ↦ absurd (cc)
       | refused answer opened closed none ↦
           absurd (true≢false (sym (called.reopens.store ∙ ap (λ b. b || true) opened) ∙ closed))
     ]
-refused_work naming names NoSuchRecord some held was before events is called =
+refused_work naming noted names NoSuchRecord some held was before events is called =
     absurd (true≢false held)
-refused_work naming names fault some held was before events is called = called
+refused_work naming noted names fault some held was before events is called = called
 
 -- ---- a change that takes one work, by a call of its own
 
-pub one_refused : {old new : Seen} {name : List ℕ} {fault : LedgerFault}
+pub one_refused : {old new : Seen} {noted : Option Note} {name : List ℕ} {fault : LedgerFault}
     (names : List (List ℕ)) (told : Result Withheld LedgerFault) → told ≡ Err fault → 0 < length names
     → is_not_held fault ≡ false → first_of names ≡ name
-    → IsCall said old new (Err fault) (withhold_outcome old.naming name)
-    → IsTransition old new (TakesWorks old.naming names told)
-one_refused {old} {new} {name} {fault} names told is some held first called =
-    subst (λ told. IsTransition old new (TakesWorks old.naming names told)) (sym is)
-    (work_as old new (Calls said (withhold_outcome old.naming name) (Err fault))
-    (TakesWorks old.naming names (Err fault))
-    (λ was before events leaves call. refused_work old.naming names fault some held was before events
+    → IsCall said old new (Err fault) (withhold_outcome old.naming noted name)
+    → IsTransition old new (TakesWorks old.naming noted names told)
+one_refused {old} {new} {noted} {name} {fault} names told is some held first called =
+    subst (λ told. IsTransition old new (TakesWorks old.naming noted names told)) (sym is)
+    (work_as old new (Calls said (withhold_outcome old.naming noted name) (Err fault))
+    (TakesWorks old.naming noted names (Err fault))
+    (λ was before events leaves call. refused_work old.naming noted names fault some held was before events
     leaves
-    (subst (λ name. Calls said (withhold_outcome old.naming name) (Err fault) was before events leaves)
+    (subst (λ name. Calls said (withhold_outcome old.naming noted name) (Err fault) was before events leaves)
     (sym first) call)) called.work)
 
-pub one_withheld : {old new : Seen} {names : List (List ℕ)} {name : List ℕ} {told : Withheld}
+pub one_withheld : {old new : Seen} {noted : Option Note} {names : List (List ℕ)} {name : List ℕ} {told : Withheld}
     (answer : Option Ruled) → told ≡ withheld_of (answer ∷ []) → 0 < length names
     → first_of names ≡ name
-    → IsCall said old new (told_as answer) (withhold_outcome old.naming name)
-    → IsTransition old new (TakesWorks old.naming names (Ok told))
-one_withheld {old} {new} {names} {name} {told} answer counts some first called =
-    work_as old new (Calls said (withhold_outcome old.naming name) (told_as answer))
-    (TakesSome old.naming names told)
+    → IsCall said old new (told_as answer) (withhold_outcome old.naming noted name)
+    → IsTransition old new (TakesWorks old.naming noted names (Ok told))
+one_withheld {old} {new} {noted} {names} {name} {told} answer counts some first called =
+    work_as old new (Calls said (withhold_outcome old.naming noted name) (told_as answer))
+    (TakesSome old.naming noted names told)
     (λ was before events leaves call. record {
       answers = answer ∷ [];
-      made = withholds_one old.naming names answer some was before events leaves
-          (subst (λ name. Calls said (withhold_outcome old.naming name) (told_as answer) was before events
+      made = withholds_one old.naming noted names answer some was before events leaves
+          (subst (λ name. Calls said (withhold_outcome old.naming noted name) (told_as answer) was before events
           leaves)
           (sym first) call);
       counts = counts;
@@ -171,16 +171,16 @@ one_withheld {old} {new} {names} {name} {told} answer counts some first called =
 -- ---- a change that is handed the first of some names
 
 -- what was withheld of the first names was withheld of all
-withholds_further : (naming : Naming) (early later : List (List ℕ)) (answers : List (Option Ruled))
-    → Implies (Withholds naming early answers) (Withholds naming (early ++ later) answers)
-withholds_further naming early later [] was before events is withholds = withholds
-withholds_further naming [] later (answer ∷ rest) was before events is withholds = absurd withholds
-withholds_further naming (name ∷ early) later (answer ∷ rest) was before events is withholds = record {
+withholds_further : (naming : Naming) (noted : Option Note) (early later : List (List ℕ)) (answers : List (Option Ruled))
+    → Implies (Withholds naming noted early answers) (Withholds naming noted (early ++ later) answers)
+withholds_further naming noted early later [] was before events is withholds = withholds
+withholds_further naming noted [] later (answer ∷ rest) was before events is withholds = absurd withholds
+withholds_further naming noted (name ∷ early) later (answer ∷ rest) was before events is withholds = record {
   between = withholds.between;
   early = withholds.early;
   late = withholds.late;
   first = withholds.first;
-  next = withholds_further naming early later rest withholds.between
+  next = withholds_further naming noted early later rest withholds.between
       (after_all withholds.early before) withholds.late is withholds.next;
   all = withholds.all;
 }
@@ -192,29 +192,29 @@ first_further [] later some = absurd (omega arith)
 first_further (name ∷ rest) later some = refl
 
 -- what the change took of the first names it took of all
-takes_further : (naming : Naming) (early later : List (List ℕ)) (told : Result Withheld LedgerFault)
-    → 0 < length early → Implies (TakesWorks naming early told) (TakesWorks naming (early ++ later) told)
-takes_further naming early later (Ok told) some was before events is takes = record {
+takes_further : (naming : Naming) (noted : Option Note) (early later : List (List ℕ)) (told : Result Withheld LedgerFault)
+    → 0 < length early → Implies (TakesWorks naming noted early told) (TakesWorks naming noted (early ++ later) told)
+takes_further naming noted early later (Ok told) some was before events is takes = record {
   answers = takes.answers;
-  made = withholds_further naming early later takes.answers was before events is takes.made;
+  made = withholds_further naming noted early later takes.answers was before events is takes.made;
   counts = takes.counts;
 }
-takes_further naming early later (Err Store) some was before events is takes = record {
+takes_further naming noted early later (Err Store) some was before events is takes = record {
   was_open = takes.was_open;
   closed = takes.closed;
   answers = takes.answers;
-  kept = withholds_further naming early later takes.answers false before events false takes.kept;
+  kept = withholds_further naming noted early later takes.answers false before events false takes.kept;
 }
-takes_further naming early later (Err NoSuchRecord) some was before events is takes = absurd takes
-takes_further naming early later (Err fault) some was before events is takes =
-    subst (λ name. Calls said (withhold_outcome naming name) (Err fault) was before events is)
+takes_further naming noted early later (Err NoSuchRecord) some was before events is takes = absurd takes
+takes_further naming noted early later (Err fault) some was before events is takes =
+    subst (λ name. Calls said (withhold_outcome naming noted name) (Err fault) was before events is)
     (first_further early later some) takes
 
 -- So a change that is handed the first of some names takes some first of all.
-pub works_part : (naming : Naming) (names : List (List ℕ)) (count : ℕ) (part : List (List ℕ))
+pub works_part : (naming : Naming) (noted : Option Note) (names : List (List ℕ)) (count : ℕ) (part : List (List ℕ))
     (told : Result Withheld LedgerFault) → part ≡ take count names → 0 < length part
-    → Implies (TakesWorks naming part told) (TakesWorks naming names told)
-works_part naming names count part told is_part some was before events is takes =
-    subst (λ all. TakesWorks naming all told was before events is)
+    → Implies (TakesWorks naming noted part told) (TakesWorks naming noted names told)
+works_part naming noted names count part told is_part some was before events is takes =
+    subst (λ all. TakesWorks naming noted all told was before events is)
     (ap (λ part. part ++ drop count names) is_part ∙ take-append-drop count names)
-    (takes_further naming part (drop count names) told some was before events is takes)
+    (takes_further naming noted part (drop count names) told some was before events is takes)

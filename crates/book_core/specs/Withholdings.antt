@@ -5,7 +5,7 @@ use Rattle.book_model.specs.declared.answer.Ruled.{Ruled}
 use Rattle.book_model.specs.declared.answer.Ruled.TheVariants.{Already, Done}
 use Rattle.book_model.specs.declared.fault.LedgerFault.{LedgerFault}
 use Rattle.book_model.specs.declared.fault.LedgerFault.TheVariants.{NoSuchRecord, Store}
-use Rattle.book_model.specs.Words.{Book, Event, Naming, withhold_outcome}
+use Rattle.book_model.specs.Words.{Book, Event, Naming, Note, withhold_outcome}
 use Rattle.book_core.specs.Calls.{Calls}
 use Rattle.book_core.specs.Submissions.{first_of}
 use Rattle.book_core.specs.Transition.{Transition, NoEvent, Then}
@@ -24,12 +24,12 @@ told_as None = Err NoSuchRecord
 -- The works of the records of the first of these names were withheld one after another, each in a
 -- call of its own, and these are the answers. What is not held was passed over, and nothing else was
 -- refused.
-abbrev pub Withholds : Naming → List (List ℕ) → List (Option Ruled) → Transition
-Withholds naming names [] = NoEvent
-Withholds naming [] (answer ∷ later) = λ was before events is. ⊥
-Withholds naming (name ∷ rest) (answer ∷ later) =
-    Then (Calls (λ (ruled : Ruled). ruled) (withhold_outcome naming name) (told_as answer))
-    (Withholds naming rest later)
+abbrev pub Withholds : Naming → Option Note → List (List ℕ) → List (Option Ruled) → Transition
+Withholds naming noted names [] = NoEvent
+Withholds naming noted [] (answer ∷ later) = λ was before events is. ⊥
+Withholds naming noted (name ∷ rest) (answer ∷ later) =
+    Then (Calls (λ (ruled : Ruled). ruled) (withhold_outcome naming noted name) (told_as answer))
+    (Withholds naming noted rest later)
 
 -- an answer to a work that was not withheld before counts as one, and so does a record that is not held
 abbrev pub done_in : Option Ruled → ℕ
@@ -59,26 +59,26 @@ with_answer told answer = record {
 }
 
 -- so many were answered
-pub record TakesSome (naming : Naming) (names : List (List ℕ)) (told : Withheld) (was : Bool)
+pub record TakesSome (naming : Naming) (noted : Option Note) (names : List (List ℕ)) (told : Withheld) (was : Bool)
     (before : Book) (events : List Event) (is : Bool) : Type 0 where
   pub answers : List (Option Ruled)
-  pub made : Withholds naming names answers was before events is
+  pub made : Withholds naming noted names answers was before events is
   pub counts : told ≡ withheld_of answers
 
 -- The store of open books failed: the works of the first of the names were withheld, all, some or none.
-pub record KeepsWithheld (naming : Naming) (names : List (List ℕ)) (was : Bool) (before : Book)
+pub record KeepsWithheld (naming : Naming) (noted : Option Note) (names : List (List ℕ)) (was : Bool) (before : Book)
     (events : List Event) (is : Bool) : Type 0 where
   pub was_open : was ≡ false
   pub closed : is ≡ true
   pub answers : List (Option Ruled)
-  pub kept : Withholds naming names answers false before events false
+  pub kept : Withholds naming noted names answers false before events false
 
 -- The change withheld the works of the first of the names, and each was answered as a call of its own
 -- would answer it. Or it withheld none: then the fault is the one that a call answers to the first of
 -- them, whose record is held. After a fault of the store only the next open shows how many it withheld.
-abbrev pub TakesWorks : Naming → List (List ℕ) → Result Withheld LedgerFault → Transition
-TakesWorks naming names (Ok told) = TakesSome naming names told
-TakesWorks naming names (Err Store) = KeepsWithheld naming names
-TakesWorks naming names (Err NoSuchRecord) = λ was before events is. ⊥
-TakesWorks naming names (Err fault) =
-    Calls (λ (ruled : Ruled). ruled) (withhold_outcome naming (first_of names)) (Err fault)
+abbrev pub TakesWorks : Naming → Option Note → List (List ℕ) → Result Withheld LedgerFault → Transition
+TakesWorks naming noted names (Ok told) = TakesSome naming noted names told
+TakesWorks naming noted names (Err Store) = KeepsWithheld naming noted names
+TakesWorks naming noted names (Err NoSuchRecord) = λ was before events is. ⊥
+TakesWorks naming noted names (Err fault) =
+    Calls (λ (ruled : Ruled). ruled) (withhold_outcome naming noted (first_of names)) (Err fault)

@@ -9,6 +9,7 @@ pub use Rattle.book_core.specs.KeyedRows.{keyed_rows, with_price}
 pub use Rattle.book_core.specs.Ledgers.{Books, IsOpenAt, MayHave, Seen, books, in_memory, may_have}
 pub use Rattle.book_core.specs.OfficeRulings.{in_its_place, is_last_begun, ruled_in}
 pub use Rattle.book_core.specs.Room.{if_room}
-pub use Rattle.book_core.specs.Submissions.{Accepts, Takes, first_of, records_in}
+pub use Rattle.book_core.specs.Submissions.{Accepts, AcceptsOf, Takes, TakesOf, first_of}
+pub use Rattle.book_core.specs.Submissions.{records_in}
 pub use Rattle.book_core.specs.Transition.{IsTransition, NoEvent, Then, Transition}
 pub use Rattle.book_core.specs.Withholdings.{TakesWorks, Withholds}

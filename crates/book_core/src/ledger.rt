@@ -7,20 +7,20 @@ ghost use Rattle.book_model.specs.Words.{adopt_outcome, ruling_outcome, ruling_s
 ghost use Rattle.book_model.specs.Words.{IsCreditOf, MayBeAsked, rule_outcome, ruling_asked};
 ghost use Rattle.book_model.specs.Words.{credit_outcome, replace_outcome, withhold_outcome};
 ghost use Rattle.book_model.specs.Words.{ShowsDispute, dispute_outcome, what_if_outcome};
-ghost use Rattle.book_model.specs.Words.{ShowsDetail, next_detail_outcome};
-ghost use Rattle.book_model.specs.Words.{IsTrail, trail_outcome, trail_shown};
+ghost use Rattle.book_model.specs.Words.{ShowsDetail, ended_outcome, next_detail_outcome};
+ghost use Rattle.book_model.specs.Words.{IsTrail, note_given, trail_outcome, trail_shown};
 ghost use Rattle.book_model.specs.Words.{IsUsage, record_outcome};
 ghost use Rattle.book_model.specs.Words.{credit_given_outcome, credit_shown};
 ghost use Rattle.book_core.specs.Ledgers.{StopIsHarmless, Seen};
 ghost use Rattle.book_core.specs.Calls.{IsCall};
-ghost use Rattle.book_core.specs.Submissions.{Takes, records_in};
+ghost use Rattle.book_core.specs.Submissions.{TakesOf, records_in};
 ghost use Rattle.book_core.specs.Transition.{IsTransition};
 ghost use Rattle.book_core.specs.Withholdings.{TakesWorks};
 
 use crate::withheld::{Withheld, with_answer, work_answer};
 use book_model::{
-    Accepted, ChargeRow, Credit, Detail, Dispute, LedgerFault, Line, ListedRuling, Ruled, Ruling,
-    Trail,
+    Accepted, ChargeRow, Credit, Detail, Dispute, LedgerFault, Line, ListedRuling, Note, Ruled,
+    Ruling, Share, Stop, Trail,
 };
 use smf_text::Name;
 use std::alloc::Global;
@@ -34,75 +34,82 @@ pub trait Ledger {
     /// What is seen of the books, and what a stop leaves of them.
     ghost seen: { Self → Seen };
 
-    /// Makes a ruling. The calls below say of each what it does, and what refuses it.
-    fn rule(&mut self, ruling: Ruling<'_>) -> Result<Ruled, LedgerFault>
+    /// Makes a ruling. The calls below say of each what it does, and what refuses it. Where it is
+    /// done and has a note, it has an entry in the journal, in the same change.
+    fn rule(&mut self, ruling: Ruling<'_>, note: &Option<Note>) -> Result<Ruled, LedgerFault>
         requires { MayBeAsked (ruling_asked ruling) }
         ensures { IsCall (λ ruled. ruled) (seen self.old) (seen self.new) result
-            (rule_outcome (seen self.old).naming (ruling_asked ruling.entry)) };
+            (rule_outcome (seen self.old).naming (note_given note.now)
+            (ruling_asked ruling.entry)) };
 
     /// Submits a tariff file. Its tariff is in force from its first day on, where that day is
     /// later than the last close and every other tariff's; the records that are held and dated on
     /// it or after it are priced anew, where the books have room for what all of them cost then.
     /// Refused: `TariffRefused`, `TariffExists`, `TariffDate`, `Full`.
-    fn tariff(&mut self, text: &str) -> Result<Ruled, LedgerFault>
+    fn tariff(&mut self, text: &str, note: &Option<Note>) -> Result<Ruled, LedgerFault>
         ensures { IsCall (λ ruled. ruled) (seen self.old) (seen self.new) result
-            (tariff_outcome text.now) }
+            (tariff_outcome (note_given note.now) text.now) }
     {
-        self.rule(Ruling::Tariff(text))
+        self.rule(Ruling::Tariff(text), note)
     }
 
     /// Closes the open period, which is to be this one, through a day later than the last close.
     /// The day is counted from 1970-01-01. Refused: `WrongPeriod` with the open one, `NotLater`,
     /// and `Full` where no period may follow.
-    fn close(&mut self, period: u16, through: i32) -> Result<Ruled, LedgerFault>
+    fn close(
+        &mut self,
+        period: u16,
+        through: i32,
+        note: &Option<Note>,
+    ) -> Result<Ruled, LedgerFault>
         requires { IsDay through }
         ensures { IsCall (λ ruled. ruled) (seen self.old) (seen self.new) result
-            (close_outcome period through) }
+            (close_outcome (note_given note.now) period through) }
     {
-        self.rule(Ruling::Close { period, through })
+        self.rule(Ruling::Close { period, through }, note)
     }
 
     /// Chooses a record that is held, by its name, among those of its identity: it counts as
     /// undisputed from now on, the others stay uncharged. The choice that came last counts, also
     /// where it says that none of them does. Refused: `NoSuchRecord`; `NotDisputed` where it is
     /// alone and its work was never withheld; and `Full` where there is no room for a choice.
-    fn choose(&mut self, name: [u8; 32]) -> Result<Ruled, LedgerFault>
+    fn choose(&mut self, name: [u8; 32], note: &Option<Note>) -> Result<Ruled, LedgerFault>
         ensures { IsCall (λ ruled. ruled) (seen self.old) (seen self.new) result
-            (choose_outcome (seen self.old).naming name) }
+            (choose_outcome (seen self.old).naming (note_given note.now) name) }
     {
-        self.rule(Ruling::Choose(name))
+        self.rule(Ruling::Choose(name), note)
     }
 
     /// Adopts a rule of identity, 1 or 2: by the second one two records measure the same work only
     /// where that began at the same moment. Books begin under the first rule, and adopt the second
     /// once, for good; closed periods stay. Refused: `OldRule`, for rule 1 where the second is in
     /// force, and for any number that is no rule.
-    fn adopt_identity(&mut self, rule: u8) -> Result<Ruled, LedgerFault>
+    fn adopt_identity(&mut self, rule: u8, note: &Option<Note>) -> Result<Ruled, LedgerFault>
         ensures { IsCall (λ ruled. ruled) (seen self.old) (seen self.new) result
-            (adopt_outcome rule) }
+            (adopt_outcome (note_given note.now) rule) }
     {
-        self.rule(Ruling::Adopt(rule))
+        self.rule(Ruling::Adopt(rule), note)
     }
 
     /// Puts the tariff of a file in the place of the one that begins on its first day, which is kept
     /// in the list of rulings. The records that had that tariff are priced anew. Refused:
     /// `TariffRefused`; `NoSuchTariff` where none begins on that day; `TariffDate` where the day is
     /// not later than the last close; `Full`.
-    fn replace_tariff(&mut self, text: &str) -> Result<Ruled, LedgerFault>
+    fn replace_tariff(&mut self, text: &str, note: &Option<Note>) -> Result<Ruled, LedgerFault>
         ensures { IsCall (λ ruled. ruled) (seen self.old) (seen self.new) result
-            (replace_outcome text.now) }
+            (replace_outcome (note_given note.now) text.now) }
     {
-        self.rule(Ruling::Replace(text))
+        self.rule(Ruling::Replace(text), note)
     }
 
     /// Withholds the work of a record that is held, by its name: no record of its identity counts
     /// from now on, whatever comes, until one of them is chosen. Refused: `NoSuchRecord`, and `Full`
     /// where there is no room for a choice.
-    fn withhold(&mut self, name: [u8; 32]) -> Result<Ruled, LedgerFault>
+    fn withhold(&mut self, name: [u8; 32], note: &Option<Note>) -> Result<Ruled, LedgerFault>
         ensures { IsCall (λ ruled. ruled) (seen self.old) (seen self.new) result
-            (withhold_outcome (seen self.old).naming name) }
+            (withhold_outcome (seen self.old).naming (note_given note.now) name) }
     {
-        self.rule(Ruling::Withhold(name))
+        self.rule(Ruling::Withhold(name), note)
     }
 
     /// Withholds the works of the records of these names in order, as one change of the books: the
@@ -110,15 +117,19 @@ pub trait Ledger {
     /// many it took, each as `withhold` would, and those that are not held among them; or why the
     /// first is refused, as `withhold` says it. After `Store` the next open finds the works of some
     /// first of them withheld, or of none.
-    fn withhold_many(&mut self, names: &[[u8; 32]]) -> Result<Withheld, LedgerFault>
+    fn withhold_many(
+        &mut self,
+        names: &[[u8; 32]],
+        note: &Option<Note>,
+    ) -> Result<Withheld, LedgerFault>
         requires { 0 < length names.now }
         ensures takes { IsTransition (seen self.old) (seen self.new)
-            (TakesWorks (seen self.old).naming names.now result) }
+            (TakesWorks (seen self.old).naming (note_given note.now) names.now result) }
         ensures some { IfOk result (λ told. 0 < told.taken) }
         ensures few { IfOk result (λ told. told.taken ≤ length names.now) }
         ensures done { IfOk result (λ told. told.done + told.absent ≤ told.taken) }
     {
-        let told = self.withhold(names[0]);
+        let told = self.withhold(names[0], note);
         let answer = work_answer(told)?;
         let none = Withheld {
             taken: 0,
@@ -138,17 +149,21 @@ pub trait Ledger {
         centre: Name,
         amount: i64,
         reason: &str,
+        note: &Option<Note>,
     ) -> Result<Ruled, LedgerFault>
         requires { IsCreditOf centre amount reason.now }
         ensures { IsCall (λ ruled. ruled) (seen self.old) (seen self.new) result
-            (credit_outcome period centre amount reason.now) }
+            (credit_outcome (note_given note.now) period centre amount reason.now) }
     {
-        self.rule(Ruling::Credit {
-            period,
-            centre,
-            amount,
-            reason,
-        })
+        self.rule(
+            Ruling::Credit {
+                period,
+                centre,
+                amount,
+                reason,
+            },
+            note,
+        )
     }
 
     /// Submits a record, which is held from now on where it is new, a tariff is in force on its
@@ -161,13 +176,24 @@ pub trait Ledger {
     /// Submits records in order, as one change of the books: the first, and as many after it as
     /// one change takes, up to the next that is refused. Answers those that it took, each as
     /// `accept` would; or why the first is refused, as `accept` says it. After `Store` the next
-    /// open finds some first records of them, or none.
-    fn accept_many(&mut self, records: &[Vec<u8>]) -> Result<Vec<Accepted>, LedgerFault>
+    /// open finds some first records of them, or none. With those that are kept comes, in the same
+    /// change, what their import says of itself, if one is given: so its entry counts them.
+    fn accept_many(
+        &mut self,
+        records: &[Vec<u8>],
+        import: &Option<Share>,
+    ) -> Result<Vec<Accepted>, LedgerFault>
         requires some { 0 < length records.now }
         requires usage { All (λ one. IsUsageRecord one.items) records.now }
         ensures takes { IsTransition (seen self.old) (seen self.new)
-            (Takes (seen self.old).naming (records_in records.now) result) }
+            (TakesOf (seen self.old).naming import.now (records_in records.now) result) }
         ensures some { IfOk result (λ answers. 0 < length answers.items) };
+
+    /// The import that has the newest entry ended, and why: the entry says so from now on. Never
+    /// refused.
+    fn end_import(&mut self, stop: Stop) -> Result<(), LedgerFault>
+        ensures { IsCall (λ done. done) (seen self.old) (seen self.new) result
+            (ended_outcome stop) };
 
     /// The charge rows of a period, by day, then centre, then shift. Refused: `NoSuchPeriod`.
     fn charges(&mut self, period: u16) -> Result<Vec<ChargeRow>, LedgerFault>

@@ -19,7 +19,8 @@ mod withheld;
 
 pub use book_model::{
     Accepted, ChargeRow, Credit, Deed, Detail, Dispute, LedgerFault, Line, ListedRuling,
-    NamedChoice, Naming, RowKey, Ruled, Ruling, ShaNames, Trail, Turn, Variant,
+    NamedChoice, Naming, Note, Reading, RowKey, Ruled, Ruling, ShaNames, Share, Stop, Trail, Turn,
+    Variant,
 };
 // What a ledger of another crate needs to keep the same books.
 pub use acceptance::{is_full, name_of};

@@ -1,5 +1,5 @@
 -- What books hold after an import in which they refused no record.
-use Rattle.std.proofs.Common.{◌≡◌, ◌∙◌, ℕ, List, [], ◌∷◌, ◌++◌, refl, sym, ap, subst, append-nil}
+use Rattle.std.proofs.Common.{◌≡◌, ◌∙◌, ℕ, List, [], ◌∷◌, ◌++◌, refl, sym, ap, subst}
 use Rattle.std.proofs.Common.{Bool, true, false, true≢false, cond, ◌&&◌, ◌||◌, Option, Some, None}
 use Rattle.std.proofs.Common.{is_some, Result, Ok, Err}
 use Rattle.std.specs.Prelude.{if◌then◌else◌, filter, IfOk}
@@ -13,8 +13,10 @@ use Rattle.tariff_rules.specs.declared.priced.Priced.{Priced}
 use Rattle.smf_type30.specs.declared.record_class.Class.{Class}
 use Rattle.smf_type30.specs.declared.record_class.Class.TheVariants.{Usage}
 use Rattle.book_model.specs.Words.{class_of, Book, Records, Naming, by_bytes, Rulings, price_in}
-use Rattle.book_model.specs.Words.{set_of, has, those, clashes, is_full, accept_priced, keep}
-use Rattle.book_model.specs.Words.{accept_event, accept_outcome}
+use Rattle.book_model.specs.Words.{set_of, has, those, clashes, is_full, accept_priced}
+use Rattle.book_model.specs.Words.{RecordKept, accept_event, accept_outcome, after, change_newest}
+use Rattle.book_model.specs.Words.{keep_in}
+use Rattle.book_model.specs.JournalLaws.{unjournaled}
 use Rattle.book_model.specs.declared.answer.Accepted.{Accepted}
 use Rattle.book_model.specs.declared.answer.Accepted.TheVariants.{Kept, Known}
 use Rattle.book_model.specs.declared.fault.LedgerFault.{LedgerFault}
@@ -33,13 +35,16 @@ use Rattle.book_import.proofs.BookLemmas.{left_is}
 abbrev pub is_same : List ℕ → List ℕ → Bool
 is_same = eq_by_cmp by_bytes
 
--- A record was submitted: the new book holds it too if it counts, and nothing else is different.
+-- A record was submitted: the new book holds it too if it counts, and nothing else is different but
+-- the journal: that stays where the record is not new, and where it has no entry.
 pub record HoldsIt (counts : Bool) (bytes : List ℕ) (old new : Book) : Type 0 where
   pub held : (other : List ℕ)
       → has new.held other ≡ (has old.held other || (counts && is_same other bytes))
   pub rulings : new.rulings ≡ old.rulings
   pub posted : new.posted ≡ old.posted
   pub past : new.past ≡ old.past
+  pub noted : (counts ≡ true → has old.held bytes ≡ true) → new.journal ≡ old.journal
+  pub empty : old.journal ≡ [] → new.journal ≡ []
 
 -- a record that does not count, if the book stays
 stays_without : (bytes : List ℕ) (book : Book) → HoldsIt false bytes book book
@@ -50,6 +55,8 @@ stays_without bytes book =
       posted =
           refl;
       past = refl;
+      noted = λ there. refl;
+      empty = λ none. none;
     }
 
 -- what is at a place is there already, if it counts only at that place
@@ -69,17 +76,22 @@ stays_with counts bytes book holds = record {
   rulings = refl;
   posted = refl;
   past = refl;
+  noted = λ there. refl;
+  empty = λ none. none;
 }
 
 -- a record that is kept
-is_kept : (bytes : List ℕ) (book : Book) → HoldsIt true bytes book (keep bytes book)
-is_kept bytes book = record {
+is_kept : (bytes : List ℕ) (book : Book) → has book.held bytes ≡ false
+    → HoldsIt true bytes book (after (RecordKept bytes) book)
+is_kept bytes book new = record {
   held = λ other.
       has-with nat_list_cmp_total book.held bytes other
       ∙ or_comm (is_same other bytes) (has book.held other);
   rulings = refl;
   posted = refl;
   past = refl;
+  noted = λ there. absurd (true≢false (sym (there refl) ∙ new));
+  empty = ap (change_newest (keep_in bytes));
 }
 
 -- the answer to a usage record, by whether it is held, whether another has its name, and its price
@@ -105,7 +117,7 @@ usage_handled bytes so_far false false (Some priced) new =
     IfOk (answered bytes so_far (if full then Err Full else Ok Kept))
     (λ next. HoldsIt true bytes so_far.book next.book)) [
       | true ↦ tt
-      | false ↦ is_kept bytes so_far.book
+      | false ↦ is_kept bytes so_far.book new
     ]
 
 -- a record of a class counts if the class is that of usage records, and it has a price
@@ -151,6 +163,7 @@ then_rest bytes rest {old} {between} one more = record {
   rulings = more.rulings ∙ one.rulings;
   posted = more.posted ∙ one.posted;
   past = more.past ∙ one.past;
+  empty = λ none. more.empty (one.empty none);
 }
 
 -- after no record the books hold what they held
@@ -163,6 +176,7 @@ none_came book = record {
   rulings = refl;
   posted = refl;
   past = refl;
+  empty = λ none. none;
 }
 
 -- from any point of an import on, the books hold what came, if they refuse no record
@@ -224,6 +238,7 @@ then_later records later {old} {between} one more = record {
   rulings = more.rulings ∙ one.rulings;
   posted = more.posted ∙ one.posted;
   past = more.past ∙ one.past;
+  empty = λ none. more.empty (one.empty none);
 }
 
 -- after dumps of which no record was refused, the books hold what came of all of them
@@ -247,9 +262,9 @@ same_priced rulings records others same =
     ∙ ap (those priced) same
     ∙ those-set_of nat_list_cmp_total exact_bytes priced others
 
--- only one book holds that much more than another, with nothing else different
+-- only one book, but for the journal, holds that much more than another, with nothing else different
 same_book : {records : Records} {before one other : Book} → HoldsMore records before one
-    → HoldsMore records before other → one ≡ other
+    → HoldsMore records before other → unjournaled one ≡ unjournaled other
 same_book {one} {other} first second =
     let each = λ (bytes : List ℕ). first.held bytes ∙ sym (second.held bytes) in
     let held = same_set nat_list_cmp_total exact_bytes one.held other.held each in
@@ -258,6 +273,7 @@ same_book {one} {other} first second =
       held = held i;
       posted = (first.posted ∙ sym second.posted) i;
       past = (first.past ∙ sym second.past) i;
+      journal = [];
     }
 
 -- the law
@@ -269,17 +285,19 @@ cuts_make_no_difference naming before dumps others same unrefused other_unrefuse
     let priced = sym (same_priced before.rulings (all_records dumps) (all_records others) same) in
     same_book first (subst (λ came. HoldsMore came before after) priced second)
 
--- the same for two dumps, each in one import
+-- The same for two dumps, each in one import. Where there is no entry, none comes.
 pub one_import_each : (naming : Naming) (before : Book) (stop other_stop : Stop)
-    (records others : List (List ℕ))
+    (records others : List (List ℕ)) → before.journal ≡ []
     → set_of by_bytes records ≡ set_of by_bytes others
     → IsUnrefused (import_of_records naming before stop records)
     → IsUnrefused (import_of_records naming before other_stop others)
     → book_after_import naming before stop records ≡ book_after_import naming before other_stop others
-one_import_each naming before stop other_stop records others same unrefused other_unrefused =
-    let dump : DumpRead = record { records = records; stop = stop } in
-    let other_dump : DumpRead = record { records = others; stop = other_stop } in
-    cuts_make_no_difference naming before (dump ∷ []) (other_dump ∷ [])
-    (ap (set_of by_bytes) (append-nil records) ∙ same
-    ∙ sym (ap (set_of by_bytes) (append-nil others)))
-    (unrefused, tt) (other_unrefused, tt)
+one_import_each naming before stop other_stop records others none same unrefused other_unrefused =
+    let after : Book = book_after_import naming before other_stop others in
+    let first = holds_what_came naming before stop records unrefused in
+    let priced = sym (same_priced before.rulings records others same) in
+    let second = subst (λ came. HoldsMore came before after) priced
+    (holds_what_came naming before other_stop others other_unrefused) in
+    let alike = same_book first second in
+    let noted = first.empty none ∙ sym (second.empty none) in
+    λ i. record (alike i) { journal = noted i }

@@ -80,6 +80,7 @@ stays {old} {new} bytes one settled =
       held = held i;
       posted = one.posted i;
       past = one.past i;
+      journal = one.noted settled i;
     }
 
 -- the same books

@@ -1,8 +1,8 @@
 //! How the records of a group are submitted to the books.
 
-ghost use Rattle.std.specs.Prelude.{◌≡◌, ◌+◌, ◌<◌, ◌≤◌, ◌^◌, All, List, OnOk, length, ℕ};
+ghost use Rattle.std.specs.Prelude.{◌≡◌, ◌+◌, ◌<◌, ◌≤◌, ◌^◌, All, IfOk, List, OnOk, length, ℕ};
 ghost use Rattle.book_model.specs.Words.{IsUsageRecord};
-ghost use Rattle.book_core.specs.Submissions.{records_in};
+ghost use Rattle.book_core.specs.Submissions.{Takes, records_in};
 ghost use Rattle.book_core.specs.Transition.{IsTransition};
 ghost use Rattle.book_import.specs.Groups.{Asks, BooksGroup, IsGroup, left_in};
 ghost use Rattle.book_import.specs.Receipts.{counted};
@@ -14,6 +14,17 @@ use crate::records::{count_accepted, count_class};
 use book_core::{Accepted, Ledger, LedgerFault};
 use smf_type30::Class;
 use std::alloc::Global;
+
+/// Submits records together, with no word of their import.
+fn submit<L: Ledger>(ledger: &mut L, waiting: &[Vec<u8>]) -> Result<Vec<Accepted>, LedgerFault>
+    requires some { 0 < length waiting.now }
+    requires usage { All (λ one. IsUsageRecord one.items) waiting.now }
+    ensures takes { IsTransition (L.seen ledger.old) (L.seen ledger.new)
+        (Takes (L.seen ledger.old).naming (records_in waiting.now) result) }
+    ensures some { IfOk result (λ answers. 0 < length answers.items) }
+{
+    ledger.accept_many(waiting, &None)
+}
 
 /// The answer to the first of the records that wait. Where none is left of what the books answered
 /// before, they are asked, with all records that wait.
@@ -31,7 +42,7 @@ fn next_answer<L: Ledger>(
     if let Some(answer) = pending.pop() {
         return Ok(answer);
     }
-    let answers = ledger.accept_many(waiting)?;
+    let answers = submit(ledger, waiting)?;
     Ok(pending.refill(answers))
 }
 

@@ -144,12 +144,12 @@ keeps_credits : (later : List Event) (old : Book) (number : ℕ) → number < op
     → (number < open_by (after_all later old).rulings)
     × (credits_in number (after_all later old).rulings ≡ credits_in number old.rulings)
 keeps_credits [] old number closed = (closed, refl)
-keeps_credits (PeriodClosed day ∷ later) old number closed =
+keeps_credits (PeriodClosed said day ∷ later) old number closed =
     let before = keeps_credits later old number closed in
     let more = length-append (after_all later old).rulings.closes (day ∷ []) in
     let was = before.0 in
     (omega (arith, more, was), before.1)
-keeps_credits (RulingGiven (CreditGiven centre amount reason) ∷ later) old number closed =
+keeps_credits (RulingGiven said (CreditGiven centre amount reason) ∷ later) old number closed =
     let before = keeps_credits later old number closed in
     let book : Book = after_all later old in (
       before.0,

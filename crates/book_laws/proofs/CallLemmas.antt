@@ -1,19 +1,22 @@
 -- Calls on one ledger, one after another: their work, and the events that they make.
 use Rattle.std.proofs.Common.{false, ℕ, List, [], ◌∷◌, Result, Ok, Err, map, refl, sym, subst}
-use Rattle.std.proofs.Common.{Vec, Global, option_map}
+use Rattle.std.proofs.Common.{Option, Vec, Global, option_map}
 use Rattle.book_model.specs.declared.answer.Accepted.{Accepted}
 use Rattle.book_model.specs.MadeByCalls.{AreMadeOf}
 use Rattle.book_model.specs.declared.fault.LedgerFault.TheVariants.{Store}
+use Rattle.book_model.specs.declared.note.Share.{Share}
 use Rattle.book_model.specs.Words.{accept_answer, Book, new_book, dispute_shown}
 use Rattle.book_model.specs.Words.{book_after, Outcome, accept_outcome, charges_outcome}
 use Rattle.book_model.specs.Words.{adjustments_outcome, disputes_outcome, periods_outcome, Naming}
-use Rattle.book_model.specs.Words.{dispute_outcome, next_detail_outcome, record_outcome}
-use Rattle.book_model.specs.Words.{credit_given_outcome, credit_shown, ruling_outcome}
+use Rattle.book_model.specs.Words.{dispute_outcome, ended_outcome, next_detail_outcome}
+use Rattle.book_model.specs.Words.{credit_given_outcome, credit_shown, record_outcome}
+use Rattle.book_model.specs.Words.{ruling_outcome}
 use Rattle.book_model.specs.Words.{ruling_shown, trail_outcome, trail_shown, what_if_outcome}
-use Rattle.book_core.specs.Words.{Calls, listed, Seen, IsOpenAt, Accepts, Takes, first_of}
+use Rattle.book_core.specs.Words.{Calls, listed, Seen, IsOpenAt, Accepts, TakesOf, first_of}
 use Rattle.book_core.specs.Words.{IsTransition, MakesAnswered}
 use Rattle.book_core.proofs.FollowLemmas.{then_answered, calls_answered, none_answered}
 use Rattle.book_core.proofs.FollowLemmas.{accept_event-answered, ruling_answered, works_answered}
+use Rattle.book_core.proofs.SubmissionLemmas.{of_answered}
 use Rattle.book_core.proofs.TransitionLemmas.{no_work, work_then}
 use Rattle.book_lists.proofs.ReadingLemmas.{IsReading}
 use Rattle.office.specs.Laws.{IsStillOpen}
@@ -27,7 +30,8 @@ use Rattle.book_http.proofs.LawLemmas.{request_answered}
 use Rattle.book_laws.specs.CallLaws.{CallsFollowHistory}
 use Rattle.book_laws.specs.Calls.{Call, Request, RunRequests, AcceptRecord, ReadCharges}
 use Rattle.book_laws.specs.Calls.{AcceptRecords, ChooseEach, MakeRuling, HttpDetails, HttpRequest}
-use Rattle.book_laws.specs.Calls.{ReadAdjustments, ReadCredit, WithholdEach, WithholdWorks}
+use Rattle.book_laws.specs.Calls.{EndImport, ReadAdjustments, ReadCredit, WithholdEach}
+use Rattle.book_laws.specs.Calls.{WithholdWorks}
 use Rattle.book_laws.specs.Calls.{ReadDisputes, ReadPeriods, ReadChargesUnder, ReadDetail}
 use Rattle.book_laws.specs.Calls.{ReadDispute, ReadRecord, ReadRuling, ReadTrail, Step, AreDone}
 use Rattle.book_laws.specs.Calls.{calls_of, ledger_after_calls, work_of, works_of}
@@ -60,14 +64,18 @@ accepts_answered naming (bytes ∷ rest) (answer ∷ later) =
     (Accepts naming rest later) (record_answered naming bytes (Ok answer))
     (accepts_answered naming rest later)
 
--- also several together
-takes_answered : (naming : Naming) (records : List (List ℕ))
+-- also several together, with what their import says
+takes_answered : (naming : Naming) (import : Option Share) (records : List (List ℕ))
     (answers : Result (Vec Accepted Global) LedgerFault)
-    → MakesAnswered naming (Takes naming records answers)
-takes_answered naming records (Ok answers) = accepts_answered naming records answers.items
-takes_answered naming records (Err Store) = λ book was events is first.
-    accepts_answered naming records first.answers book false events false first.kept
-takes_answered naming records (Err fault) = record_answered naming (first_of records) (Err fault)
+    → MakesAnswered naming (TakesOf naming import records answers)
+takes_answered naming import records (Ok answers) =
+    of_answered naming import records answers.items
+    (accepts_answered naming records answers.items)
+takes_answered naming import records (Err Store) = λ book was events is first.
+    of_answered naming import records first.answers (accepts_answered naming records first.answers)
+    book false events false first.kept
+takes_answered naming import records (Err fault) =
+    record_answered naming (first_of records) (Err fault)
 
 -- each call makes only events that the books answered
 call_answered : (naming : Naming) (call : Call) → MakesAnswered naming (work_of naming call)
@@ -78,11 +86,14 @@ call_answered naming (ChooseEach withheld names answers refusal) =
 call_answered naming (HttpRequest bytes reply) = request_answered naming bytes reply
 call_answered naming (HttpDetails bytes held holds served) = λ book was events is made.
     request_answered naming bytes made.reply book was events was made.answer.0
-call_answered naming (MakeRuling ruling answer) =
-    ruling_answered naming (λ ruled. ruled) ruling answer
+call_answered naming (MakeRuling said ruling answer) =
+    ruling_answered naming (λ ruled. ruled) said ruling answer
 call_answered naming (AcceptRecord bytes answer) = record_answered naming bytes answer
-call_answered naming (AcceptRecords records answers) = takes_answered naming records answers
-call_answered naming (WithholdWorks names told) = works_answered naming names told
+call_answered naming (AcceptRecords import records answers) =
+    takes_answered naming import records answers
+call_answered naming (EndImport stop answer) =
+    calls_answered naming (λ (done : Unit {0}). done) (ended_outcome stop) answer (λ book. (tt, tt))
+call_answered naming (WithholdWorks said names told) = works_answered naming said names told
 call_answered naming (WithholdEach names counts refusal) =
     so_answered naming names counts refusal
 call_answered naming (ReadCharges period answer) =

@@ -1,40 +1,14 @@
 -- What calls make of a book: it stays sound, its closes stay in order, and so a history goes on.
-use Rattle.std.proofs.Common.{List, [], ◌∷◌, ◌++◌, sym, subst, Some, None, int_cmp}
+use Rattle.std.proofs.Common.{List, [], ◌∷◌, ◌++◌, sym, subst, int_cmp}
 use Rattle.std.specs.List.Sorted.{IsStrictlySortedBy}
 use Rattle.book_model.specs.Words.{Book, Event, IsAnswered, IsMadeByCalls, IsSound, Naming}
-use Rattle.book_model.specs.Words.{PeriodClosed, RecordChosen, RecordKept, RulingGiven}
-use Rattle.book_model.specs.Words.{CreditGiven, SecondRuleAdopted, TariffAccepted, TariffReplaced}
-use Rattle.book_model.specs.Words.{WorkWithheld, after, after_all, book_after}
-use Rattle.book_model.specs.Words.{give, name_of, new_book, open_number}
-use Rattle.book_model.proofs.Lemmas.{calls_go_forward, sound_after, steps_stay_sound}
+use Rattle.book_model.specs.Words.{PeriodClosed, after_all, book_after, new_book, open_number}
+use Rattle.book_model.proofs.Lemmas.{calls_go_forward, event_sound, sound_after}
 use Rattle.table_model.proofs.CloseOrder.{rise_behind}
 use Rattle.book_laws.proofs.Words.{after_all-append}
 use Rattle.book_model.specs.MadeByCalls.{AreMadeOf}
 
--- a sound book is sound after an event that was answered so,
-event_sound : (naming : Naming) (event : Event) (book : Book) → IsAnswered naming event book
-    → IsSound naming book → IsSound naming (after event book)
-event_sound naming (RecordKept bytes) book answered sound =
-    steps_stay_sound.keep naming book bytes sound answered
-event_sound naming (PeriodClosed day) book answered sound =
-    steps_stay_sound.close naming book (open_number book) day sound answered
-event_sound naming (RulingGiven (TariffAccepted (Some text) terms)) book answered sound =
-    steps_stay_sound.tariff naming book text terms sound answered
-event_sound naming (RulingGiven (TariffAccepted None terms)) book answered sound =
-    subst (λ before. IsSound naming (give (TariffAccepted None terms) before)) (sym answered)
-    (steps_stay_sound.flat naming terms)
-event_sound naming (RulingGiven (RecordChosen bytes)) book answered sound =
-    steps_stay_sound.choose naming book (name_of naming bytes) bytes sound answered.1
-event_sound naming (RulingGiven SecondRuleAdopted) book answered sound =
-    steps_stay_sound.adopt naming book sound
-event_sound naming (RulingGiven (TariffReplaced text terms)) book answered sound =
-    steps_stay_sound.replace naming book text terms sound
-event_sound naming (RulingGiven (WorkWithheld bytes)) book answered sound =
-    steps_stay_sound.withhold naming book (name_of naming bytes) bytes sound answered.1
-event_sound naming (RulingGiven (CreditGiven centre amount reason)) book answered sound =
-    steps_stay_sound.credit naming book centre amount reason sound
-
--- and after all that calls make of it
+-- a sound book is sound after all that calls make of it
 pub sound_later : (naming : Naming) (later : List Event) (book : Book) → IsSound naming book
     → AreMadeOf naming book later → IsSound naming (after_all later book)
 sound_later naming [] book sound made = sound
@@ -47,7 +21,7 @@ pub rise_later : (naming : Naming) (later : List Event) (book : Book)
     → IsStrictlySortedBy int_cmp book.rulings.closes → AreMadeOf naming book later
     → IsStrictlySortedBy int_cmp (after_all later book).rulings.closes
 rise_later naming [] book rising made = rising
-rise_later naming (PeriodClosed day ∷ later) book rising made =
+rise_later naming (PeriodClosed said day ∷ later) book rising made =
     let between : Book = after_all later book in
     rise_behind between.rulings.closes day (rise_later naming later book rising made.1)
     (calls_go_forward.close between (open_number between) day made.0)

@@ -32,7 +32,7 @@ withheld_nets_to_nothing history bytes withheld =
 -- an event takes away no close
 closes_stay : (event : Event) (older : List Event)
     → length (closes older) ≤ length (closes (event ∷ older))
-closes_stay (PeriodClosed day) older = omega (arith, closed_once_more day older)
+closes_stay (PeriodClosed said day) older = omega (arith, closed_once_more said day older)
 closes_stay event older = omega arith
 
 -- one event more, and any events

@@ -44,7 +44,7 @@ pub keeps : (naming : Naming) (later : List Event) (start : Book) (bytes : List 
     → AreMadeOf naming start later → is_dated_after (last_close start.rulings) bytes ≡ false
     → Keeps start (after_all later start) bytes
 keeps naming [] start bytes made early = record { early = early; price = refl; place = refl }
-keeps naming (PeriodClosed day ∷ later) start bytes made early =
+keeps naming (PeriodClosed said day ∷ later) start bytes made early =
     let before = keeps naming later start bytes made.1 early in
     let book : Book = after_all later start in
     let late = later_still (last_close book.rulings) day bytes
@@ -54,20 +54,20 @@ keeps naming (PeriodClosed day ∷ later) start bytes made early =
       price = before.price;
       place = place_stays book.rulings.closes day (day_of bytes) late ∙ before.place;
     }
-keeps naming (RulingGiven (TariffAccepted (Some text) terms) ∷ later) start bytes made early =
+keeps naming (RulingGiven said (TariffAccepted (Some text) terms) ∷ later) start bytes made early =
     let before = keeps naming later start bytes made.1 early in record {
       early = before.early;
       price = closed_prices_stay (after_all later start) text terms bytes made.0 before.early
           ∙ before.price;
       place = before.place;
     }
-keeps naming (RulingGiven (TariffAccepted None terms) ∷ later) start bytes made early =
+keeps naming (RulingGiven said (TariffAccepted None terms) ∷ later) start bytes made early =
     let before = keeps naming later start bytes made.1 early in
     let never : true ≡ false =
     subst (λ (book : Book). is_dated_after (last_close book.rulings) bytes ≡ false) made.0
     before.early in
     absurd (true≢false never)
-keeps naming (RulingGiven (TariffReplaced text terms) ∷ later) start bytes made early =
+keeps naming (RulingGiven said (TariffReplaced text terms) ∷ later) start bytes made early =
     let before = keeps naming later start bytes made.1 early in record {
       early = before.early;
       price = replaced_prices_stay (after_all later start) text terms bytes made.0 before.early

@@ -363,7 +363,7 @@ pub keeps_tariffs : (naming : Naming) (later : List Event) (start : Book) (k : �
     → k < length start.rulings.closes → KeepsTariffs k start (after_all later start)
 keeps_tariffs naming [] start k rising made within =
     record { within = within; same = refl; begun = refl; before = refl }
-keeps_tariffs naming (PeriodClosed day ∷ later) start k rising made within =
+keeps_tariffs naming (PeriodClosed said day ∷ later) start k rising made within =
     let before = keeps_tariffs naming later start k rising made.1 within in
     let book : Book = after_all later start in
     let more = length-append book.rulings.closes (day ∷ []) in
@@ -377,7 +377,7 @@ keeps_tariffs naming (PeriodClosed day ∷ later) start k rising made within =
           ∙ before.begun;
       before = before_stays book.rulings.closes day k before.within ∙ before.before;
     }
-keeps_tariffs naming (RulingGiven (TariffAccepted (Some text) terms) ∷ later) start k rising made
+keeps_tariffs naming (RulingGiven said (TariffAccepted (Some text) terms) ∷ later) start k rising made
     within =
     let before = keeps_tariffs naming later start k rising made.1 within in
     let book : Book = after_all later start in
@@ -394,11 +394,11 @@ keeps_tariffs naming (RulingGiven (TariffAccepted (Some text) terms) ∷ later) 
           ∙ before.begun;
       before = before.before;
     }
-keeps_tariffs naming (RulingGiven (TariffAccepted None terms) ∷ later) start k rising made within =
+keeps_tariffs naming (RulingGiven said (TariffAccepted None terms) ∷ later) start k rising made within =
     let before = keeps_tariffs naming later start k rising made.1 within in
     let never = subst (λ (book : Book). k < length book.rulings.closes) made.0 before.within in
     absurd (omega arith)
-keeps_tariffs naming (RulingGiven (TariffReplaced text terms) ∷ later) start k rising made within =
+keeps_tariffs naming (RulingGiven said (TariffReplaced text terms) ∷ later) start k rising made within =
     let before = keeps_tariffs naming later start k rising made.1 within in
     let book : Book = after_all later start in
     let rise = rise_later naming later start rising made.1 in

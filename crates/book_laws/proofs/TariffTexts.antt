@@ -133,10 +133,10 @@ others new day apart (tariff ∷ tariffs) =
 stays : (book : Book) (event : Event) (day : ℤ) (text : List ℕ) → ReplacesNone day event
     → tariff_text_on day book.rulings ≡ Some text
     → tariff_text_on day (after event book).rulings ≡ Some text
-stays book (RulingGiven (TariffReplaced other terms)) day text none is =
+stays book (RulingGiven said (TariffReplaced other terms)) day text none is =
     ap (λ all. slice_get all 0)
     (others (record { text = Some other; terms = terms }) day none book.rulings.tariffs) ∙ is
-stays book (RulingGiven (TariffAccepted other terms)) day text none is =
+stays book (RulingGiven said (TariffAccepted other terms)) day text none is =
     let more : AcceptedTerms = record { text = other; terms = terms } in
     ap (λ all. slice_get all 0) (texts_behind day book.rulings.tariffs (more ∷ []))
     ∙ first_stays (texts day book.rulings.tariffs) (texts day (more ∷ [])) text is

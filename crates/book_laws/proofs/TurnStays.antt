@@ -66,7 +66,7 @@ module _ (number : ℕ) (bytes : List ℕ) where
   keeps_turns : (later : List Event) (start : Book) → number ≤ length start.past
       → KeepsTurns number bytes start (after_all later start)
   keeps_turns [] start long = record { long = long; same = refl }
-  keeps_turns (PeriodClosed day ∷ later) start long =
+  keeps_turns (PeriodClosed said day ∷ later) start long =
       let before = keeps_turns later start long in
       let book : Book = after_all later start in
       let ended : Period = period_by (last_close book.rulings) book.posted

@@ -20,7 +20,7 @@ use Rattle.smf_type30.specs.Usage as usage
 -- the periods of the book are made as they are defined
 past_is : (history : List Event) → closed_periods_by as_defined history ≡ (book_after history).past
 past_is [] = refl
-past_is (PeriodClosed day ∷ older) =
+past_is (PeriodClosed said day ∷ older) =
     let book : Book = book_after older in
     ap (λ past. past ++ as_defined (last_close book.rulings) book.posted
     (charged_through book.rulings day book.held) ∷ []) (past_is older)
@@ -159,7 +159,7 @@ added_fails law =
 counted_fails : ChargedOnceBy counts_late → ⊥
 counted_fails law =
     let first : Book = book_after (RecordKept one ∷ []) in
-    let second : Book = book_after (PeriodClosed last ∷ RecordKept one ∷ []) in
+    let second : Book = book_after (PeriodClosed None last ∷ RecordKept one ∷ []) in
     let charged : Records = charged_now second.rulings second.held in
     let posted : Records = second.posted in
     let was = now_posted [] in
@@ -173,7 +173,7 @@ counted_fails law =
     ∙ and-false (not (is_dated_after (Some last) one)))
     (one_fresh posted first.posted true false was (nobody one))
     (one_fresh charged posted true true now was)
-    now (law (PeriodClosed last ∷ RecordKept one ∷ []) one) in
+    now (law (PeriodClosed None last ∷ RecordKept one ∷ []) one) in
     absurd (omega (arith, ints))
 
 -- if nothing is reversed, a record stays charged that a close charged and another record
@@ -181,7 +181,7 @@ counted_fails law =
 minus_fails : ChargedOnceBy no_minus → ⊥
 minus_fails law =
     let first : Book = book_after (RecordKept one ∷ []) in
-    let third : Book = book_after (RecordKept other ∷ PeriodClosed last ∷ RecordKept one ∷ []) in
+    let third : Book = book_after (RecordKept other ∷ PeriodClosed None last ∷ RecordKept one ∷ []) in
     let charged : Records = charged_now third.rulings third.held in
     let posted : Records = third.posted in
     let was = now_posted [] in
@@ -195,7 +195,7 @@ minus_fails law =
     (one_added None first.posted posted false true (nobody one) was)
     (one_added (Some last) posted charged true false was now ∙ and-false (not current))
     (nobody one) (nobody one)
-    now (law (RecordKept other ∷ PeriodClosed last ∷ RecordKept one ∷ []) one) in
+    now (law (RecordKept other ∷ PeriodClosed None last ∷ RecordKept one ∷ []) one) in
     absurd (omega (arith, ints))
 
 -- the law

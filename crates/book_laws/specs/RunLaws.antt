@@ -19,7 +19,7 @@ pub record RunsMakeHistory : Type 0 where
       → IsRunOn naming new_book was run is → IsRunAfter naming [] run
   pub flat : (naming : Naming) (terms : Terms) (was is : Bool) (run : Run)
       → IsRunOn naming (flat_book terms) was run is
-      → IsRunAfter naming (RulingGiven (TariffAccepted None terms) ∷ []) run
+      → IsRunAfter naming (RulingGiven None (TariffAccepted None terms) ∷ []) run
   pub next : (naming : Naming) (history : List Event) (run : Run)
       → IsRunAfter naming history run → IsMadeByCalls naming (history_with history run)
 

@@ -14,7 +14,7 @@ PeriodDefinition = Option ℤ → Records → Records → Period
 -- the closed periods of a history, made so
 abbrev pub closed_periods_by : PeriodDefinition → List Event → List Period
 closed_periods_by make [] = []
-closed_periods_by make (PeriodClosed day ∷ older) =
+closed_periods_by make (PeriodClosed said day ∷ older) =
     let book : Book = book_after older in
     closed_periods_by make older
     ++ make (last_close book.rulings) book.posted (charged_through book.rulings day book.held) ∷ []

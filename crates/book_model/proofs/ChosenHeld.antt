@@ -31,12 +31,12 @@ to_come naming history k answered after =
 same_choices : (k : ℕ) (event : Event) (older : List Event) → k < length (closes (event ∷ older))
     → (rulings_before k (rulings (event ∷ older))).choices
     ≡ (rulings_before k (rulings older)).choices
-same_choices k (RulingGiven (RecordChosen bytes)) older came =
+same_choices k (RulingGiven said (RecordChosen bytes)) older came =
     ap (λ (ruled : Rulings). ruled.choices)
-    (ruled_stays k (RulingGiven (RecordChosen bytes)) older came)
-same_choices k (RulingGiven (WorkWithheld bytes)) older came =
+    (ruled_stays k (RulingGiven said (RecordChosen bytes)) older came)
+same_choices k (RulingGiven said (WorkWithheld bytes)) older came =
     ap (λ (ruled : Rulings). ruled.choices)
-    (ruled_stays k (RulingGiven (WorkWithheld bytes)) older came)
+    (ruled_stays k (RulingGiven said (WorkWithheld bytes)) older came)
 same_choices k event older came = refl
 
 -- the law of it

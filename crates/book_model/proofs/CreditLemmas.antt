@@ -9,6 +9,7 @@ use Rattle.book_model.specs.Laws.{ChoosingTakesOne, CreditsStandApart, WithheldI
 use Rattle.book_model.specs.Laws.{WithholdingTakesTheWork}
 use Rattle.book_model.specs.Words.{PeriodClosed, RecordKept, TariffAccepted, TariffReplaced}
 use Rattle.book_model.specs.Words.{RecordChosen, SecondRuleAdopted, WorkWithheld}
+use Rattle.book_model.specs.Words.{ImportBegun, ImportEnded, ImportRead}
 use Rattle.book_model.proofs.ChosenLemmas.{charged-choice, charged-withheld, withheld_uncharged}
 
 -- a credit of the open period is not one of a closed period
@@ -25,7 +26,7 @@ credit_late credits credit number closed =
 closed_credits : (history : List Event) (event : Event) (number : ℕ)
     → number < open_by (rulings history)
     → credits_in number (rulings (event ∷ history)) ≡ credits_in number (rulings history)
-closed_credits history (RulingGiven (CreditGiven centre amount reason)) number closed =
+closed_credits history (RulingGiven said (CreditGiven centre amount reason)) number closed =
     credit_late (rulings history).credits (record {
       centre = centre;
       amount = amount;
@@ -33,12 +34,15 @@ closed_credits history (RulingGiven (CreditGiven centre amount reason)) number c
       period = open_by (rulings history);
     }) number closed
 closed_credits history (RecordKept bytes) number closed = refl
-closed_credits history (PeriodClosed day) number closed = refl
-closed_credits history (RulingGiven (TariffAccepted text terms)) number closed = refl
-closed_credits history (RulingGiven (TariffReplaced text terms)) number closed = refl
-closed_credits history (RulingGiven (RecordChosen bytes)) number closed = refl
-closed_credits history (RulingGiven (WorkWithheld bytes)) number closed = refl
-closed_credits history (RulingGiven SecondRuleAdopted) number closed = refl
+closed_credits history (PeriodClosed said day) number closed = refl
+closed_credits history (ImportBegun note) number closed = refl
+closed_credits history (ImportRead reading) number closed = refl
+closed_credits history (ImportEnded ending) number closed = refl
+closed_credits history (RulingGiven said (TariffAccepted text terms)) number closed = refl
+closed_credits history (RulingGiven said (TariffReplaced text terms)) number closed = refl
+closed_credits history (RulingGiven said (RecordChosen bytes)) number closed = refl
+closed_credits history (RulingGiven said (WorkWithheld bytes)) number closed = refl
+closed_credits history (RulingGiven said SecondRuleAdopted) number closed = refl
 
 -- the law of credits
 pub credits_stand_apart : CreditsStandApart

@@ -13,7 +13,7 @@ use Rattle.book_model.specs.Words.{rulings, closes, day_of_close, held_before, c
 use Rattle.book_model.specs.Words.{by_bytes, Rulings, Choice, rulings_before, RecordKept}
 use Rattle.book_model.specs.Words.{RecordChosen, SecondRuleAdopted, last_close, open_by}
 use Rattle.book_model.specs.Words.{CreditGiven, TariffAccepted, TariffReplaced, WorkWithheld}
-use Rattle.book_model.specs.Words.{with_named, set_of}
+use Rattle.book_model.specs.Words.{with_named, set_of, ImportBegun, ImportEnded, ImportRead, Note}
 use Rattle.book_model.specs.History.{kept, before_close}
 use Rattle.book_model.specs.Rulings.{if_before}
 use Rattle.book_model.proofs.ListLemmas.{slice_get-front, slice_get-behind, last_or-is}
@@ -71,15 +71,15 @@ chosen_late others counts bytes ruled came =
 pub choices_all : (others : ℕ) (history : List Event) → length (closes history) ≤ others
     → filter (made_before others) (rulings history).choices ≡ (rulings history).choices
 choices_all others [] to_come = refl
-choices_all others (PeriodClosed day ∷ older) to_come =
+choices_all others (PeriodClosed said day ∷ older) to_come =
     let more = length-append (closes older) (day ∷ []) in
     choices_all others older (omega arith)
-choices_all others (RulingGiven (RecordChosen bytes) ∷ older) to_come =
+choices_all others (RulingGiven said (RecordChosen bytes) ∷ older) to_come =
     chosen_last others true bytes (rulings older) to_come
     ∙ ap (λ earlier. earlier
     ++ record { chosen = bytes; counts = true; period = open_by (rulings older) } ∷ [])
     (choices_all others older to_come)
-choices_all others (RulingGiven (WorkWithheld bytes) ∷ older) to_come =
+choices_all others (RulingGiven said (WorkWithheld bytes) ∷ older) to_come =
     chosen_last others false bytes (rulings older) to_come
     ∙ ap (λ earlier. earlier
     ++ record { chosen = bytes; counts = false; period = open_by (rulings older) } ∷ [])
@@ -98,10 +98,10 @@ adopted_then others period (Some first) early stays = stays
 adopted_all : (others : ℕ) (history : List Event) → length (closes history) ≤ others
     → option_and_then (if_before others) (rulings history).adopted ≡ (rulings history).adopted
 adopted_all others [] to_come = refl
-adopted_all others (PeriodClosed day ∷ older) to_come =
+adopted_all others (PeriodClosed said day ∷ older) to_come =
     let more = length-append (closes older) (day ∷ []) in
     adopted_all others older (omega arith)
-adopted_all others (RulingGiven SecondRuleAdopted ∷ older) to_come =
+adopted_all others (RulingGiven said SecondRuleAdopted ∷ older) to_come =
     adopted_then others (open_by (rulings older)) (rulings older).adopted (omega arith)
     (adopted_all others older to_come)
 adopted_all others (event ∷ older) to_come = adopted_all others older to_come
@@ -144,20 +144,20 @@ charged_open history =
     λ i. charged_by (ruled i) (day i) (held i)
 
 -- one close more
-pub closed_once_more : (day : ℤ) (older : List Event)
-    → length (closes (PeriodClosed day ∷ older)) ≡ suc (length (closes older))
-closed_once_more day older = omega (arith, length-append (closes older) (day ∷ []))
+pub closed_once_more : (said : Option Note) (day : ℤ) (older : List Event)
+    → length (closes (PeriodClosed said day ∷ older)) ≡ suc (length (closes older))
+closed_once_more said day older = omega (arith, length-append (closes older) (day ∷ []))
 
 -- an event takes away no close
 closes_stay : (event : Event) (older : List Event)
     → length (closes older) ≤ length (closes (event ∷ older))
-closes_stay (PeriodClosed day) older = omega (arith, closed_once_more day older)
+closes_stay (PeriodClosed said day) older = omega (arith, closed_once_more said day older)
 closes_stay event older = omega arith
 
 -- right after a close, its day is that of its number
-pub day_closed : (day : ℤ) (older : List Event)
-    → day_of_close (suc (length (closes older))) (PeriodClosed day ∷ older) ≡ Some day
-day_closed day older = slice_get-behind (closes older) day
+pub day_closed : (said : Option Note) (day : ℤ) (older : List Event)
+    → day_of_close (suc (length (closes older))) (PeriodClosed said day ∷ older) ≡ Some day
+day_closed said day older = slice_get-behind (closes older) day
 
 -- a number's day among some days, from 1
 abbrev day_at : ℕ → List ℤ → Option ℤ
@@ -185,7 +185,8 @@ last_close-is history = last-at (closes history)
 pub day_stays : (k : ℕ) (event : Event) (older : List Event) → k ≤ length (closes older)
     → day_of_close k (event ∷ older) ≡ day_of_close k older
 day_stays zero event older came = refl
-day_stays (suc k) (PeriodClosed day) older came = slice_get-front (closes older) day k (omega arith)
+day_stays (suc k) (PeriodClosed said day) older came =
+    slice_get-front (closes older) day k (omega arith)
 day_stays (suc k) event older came = refl
 
 -- nor the history before a close that came, or comes with it
@@ -217,22 +218,25 @@ pub ruled_stays : (k : ℕ) (event : Event) (older : List Event) → k < length 
       replaced = (rulings (event ∷ older)).replaced;
       credits = (rulings (event ∷ older)).credits;
     }
-ruled_stays k (PeriodClosed day) older came =
+ruled_stays k (PeriodClosed said day) older came =
     ap (λ days. record (rulings_before k (rulings older)) { closes = days })
     (take-append-le k (closes older) (day ∷ []) (omega arith))
-ruled_stays k (RulingGiven (RecordChosen bytes)) older came =
+ruled_stays k (RulingGiven said (RecordChosen bytes)) older came =
     ap (λ chosen. record (rulings_before k (rulings older)) { choices = chosen })
     (chosen_late k true bytes (rulings older) came)
-ruled_stays k (RulingGiven (WorkWithheld bytes)) older came =
+ruled_stays k (RulingGiven said (WorkWithheld bytes)) older came =
     ap (λ chosen. record (rulings_before k (rulings older)) { choices = chosen })
     (chosen_late k false bytes (rulings older) came)
-ruled_stays k (RulingGiven SecondRuleAdopted) older came =
+ruled_stays k (RulingGiven said SecondRuleAdopted) older came =
     ap (λ rule. record (rulings_before k (rulings older)) { adopted = rule })
     (adopted_late k (open_by (rulings older)) (rulings older).adopted (omega arith))
 ruled_stays k (RecordKept bytes) older came = refl
-ruled_stays k (RulingGiven (TariffAccepted text terms)) older came = refl
-ruled_stays k (RulingGiven (TariffReplaced text terms)) older came = refl
-ruled_stays k (RulingGiven (CreditGiven centre amount reason)) older came = refl
+ruled_stays k (ImportBegun note) older came = refl
+ruled_stays k (ImportRead reading) older came = refl
+ruled_stays k (ImportEnded ending) older came = refl
+ruled_stays k (RulingGiven said (TariffAccepted text terms)) older came = refl
+ruled_stays k (RulingGiven said (TariffReplaced text terms)) older came = refl
+ruled_stays k (RulingGiven said (CreditGiven centre amount reason)) older came = refl
 
 -- so an event does not change who was charged at the end of a period before it
 pub charged_stays : (k : ℕ) (event : Event) (older : List Event) → k ≤ length (closes older)
@@ -248,9 +252,9 @@ charged_stays (suc k) event older came =
     (day_of_close (suc k) older) (held_before (suc k) older)
 
 -- the rulings before a close are all that there were when it came
-pub rulings_closed : (day : ℤ) (older : List Event)
-    → rulings_before (length (closes older)) (rulings (PeriodClosed day ∷ older)) ≡ rulings older
-rulings_closed day older =
+pub rulings_closed : (said : Option Note) (day : ℤ) (older : List Event)
+    → rulings_before (length (closes older)) (rulings (PeriodClosed said day ∷ older)) ≡ rulings older
+rulings_closed said day older =
     let all : ℕ = length (closes older) in
     let days = take-append_seam (closes older) (day ∷ []) in
     let chosen = choices_all all older (omega arith) in

@@ -15,7 +15,7 @@ pub use Rattle.book_model.proofs.ListLemmas.{count_by-distinct, filter-agree, fi
 pub use Rattle.book_model.proofs.ListLemmas.{filter-map, filter_map-defined, filter_map-map}
 pub use Rattle.book_model.proofs.ListLemmas.{last_or-behind, list_any-map, map-agree}
 pub use Rattle.book_model.proofs.ListLemmas.{slice_get-behind, slice_get-front}
-pub use Rattle.book_model.proofs.MadeByCallsLemmas.{sound_after}
+pub use Rattle.book_model.proofs.MadeByCallsLemmas.{event_sound, sound_after}
 pub use Rattle.book_model.proofs.MapLemmas.{by_tie, else_find, find-both, get-inserted}
 pub use Rattle.book_model.proofs.MapLemmas.{insert-insert}
 pub use Rattle.book_model.proofs.PermutedSets.{apart_from_distinct, given_permuted}

@@ -41,6 +41,10 @@ pub mod DisputeLemmas
 pub mod CreditLemmas
 pub mod FromLemmas
 pub mod OrderLemmas
+pub mod JournalLemmas
+pub mod WordLemmas
+pub mod TariffWords
+pub mod ImportLemmas
 pub mod DetailOrder
 pub mod DetailLemmas
 pub mod CountedDays

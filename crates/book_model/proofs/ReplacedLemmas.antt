@@ -10,11 +10,13 @@ use Rattle.std.specs.Ordering.{int_eq}
 use Rattle.book_model.proofs.Std.{false_from_ne_true, ints, list_all, list_any, map-append}
 use Rattle.book_model.proofs.Std.{option_map_or}
 use Rattle.book_model.specs.Words.{AcceptedTerms, Book, Event, PeriodClosed, RecordKept}
-use Rattle.book_model.specs.Words.{RulingGiven, Rulings, Terms, after, after_all, are_rising, day_of}
+use Rattle.book_model.specs.Words.{RulingGiven, Rulings, Terms, after, after_all, are_rising}
+use Rattle.book_model.specs.Words.{day_of}
 use Rattle.book_model.specs.Words.{give, has_begun, is_after, is_dated_after, is_effective}
 use Rattle.book_model.specs.Words.{is_under, last_close, latest, or_new, price_by, price_in, Priced}
 use Rattle.book_model.specs.Words.{with_replaced, CreditGiven, RecordChosen, SecondRuleAdopted}
 use Rattle.book_model.specs.Words.{TariffAccepted, TariffReplaced, WorkWithheld}
+use Rattle.book_model.specs.Words.{ImportBegun, ImportEnded, ImportRead}
 use Rattle.book_model.specs.Rulings.{later_of}
 use Rattle.book_model.specs.Laws.{AreElsewhere, IsElsewhere, ReplacedAsGiven, ReplacedPricesStay}
 use Rattle.book_model.specs.Laws.{unlisted}
@@ -27,7 +29,8 @@ module _ (new : AcceptedTerms) where
   day = new.terms.effective
 
   -- it begins on the first day of the tariff whose place it takes
-  same_day : (tariff : AcceptedTerms) → (or_new new tariff).terms.effective ≡ tariff.terms.effective
+  pub same_day : (tariff : AcceptedTerms)
+      → (or_new new tariff).terms.effective ≡ tariff.terms.effective
   same_day tariff =
       elim (is_effective day tariff) as (λ b. is_effective day tariff ≡ b
       → (cond b new tariff).terms.effective ≡ tariff.terms.effective) [
@@ -378,38 +381,45 @@ module _ (new : AcceptedTerms) where
       tariffs = map (or_new new) book.rulings.tariffs;
       replaced = [];
     };
+    journal = [];
   }
 
   -- an event of another day comes before or after it
   renewed_after : (event : Event) (book : Book) → IsElsewhere new.terms.effective event
       → renewed (after event book) ≡ unlisted (after event (renewed book))
   renewed_after (RecordKept bytes) book elsewhere = refl
-  renewed_after (PeriodClosed through) book elsewhere = refl
-  renewed_after (RulingGiven (TariffAccepted text terms)) book elsewhere =
+  renewed_after (PeriodClosed said through) book elsewhere = refl
+  renewed_after (ImportBegun note) book elsewhere = refl
+  renewed_after (ImportRead reading) book elsewhere = refl
+  renewed_after (ImportEnded ending) book elsewhere = refl
+  renewed_after (RulingGiven said (TariffAccepted text terms)) book elsewhere =
       let other : AcceptedTerms = record { text = text; terms = terms } in
       ap (by_tariffs book)
       (map-append (or_new new) book.rulings.tariffs (other ∷ [])
       ∙ ap (λ last. map (or_new new) book.rulings.tariffs ++ last ∷ [])
       (other-new new other elsewhere))
-  renewed_after (RulingGiven (TariffReplaced text terms)) book elsewhere =
+  renewed_after (RulingGiven said (TariffReplaced text terms)) book elsewhere =
       ap (by_tariffs book)
       (new-new new (record { text = Some text; terms = terms }) elsewhere book.rulings.tariffs)
-  renewed_after (RulingGiven (RecordChosen bytes)) book elsewhere = refl
-  renewed_after (RulingGiven (WorkWithheld bytes)) book elsewhere = refl
-  renewed_after (RulingGiven SecondRuleAdopted) book elsewhere = refl
-  renewed_after (RulingGiven (CreditGiven centre amount reason)) book elsewhere = refl
+  renewed_after (RulingGiven said (RecordChosen bytes)) book elsewhere = refl
+  renewed_after (RulingGiven said (WorkWithheld bytes)) book elsewhere = refl
+  renewed_after (RulingGiven said SecondRuleAdopted) book elsewhere = refl
+  renewed_after (RulingGiven said (CreditGiven centre amount reason)) book elsewhere = refl
 
 -- no event hangs on the list of what was replaced
 unlisted_after : (event : Event) (book : Book)
     → unlisted (after event (unlisted book)) ≡ unlisted (after event book)
 unlisted_after (RecordKept bytes) book = refl
-unlisted_after (PeriodClosed through) book = refl
-unlisted_after (RulingGiven (TariffAccepted text terms)) book = refl
-unlisted_after (RulingGiven (TariffReplaced text terms)) book = refl
-unlisted_after (RulingGiven (RecordChosen bytes)) book = refl
-unlisted_after (RulingGiven (WorkWithheld bytes)) book = refl
-unlisted_after (RulingGiven SecondRuleAdopted) book = refl
-unlisted_after (RulingGiven (CreditGiven centre amount reason)) book = refl
+unlisted_after (PeriodClosed said through) book = refl
+unlisted_after (ImportBegun note) book = refl
+unlisted_after (ImportRead reading) book = refl
+unlisted_after (ImportEnded ending) book = refl
+unlisted_after (RulingGiven said (TariffAccepted text terms)) book = refl
+unlisted_after (RulingGiven said (TariffReplaced text terms)) book = refl
+unlisted_after (RulingGiven said (RecordChosen bytes)) book = refl
+unlisted_after (RulingGiven said (WorkWithheld bytes)) book = refl
+unlisted_after (RulingGiven said SecondRuleAdopted) book = refl
+unlisted_after (RulingGiven said (CreditGiven centre amount reason)) book = refl
 
 -- nor do several
 unlisted_all : (events : List Event) (book : Book)

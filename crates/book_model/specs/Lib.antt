@@ -5,7 +5,9 @@
 -- are listed, how books are asked for them, and what each call is; the details of a period; the life
 -- of a record and its trail; the bill of a period, and which centres are there; what a whole history
 -- defines, which histories calls make, and how a history is cut at its rulings; what is always true
--- of a book; and laws. Then the answers and the faults of a ledger.
+-- of a book; and laws. Then the answers and the faults of a ledger. The journal stands before the
+-- book, its entries as they are read behind the calls, and what imports say of themselves, with the
+-- laws of the journal, last.
 pub mod Sets
 pub mod Records
 pub mod Limits
@@ -17,6 +19,7 @@ pub mod Rows
 pub mod OtherPrices
 pub mod Lines
 pub mod Disputes
+pub mod Journal
 pub mod Books
 pub mod Counted
 pub mod Events
@@ -25,6 +28,7 @@ pub mod RulingAnswers
 pub mod RulingLists
 pub mod RulingsAsked
 pub mod Outcomes
+pub mod JournalLists
 pub mod Details
 pub mod Lives
 pub mod Trails
@@ -37,5 +41,7 @@ pub mod Sound
 pub mod Laws
 pub mod Answers
 pub mod Faults
+pub mod Notes
+pub mod JournalLaws
 pub mod Words
 pub mod Std

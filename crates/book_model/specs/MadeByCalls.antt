@@ -14,26 +14,28 @@ use Rattle.book_model.specs.RulingAnswers.{withhold_answer, credit_answer}
 use Rattle.book_model.specs.History.{book_after}
 
 -- The book answers the event Kept or Done. A tariff without a text is the one that new books begin
--- with; a record that is chosen, or whose work is withheld, is the one that is held under its name.
+-- with; a record that is chosen, or whose work is withheld, is the one that is held under its name. Of
+-- an import nothing is asked: it is answered by its receipt.
 abbrev pub IsAnswered : Naming → Event → Book → Type 0
 IsAnswered naming (RecordKept bytes) book = accept_answer naming book bytes ≡ Ok Kept
-IsAnswered naming (PeriodClosed day) book =
+IsAnswered naming (PeriodClosed said day) book =
     close_answer book.rulings (open_number book) day ≡ Ok Done
-IsAnswered naming (RulingGiven (TariffAccepted (Some text) terms)) book =
+IsAnswered naming (RulingGiven said (TariffAccepted (Some text) terms)) book =
     terms_answer book text terms ≡ Ok Done
-IsAnswered naming (RulingGiven (TariffAccepted None terms)) book = book ≡ new_book
-IsAnswered naming (RulingGiven (RecordChosen bytes)) book =
+IsAnswered naming (RulingGiven said (TariffAccepted None terms)) book = book ≡ new_book
+IsAnswered naming (RulingGiven said (RecordChosen bytes)) book =
     (choose_answer naming book (name_of naming bytes) ≡ Ok Done)
     × (record_named naming book.held (name_of naming bytes) ≡ Some bytes)
-IsAnswered naming (RulingGiven SecondRuleAdopted) book =
+IsAnswered naming (RulingGiven said SecondRuleAdopted) book =
     adopt_answer book.rulings second_rule ≡ Ok Done
-IsAnswered naming (RulingGiven (TariffReplaced text terms)) book =
+IsAnswered naming (RulingGiven said (TariffReplaced text terms)) book =
     replace_answer book text terms ≡ Ok Done
-IsAnswered naming (RulingGiven (WorkWithheld bytes)) book =
+IsAnswered naming (RulingGiven said (WorkWithheld bytes)) book =
     (withhold_answer naming book (name_of naming bytes) ≡ Ok Done)
     × (record_named naming book.held (name_of naming bytes) ≡ Some bytes)
-IsAnswered naming (RulingGiven (CreditGiven centre amount reason)) book =
+IsAnswered naming (RulingGiven said (CreditGiven centre amount reason)) book =
     credit_answer book.rulings (open_number book) centre amount reason ≡ Ok Done
+IsAnswered naming event book = Unit {0}
 
 -- so each event of a history is, by the book that the events before it leave
 abbrev pub IsMadeByCalls : Naming → List Event → Type 0

@@ -58,16 +58,23 @@ pub use Rattle.book_model.specs.Charged.{last_chosen, share_identity}
 pub use Rattle.book_model.specs.Periods.{Period, period_by}
 pub use Rattle.book_model.specs.Rows.{AreRows, FitSums, by_key, charged_at, key_of, keys_of, row_at}
 pub use Rattle.book_model.specs.Rows.{row_key, rows_for, rows_of, same_key}
-pub use Rattle.book_model.specs.Lines.{AreLines, by_line, line_with, lines_for, lines_of, plus_first}
+pub use Rattle.book_model.specs.Lines.{AreLines, by_line, line_with, lines_for, lines_of}
+pub use Rattle.book_model.specs.Lines.{plus_first}
 pub use Rattle.book_model.specs.Disputes.{AreDisputes, Disputed, IsDispute, ShowsDispute, by_name}
 pub use Rattle.book_model.specs.Disputes.{dispute_at, dispute_from, dispute_shown, disputes_in}
 pub use Rattle.book_model.specs.Disputes.{identities, is_from, is_in_dispute, is_settled}
 pub use Rattle.book_model.specs.Disputes.{records_of, variant_of, variant_with}
+pub use Rattle.book_model.specs.Journal.{Act, CloseOf, Ending, Entry, Imported, Importing, Note}
+pub use Rattle.book_model.specs.Journal.{Place, Reading, Ruled, came_by, change_newest, end_with}
+pub use Rattle.book_model.specs.Journal.{goes_on, keep_in, kept_by, kept_count, kept_in_all}
+pub use Rattle.book_model.specs.Journal.{nothing_read, place_of, read_on}
+pub use Rattle.book_model.specs.Journal.{times_kept, with_entry}
 pub use Rattle.book_model.specs.Books.{Book, all_periods, charged_of, flat_book, new_book}
 pub use Rattle.book_model.specs.Books.{open_number, open_period, period_of}
 pub use Rattle.book_model.specs.Counted.{counted_of, is_counted, is_counted_in}
 pub use Rattle.book_model.specs.Events.{Event, PeriodClosed, RecordKept, RulingGiven, after}
-pub use Rattle.book_model.specs.Events.{after_all, after_any, close, give, keep}
+pub use Rattle.book_model.specs.Events.{ImportBegun, ImportEnded, ImportRead, after_all, after_any}
+pub use Rattle.book_model.specs.Events.{changed_by, close, entries_after, give, keep}
 pub use Rattle.book_model.specs.Accept.{accept_answer, accept_priced, clashes, is_full, total_of}
 pub use Rattle.book_model.specs.RulingAnswers.{adopt_answer, choose_answer, chosen_answer}
 pub use Rattle.book_model.specs.RulingAnswers.{close_answer, first_rule, has_text, is_closed}
@@ -122,11 +129,17 @@ pub use Rattle.book_model.specs.Bills.{tariffs_from, tariffs_in, tariffs_through
 pub use Rattle.book_model.specs.KnownCentres.{begun_in, is_centre, names_centre, of_centre}
 pub use Rattle.book_model.specs.KnownCentres.{text_names}
 pub use Rattle.book_model.specs.History.{book_after, book_of, charged_in, closes, day_of_close}
-pub use Rattle.book_model.specs.History.{held_before, period_after, periods, rulings}
+pub use Rattle.book_model.specs.History.{held_before, journal, period_after, periods, rulings}
 pub use Rattle.book_model.specs.MadeByCalls.{AreMadeOf, IsAnswered, IsMadeByCalls}
 pub use Rattle.book_model.specs.RecordBatches.{rulings_in, record_batches}
 pub use Rattle.book_model.specs.Sound.{AreAllDatedThrough, AreAmong, AreDatedThrough, AreHeld}
 pub use Rattle.book_model.specs.Sound.{IsChoiceOf, IsSound}
 pub use Rattle.book_model.specs.Laws.{IsAfterLastClose}
+pub use Rattle.book_model.specs.JournalLists.{ActSeen, EntrySeen, entries_listed, entry_outcome}
+pub use Rattle.book_model.specs.JournalLists.{entry_seen, ruling_at}
+pub use Rattle.book_model.specs.Notes.{Portion, import_events, told, told_end, told_so_far}
+pub use Rattle.book_model.specs.Notes.{with_import}
+pub use Rattle.book_model.specs.Notes.{ended_outcome, stop_shown}
+pub use Rattle.book_model.specs.Notes.{note_given, note_shown, read_with, reading_shown, told_by}
 pub use Rattle.book_model.specs.Answers.{Answers, IsBookCall, event_of}
 pub use Rattle.book_model.specs.Faults.{ledger_number}

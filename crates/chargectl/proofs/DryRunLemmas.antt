@@ -179,28 +179,28 @@ module _ (naming : Naming) where
       → AsksWithoutReader naming asked (Err fault) was book events is → was ≡ false
       → is_hindered (Err fault) ≡ false → TellsDry naming asked book (Err fault)
   refused_tells (asks.Rule (owned.Tariff text)) ruling fault was book events is named called fresh free =
-      ap (shown_by Text) (refused_by (tariff_outcome (string_bytes text)) fault
+      ap (shown_by Text) (refused_by (tariff_outcome None (string_bytes text)) fault
       (tried.Tariff named.0.effective) was book events is called fresh free
       ∙ sym (ap (λ said. tariff_tried naming (string_bytes text) said book) named.1))
   refused_tells (asks.Rule (owned.Close period through)) ruling fault was book events is named called fresh free =
-      ap (shown_by Text) (refused_by (close_outcome period through) fault (tried.Close period through)
-      was book events is called fresh free)
+      ap (shown_by Text) (refused_by (close_outcome None period through) fault
+      (tried.Close period through) was book events is called fresh free)
   refused_tells (asks.Rule (owned.Choose name)) ruling fault was book events is named called fresh free =
-      ap (shown_by Text) (refused_by (choose_outcome naming name) fault (tried.Choose name) was book
+      ap (shown_by Text) (refused_by (choose_outcome naming None name) fault (tried.Choose name) was book
       events is called fresh free)
   refused_tells (asks.Rule (owned.Adopt rule)) ruling fault was book events is named called fresh free =
-      ap (shown_by Text) (refused_by (adopt_outcome rule) fault tried.Adopt was book events is called
+      ap (shown_by Text) (refused_by (adopt_outcome None rule) fault tried.Adopt was book events is called
       fresh free)
   refused_tells (asks.Rule (owned.Replace text)) ruling fault was book events is named called fresh free =
-      ap (shown_by Text) (refused_by (replace_outcome (string_bytes text)) fault
+      ap (shown_by Text) (refused_by (replace_outcome None (string_bytes text)) fault
       (tried.Replace named.0.effective) was book events is called fresh free
       ∙ sym (ap (λ said. replacement_tried naming (string_bytes text) said book) named.1))
   refused_tells (asks.Rule (owned.Withhold name)) ruling fault was book events is named called fresh free =
-      ap (shown_by Text) (refused_by (withhold_outcome naming name) fault (tried.Withhold name) was
+      ap (shown_by Text) (refused_by (withhold_outcome naming None name) fault (tried.Withhold name) was
       book events is called fresh free)
   refused_tells (asks.Rule (owned.Credit period centre amount reason)) ruling fault was book events is
       named called fresh free =
-      ap (shown_by Text) (refused_by (credit_outcome period centre amount (string_bytes reason)) fault
+      ap (shown_by Text) (refused_by (credit_outcome None period centre amount (string_bytes reason)) fault
       (tried.Credit period centre) was book events is called fresh free)
   refused_tells asked ruling fault was book events is named called fresh free = absurd named
 
@@ -236,33 +236,33 @@ module _ (naming : Naming) where
       (Ok (Text (dry_run_of naming ruling ruled book (after_all events book))))
   ruled_tells (asks.Rule (owned.Tariff text)) ruling ruled was book events is named called =
       ap (λ ruling. Ok (Text (dry_run_of naming ruling ruled book (after_all events book)))) named.2
-      ∙ ap (shown_by Text) (ruled_by (tariff_outcome (string_bytes text)) ruled
+      ∙ ap (shown_by Text) (ruled_by (tariff_outcome None (string_bytes text)) ruled
       (tried.Tariff named.0.effective) was book events is called
       ∙ sym (ap (λ said. tariff_tried naming (string_bytes text) said book) named.1))
   ruled_tells (asks.Rule (owned.Close period through)) ruling ruled was book events is named called =
       ap (λ ruling. Ok (Text (dry_run_of naming ruling ruled book (after_all events book)))) named
-      ∙ ap (shown_by Text) (ruled_by (close_outcome period through) ruled (tried.Close period through)
-      was book events is called)
+      ∙ ap (shown_by Text) (ruled_by (close_outcome None period through) ruled
+      (tried.Close period through) was book events is called)
   ruled_tells (asks.Rule (owned.Choose name)) ruling ruled was book events is named called =
       ap (λ ruling. Ok (Text (dry_run_of naming ruling ruled book (after_all events book)))) named
-      ∙ ap (shown_by Text) (ruled_by (choose_outcome naming name) ruled (tried.Choose name) was book
+      ∙ ap (shown_by Text) (ruled_by (choose_outcome naming None name) ruled (tried.Choose name) was book
       events is called)
   ruled_tells (asks.Rule (owned.Adopt rule)) ruling ruled was book events is named called =
       ap (λ ruling. Ok (Text (dry_run_of naming ruling ruled book (after_all events book)))) named
-      ∙ ap (shown_by Text) (ruled_by (adopt_outcome rule) ruled tried.Adopt was book events is called)
+      ∙ ap (shown_by Text) (ruled_by (adopt_outcome None rule) ruled tried.Adopt was book events is called)
   ruled_tells (asks.Rule (owned.Replace text)) ruling ruled was book events is named called =
       ap (λ ruling. Ok (Text (dry_run_of naming ruling ruled book (after_all events book)))) named.2
-      ∙ ap (shown_by Text) (ruled_by (replace_outcome (string_bytes text)) ruled
+      ∙ ap (shown_by Text) (ruled_by (replace_outcome None (string_bytes text)) ruled
       (tried.Replace named.0.effective) was book events is called
       ∙ sym (ap (λ said. replacement_tried naming (string_bytes text) said book) named.1))
   ruled_tells (asks.Rule (owned.Withhold name)) ruling ruled was book events is named called =
       ap (λ ruling. Ok (Text (dry_run_of naming ruling ruled book (after_all events book)))) named
-      ∙ ap (shown_by Text) (ruled_by (withhold_outcome naming name) ruled (tried.Withhold name) was book
+      ∙ ap (shown_by Text) (ruled_by (withhold_outcome naming None name) ruled (tried.Withhold name) was book
       events is called)
   ruled_tells (asks.Rule (owned.Credit period centre amount reason)) ruling ruled was book events is
       named called =
       ap (λ ruling. Ok (Text (dry_run_of naming ruling ruled book (after_all events book)))) named
-      ∙ ap (shown_by Text) (ruled_by (credit_outcome period centre amount (string_bytes reason)) ruled
+      ∙ ap (shown_by Text) (ruled_by (credit_outcome None period centre amount (string_bytes reason)) ruled
       (tried.Credit period centre) was book events is called)
   ruled_tells asked ruling ruled was book events is named called = absurd named
 
@@ -298,7 +298,7 @@ module _ (naming : Naming) where
       (is : Bool) → IsAskableRuling asked
       → AsksWithoutReader naming asked (Ok answer) was book events is → Answers answer was is
   answers_ruling (asks.Rule ruling) answer was book events is may called =
-      answers_by (rule_outcome naming (office.ruling_of ruling)) answer was book events is called
+      answers_by (rule_outcome naming None (office.ruling_of ruling)) answer was book events is called
   answers_ruling asked answer was book events is may called = absurd may
 
 -- the ruling, and then a reading: the ruling alone made events

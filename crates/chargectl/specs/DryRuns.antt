@@ -87,14 +87,14 @@ dated_by (Err fault) = record { answer = Err fault; notice = None }
 abbrev pub tariff_tried : Naming → List ℕ → Result Terms TariffFault → Book
     → Result (List ℕ) LedgerFault
 tariff_tried naming text (Ok terms) book =
-    dry_answer naming (tried.Tariff terms.effective) (tariff_outcome text book) book
+    dry_answer naming (tried.Tariff terms.effective) (tariff_outcome None text book) book
 tariff_tried naming text (Err why) book = Err (TariffRefused why)
 
 -- the same in the place of another
 abbrev pub replacement_tried : Naming → List ℕ → Result Terms TariffFault → Book
     → Result (List ℕ) LedgerFault
 replacement_tried naming text (Ok terms) book =
-    dry_answer naming (tried.Replace terms.effective) (replace_outcome text book) book
+    dry_answer naming (tried.Replace terms.effective) (replace_outcome None text book) book
 replacement_tried naming text (Err why) book = Err (TariffRefused why)
 
 -- What is told of a ruling that was tried, by the book before it: its refusal, or the text of the figures of
@@ -104,21 +104,22 @@ TellsDry naming (asks.Rule (owned.Tariff text)) book told =
     told ≡ shown_by Text (tariff_tried naming (string_bytes text) (terms_in (string_bytes text)) book)
 TellsDry naming (asks.Rule (owned.Close period through)) book told =
     told ≡ shown_by Text
-    (dry_answer naming (tried.Close period through) (close_outcome period through book) book)
+    (dry_answer naming (tried.Close period through) (close_outcome None period through book) book)
 TellsDry naming (asks.Rule (owned.Choose name)) book told =
-    told ≡ shown_by Text (dry_answer naming (tried.Choose name) (choose_outcome naming name book) book)
+    told ≡ shown_by Text
+    (dry_answer naming (tried.Choose name) (choose_outcome naming None name book) book)
 TellsDry naming (asks.Rule (owned.Adopt rule)) book told =
-    told ≡ shown_by Text (dry_answer naming tried.Adopt (adopt_outcome rule book) book)
+    told ≡ shown_by Text (dry_answer naming tried.Adopt (adopt_outcome None rule book) book)
 TellsDry naming (asks.Rule (owned.Replace text)) book told =
     told ≡ shown_by Text
     (replacement_tried naming (string_bytes text) (terms_in (string_bytes text)) book)
 TellsDry naming (asks.Rule (owned.Withhold name)) book told =
     told ≡ shown_by Text
-    (dry_answer naming (tried.Withhold name) (withhold_outcome naming name book) book)
+    (dry_answer naming (tried.Withhold name) (withhold_outcome naming None name book) book)
 TellsDry naming (asks.Rule (owned.Credit period centre amount reason)) book told =
     told ≡ shown_by Text
     (dry_answer naming (tried.Credit period centre)
-    (credit_outcome period centre amount (string_bytes reason) book) book)
+    (credit_outcome None period centre amount (string_bytes reason) book) book)
 TellsDry naming asked book told = ⊥
 
 -- what the ruling would be answered by a book

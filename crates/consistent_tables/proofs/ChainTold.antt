@@ -13,7 +13,7 @@ use Rattle.table_model.specs.BookIn.{close_after}
 use Rattle.table_model.specs.Readable.{IsReadable}
 use Rattle.table_model.specs.Tables.{Tables}
 use Rattle.table_model.specs.TablesOf.{record_row, tables_of}
-use Rattle.table_model.proofs.BookLemmas.{book_follows}
+use Rattle.table_model.proofs.BookLemmas.{rulings_back}
 use Rattle.table_model.proofs.CostLemmas.{day-price}
 use Rattle.table_model.proofs.CountedReading.{line_there, sets}
 use Rattle.consistent_tables.specs.Consistent.{AreInTurn, charged_back, line_at, periods_after}
@@ -43,7 +43,7 @@ turns_to false false = tt
 -- the tables say the rulings of the book
 pub ruled_back : (naming : Naming) (book : Book) → IsReadable naming book
     → ruled (tables_of naming book) ≡ book.rulings
-ruled_back naming book whole = ap (λ (read : Book). read.rulings) (book_follows naming book whole)
+ruled_back naming book whole = rulings_back naming book whole
 
 -- the number of a period, counted back from the open one
 counted_from : (last closed k m : ℕ) → last ≡ closed + 1 → suc k + m ≡ suc closed → last - k ≡ suc m

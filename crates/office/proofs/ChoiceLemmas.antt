@@ -110,10 +110,10 @@ choices_answered withheld naming [] [] (Some refusal) = λ book was events is ne
 choices_answered withheld naming [] (ruled ∷ answers) refusal = λ book was events is never. absurd never
 choices_answered withheld naming (name ∷ names) [] None = λ book was events is never. absurd never
 choices_answered withheld naming (name ∷ names) [] (Some refusal) =
-    ruling_answered naming (λ ruled. ruled) (choice_asked withheld name) (Err refusal)
+    ruling_answered naming (λ ruled. ruled) None (choice_asked withheld name) (Err refusal)
 choices_answered withheld naming (name ∷ names) (ruled ∷ answers) refusal =
     then_answered naming (Chooses withheld naming name (Ok ruled)) (ChoosesEach withheld naming names answers refusal)
-    (ruling_answered naming (λ ruled. ruled) (choice_asked withheld name) (Ok ruled))
+    (ruling_answered naming (λ ruled. ruled) None (choice_asked withheld name) (Ok ruled))
     (choices_answered withheld naming names answers refusal)
 
 -- a refusal of open books is the one that the definitions say, unless memory or the store hindered it

@@ -1,6 +1,6 @@
 -- Requests, one after the other, and the history that they make.
 use Rattle.std.proofs.Common.{◌≡◌, ◌∙◌, Bool, true, false, ℕ, List, [], ◌∷◌, ◌++◌, Result, Ok, Err}
-use Rattle.std.proofs.Common.{inr, refl, sym, ap, subst, true≢false}
+use Rattle.std.proofs.Common.{None, inr, refl, sym, ap, subst, true≢false}
 use Rattle.std.specs.Prelude.{string_bytes}
 use Rattle.book_model.specs.MadeByCalls.{AreMadeOf}
 use Rattle.book_model.specs.declared.fault.LedgerFault.{LedgerFault}
@@ -78,8 +78,8 @@ receives_answered naming dump (Err fault) = λ book was events is never. absurd 
 pub asks_answered : (naming : Naming) (asked : Asked) (dump : Dump) (told : Result Response LedgerFault)
     → MakesAnswered naming (Asks naming asked dump told)
 asks_answered naming (Rule ruling) dump told =
-    told_answered naming Ruling (rule_outcome naming (ruling_of ruling)) told
-    (ruling_answered naming (λ value. value) (ruling_of ruling) (Err Store))
+    told_answered naming Ruling (rule_outcome naming None (ruling_of ruling)) told
+    (ruling_answered naming (λ value. value) None (ruling_of ruling) (Err Store))
 asks_answered naming (Import layout) dump told = receives_answered naming dump told
 asks_answered naming (ImportBytes layout bytes) dump told = receives_answered naming dump told
 asks_answered naming (Report report) dump told = report_answered naming report told

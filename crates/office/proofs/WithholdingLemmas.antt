@@ -84,7 +84,7 @@ more_counts counts early later =
 
 -- the works of a change are those of the first names, each of which has its answer
 taken_each : (naming : Naming) (names : List (List ℕ)) (answers : List (Option Ruled))
-    → Implies (Withholds naming names answers)
+    → Implies (Withholds naming None names answers)
     (WithholdsEach naming (take (length answers) names) answers None)
 taken_each naming names [] was before events is none = none
 taken_each naming [] (answer ∷ later) was before events is never = absurd never
@@ -134,7 +134,7 @@ none_passed seen names counts none = record {
 -- the first of those that were left are answered
 withholds_more : (naming : Naming) (passed rest : List (List ℕ)) (counts : WorkCounts)
     (told : Withheld)
-    → Implies (Then (WithholdsSo naming passed counts None) (TakesWorks naming rest (Ok told)))
+    → Implies (Then (WithholdsSo naming passed counts None) (TakesWorks naming None rest (Ok told)))
     (WithholdsSo naming (passed ++ take told.taken rest) (with_taken counts told) None)
 withholds_more naming passed rest counts told was before events is both = record {
   answers = both.first.answers ++ both.next.answers;
@@ -166,15 +166,15 @@ parts_moved passed rest names taken later parts is =
 
 pub passes : {old now : Seen} (new : Seen) {names rest : List (List ℕ)} {counts : WorkCounts}
     (so : SoFar old now names rest counts) (told : Withheld) (more : WorkCounts)
-    (later : List (List ℕ)) → IsTransition now new (TakesWorks now.naming rest (Ok told))
+    (later : List (List ℕ)) → IsTransition now new (TakesWorks now.naming None rest (Ok told))
     → more ≡ with_taken counts told → answered more ≡ answered counts + told.taken
     → told.taken ≤ length rest → later ≡ drop told.taken rest
     → SoFar old new names later more
 passes {old} {now} new {names} {rest} {counts} so told more later made counted adds within is =
-    let made_so = subst (λ naming. IsTransition now new (TakesWorks naming rest (Ok told)))
+    let made_so = subst (λ naming. IsTransition now new (TakesWorks naming None rest (Ok told)))
     so.work.naming made in
     let both = work_then old now new (WithholdsSo old.naming so.passed counts None)
-    (TakesWorks old.naming rest (Ok told)) so.work made_so in
+    (TakesWorks old.naming None rest (Ok told)) so.work made_so in
     record {
       passed = so.passed ++ take told.taken rest;
       parts = parts_moved so.passed rest names told.taken later so.parts is;
@@ -182,7 +182,7 @@ passes {old} {now} new {names} {rest} {counts} so told more later made counted a
           (WithholdsSo old.naming (so.passed ++ take told.taken rest) more None)) (sym counted)
           (work_as old new
           (Then (WithholdsSo old.naming so.passed counts None)
-          (TakesWorks old.naming rest (Ok told)))
+          (TakesWorks old.naming None rest (Ok told)))
           (WithholdsSo old.naming (so.passed ++ take told.taken rest) (with_taken counts told) None)
           (withholds_more old.naming so.passed rest counts told) both);
       count = omega (
@@ -197,7 +197,7 @@ passes {old} {now} new {names} {rest} {counts} so told more later made counted a
 -- a refusal of the first of those that were left
 withholds_stop : (naming : Naming) (passed rest : List (List ℕ)) (counts : WorkCounts)
     (fault : LedgerFault) → 0 < length rest
-    → Implies (Then (WithholdsSo naming passed counts None) (TakesWorks naming rest (Err fault)))
+    → Implies (Then (WithholdsSo naming passed counts None) (TakesWorks naming None rest (Err fault)))
     (WithholdsSo naming (passed ++ rest) counts (Some fault))
 withholds_stop naming passed [] counts fault some was before events is both = absurd (omega arith)
 withholds_stop naming passed (name ∷ rest) counts fault some was before events is both = record {
@@ -216,16 +216,16 @@ withholds_stop naming passed (name ∷ rest) counts fault some was before events
 
 pub stopped_at : {old now : Seen} (new : Seen) {names rest : List (List ℕ)} {counts : WorkCounts}
     (so : SoFar old now names rest counts) (fault : LedgerFault) → 0 < length rest
-    → IsTransition now new (TakesWorks now.naming rest (Err fault))
+    → IsTransition now new (TakesWorks now.naming None rest (Err fault))
     → IsTransition old new (WithholdsSo old.naming names counts (Some fault))
 stopped_at {old} {now} new {names} {rest} {counts} so fault some made =
-    let made_so = subst (λ naming. IsTransition now new (TakesWorks naming rest (Err fault)))
+    let made_so = subst (λ naming. IsTransition now new (TakesWorks naming None rest (Err fault)))
     so.work.naming made in
     let both = work_then old now new (WithholdsSo old.naming so.passed counts None)
-    (TakesWorks old.naming rest (Err fault)) so.work made_so in
+    (TakesWorks old.naming None rest (Err fault)) so.work made_so in
     subst (λ names. IsTransition old new (WithholdsSo old.naming names counts (Some fault))) so.parts
     (work_as old new
-    (Then (WithholdsSo old.naming so.passed counts None) (TakesWorks old.naming rest (Err fault)))
+    (Then (WithholdsSo old.naming so.passed counts None) (TakesWorks old.naming None rest (Err fault)))
     (WithholdsSo old.naming (so.passed ++ rest) counts (Some fault))
     (withholds_stop old.naming so.passed rest counts fault some) both)
 
@@ -247,12 +247,12 @@ each_answered naming [] [] (Some fault) = λ book was events is never. absurd ne
 each_answered naming [] (answer ∷ answers) refusal = λ book was events is never. absurd never
 each_answered naming (name ∷ names) [] None = λ book was events is never. absurd never
 each_answered naming (name ∷ names) [] (Some fault) =
-    works_answered naming (name ∷ names) (Err fault)
+    works_answered naming None (name ∷ names) (Err fault)
 each_answered naming (name ∷ names) (answer ∷ answers) refusal =
     then_answered naming
-    (Calls (λ (ruled : Ruled). ruled) (withhold_outcome naming name) (told_as answer))
+    (Calls (λ (ruled : Ruled). ruled) (withhold_outcome naming None name) (told_as answer))
     (WithholdsEach naming names answers refusal)
-    (ruling_answered naming (λ (ruled : Ruled). ruled) (WithholdingAsked name) (told_as answer))
+    (ruling_answered naming (λ (ruled : Ruled). ruled) None (WithholdingAsked name) (told_as answer))
     (each_answered naming names answers refusal)
 
 pub so_answered : (naming : Naming) (names : List (List ℕ)) (counts : WorkCounts)

@@ -18,7 +18,7 @@ choice_asked true name = WithholdingAsked name
 choice_asked false name = ChoiceAsked name
 
 abbrev pub named_outcome : Bool → Naming → List ℕ → Book → Outcome Ruled
-named_outcome withheld naming name = rule_outcome naming (choice_asked withheld name)
+named_outcome withheld naming name = rule_outcome naming None (choice_asked withheld name)
 
 -- the record of a name was chosen, or its work withheld, and that is the answer
 abbrev pub Chooses : Bool → Naming → List ℕ → Result Ruled LedgerFault → Transition

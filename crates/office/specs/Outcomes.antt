@@ -1,5 +1,6 @@
 -- What the definitions say about a request, by the book before it: one function.
-use Rattle.std.specs.Prelude.{Bool, true, false, List, [], Option, Result, Ok, Err, string_bytes}
+use Rattle.std.specs.Prelude.{Bool, true, false, List, [], Option, None, Result, Ok, Err}
+use Rattle.std.specs.Prelude.{string_bytes}
 use Rattle.book_model.specs.declared.fault.LedgerFault.{LedgerFault}
 use Rattle.book_model.specs.declared.fault.LedgerFault.TheVariants.{Memory, Store}
 use Rattle.book_model.specs.Words.{front, Book, Event, Outcome, rule_outcome, Naming}
@@ -37,7 +38,7 @@ import_asked_outcome naming dump book =
 
 abbrev pub asked_outcome : Naming → Asked → Dump → Book → AskedOutcome
 asked_outcome naming (Rule ruling) dump book =
-    asked_outcome_by (response_outcome Ruling (rule_outcome naming (ruling_of ruling)) book)
+    asked_outcome_by (response_outcome Ruling (rule_outcome naming None (ruling_of ruling)) book)
 asked_outcome naming (Import layout) dump book = import_asked_outcome naming dump book
 asked_outcome naming (ImportBytes layout bytes) dump book = import_asked_outcome naming dump book
 asked_outcome naming (Report report) dump book =

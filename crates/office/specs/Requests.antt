@@ -135,7 +135,7 @@ Receives naming dump told = Never
 -- the books were asked, and answered this
 abbrev pub Asks : Naming → Asked → Dump → Result Response LedgerFault → Transition
 Asks naming (Rule ruling) dump told =
-    Calls (λ told. told) (response_outcome Ruling (rule_outcome naming (ruling_of ruling))) told
+    Calls (λ told. told) (response_outcome Ruling (rule_outcome naming None (ruling_of ruling))) told
 Asks naming (Import layout) dump told = Receives naming dump told
 Asks naming (ImportBytes layout bytes) dump told = Receives naming dump told
 Asks naming (Report report) dump told =

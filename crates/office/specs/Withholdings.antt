@@ -18,9 +18,9 @@ use Rattle.office.specs.declared.withholding.WorkCounts.{WorkCounts}
 abbrev pub WithholdsEach : Naming → List (List ℕ) → List (Option Ruled) → Option LedgerFault
     → Transition
 WithholdsEach naming [] [] None = NoEvent
-WithholdsEach naming (name ∷ names) [] (Some fault) = TakesWorks naming (name ∷ names) (Err fault)
+WithholdsEach naming (name ∷ names) [] (Some fault) = TakesWorks naming None (name ∷ names) (Err fault)
 WithholdsEach naming (name ∷ names) (answer ∷ answers) refusal =
-    Then (Calls (λ (ruled : Ruled). ruled) (withhold_outcome naming name) (told_as answer))
+    Then (Calls (λ (ruled : Ruled). ruled) (withhold_outcome naming None name) (told_as answer))
     (WithholdsEach naming names answers refusal)
 WithholdsEach naming names answers refusal = Never
 

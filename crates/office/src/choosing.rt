@@ -27,9 +27,9 @@ fn choose_named<L: Ledger>(
         (named_outcome withheld (L.seen ledger.old).naming name) }
 {
     if withheld {
-        return ledger.withhold(name);
+        return ledger.withhold(name, &None);
     }
-    ledger.choose(name)
+    ledger.choose(name, &None)
 }
 
 /// Chooses the records of these names, or withholds their work, one after the other, up to the first

@@ -53,7 +53,7 @@ pub fn withhold_each<L: Ledger>(ledger: &mut L, names: &[[u8; 32]]) -> WorksTold
     };
     let mut rest = names;
     while !rest.is_empty() {
-        match ledger.withhold_many(rest) {
+        match ledger.withhold_many(rest, &None) {
             Ok(told) => {
                 counts = with_taken(counts, told);
                 let (_, later) = rest.split_at(told.taken);

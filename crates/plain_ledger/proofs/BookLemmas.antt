@@ -137,6 +137,7 @@ module _ {naming : Naming} {rulings : Rulings} {entries : List Entry} {total : â
         held = held_in entries;
         posted = now i;
         past = past i;
+        journal = [];
       })
 
 -- no close changes how the entries are kept, no choice does, and no adoption
@@ -168,4 +169,5 @@ book-kept rulings entries posted closed name h missing named =
       held = held i;
       posted = stays i;
       past = past i;
+      journal = [];
     }

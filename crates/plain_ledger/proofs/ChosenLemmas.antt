@@ -55,12 +55,13 @@ chosen_by alone chosen full =
 -- a choice that was asked for, by the record that is meant
 choose_calls : (naming : Naming) (name : List ℕ) (old new : Book) (meant : Option (List ℕ))
     (result : Result Ruled LedgerFault) → record_named naming old.held name ≡ meant
-    → chosen_answer old meant ≡ result → new ≡ after_any (if_done (meant_by meant) result) old
-    → IsBookCall (λ (value : Ruled). value) old new result (choose_outcome naming name)
+    → chosen_answer old meant ≡ result → new ≡ after_any (if_done (meant_by None meant) result) old
+    → IsBookCall (λ (value : Ruled). value) old new result (choose_outcome naming None name)
 choose_calls naming name old new meant result found answer changed =
-    ruling_calls (choose_outcome naming name) (meant_by (record_named naming old.held name)) old new
-    result refl (answers_itself result _ (ap (chosen_answer old) found ∙ answer))
-    (changed ∙ ap (λ one. after_any (if_done (meant_by one) result) old) (sym found))
+    ruling_calls (choose_outcome naming None name)
+    (meant_by None (record_named naming old.held name)) old new result refl
+    (answers_itself result _ (ap (chosen_answer old) found ∙ answer))
+    (changed ∙ ap (λ one. after_any (if_done (meant_by None one) result) old) (sym found))
 
 -- the answer to the choice of none, by the tests in their order
 abbrev pub none_by : Bool → Bool → Result Ruled LedgerFault
@@ -73,12 +74,13 @@ none_by withheld full =
 withhold_calls : (naming : Naming) (name : List ℕ) (old new : Book) (meant : Option (List ℕ))
     (result : Result Ruled LedgerFault) → record_named naming old.held name ≡ meant
     → withheld_answer old meant ≡ result
-    → new ≡ after_any (if_done (withheld_by meant) result) old
-    → IsBookCall (λ (value : Ruled). value) old new result (withhold_outcome naming name)
+    → new ≡ after_any (if_done (withheld_by None meant) result) old
+    → IsBookCall (λ (value : Ruled). value) old new result (withhold_outcome naming None name)
 withhold_calls naming name old new meant result found answer changed =
-    ruling_calls (withhold_outcome naming name) (withheld_by (record_named naming old.held name)) old
-    new result refl (answers_itself result _ (ap (withheld_answer old) found ∙ answer))
-    (changed ∙ ap (λ one. after_any (if_done (withheld_by one) result) old) (sym found))
+    ruling_calls (withhold_outcome naming None name)
+    (withheld_by None (record_named naming old.held name)) old new result refl
+    (answers_itself result _ (ap (withheld_answer old) found ∙ answer))
+    (changed ∙ ap (λ one. after_any (if_done (withheld_by None one) result) old) (sym found))
 
 -- whether there are that many, by the comparison
 pub at_least : (most n : ℕ) → most ≤ n → true ≡ nat_le most n
@@ -127,7 +129,7 @@ module _ {naming : Naming} {rulings : Rulings} {entries : List Entry} {total : �
   -- the call, where no record has the name
   pub choose_calls-missing : under_name name entries ≡ None
       → IsBookCall (λ (value : Ruled). value) book book (Err NoSuchRecord)
-      (choose_outcome naming name)
+      (choose_outcome naming None name)
   choose_calls-missing missing =
       choose_calls naming name book book None (Err NoSuchRecord)
       (named-missing kept rising name missing) refl refl
@@ -138,9 +140,9 @@ module _ {naming : Naming} {rulings : Rulings} {entries : List Entry} {total : �
       → alone ≡ (is_alone rulings entries (name, h) && not (was_withheld rulings (record_of h)))
       → chosen ≡ (is_chosen rulings (record_of h) && not (is_withheld rulings (record_of h)))
       → full ≡ nat_le most_choices (length rulings.choices)
-      → new ≡ after_any (if_done (meant_by (Some (record_of h))) (chosen_by alone chosen full)) book
+      → new ≡ after_any (if_done (meant_by None (Some (record_of h))) (chosen_by alone chosen full)) book
       → IsBookCall (λ (value : Ruled). value) book new (chosen_by alone chosen full)
-      (choose_outcome naming name)
+      (choose_outcome naming None name)
   choose_calls-found h new alone chosen full found is_alone' is_chosen' is_full changed =
       let unrivalled : is_unrivalled rulings (held_in entries) (record_of h)
       ≡ is_alone rulings entries (name, h) =
@@ -157,7 +159,7 @@ module _ {naming : Naming} {rulings : Rulings} {entries : List Entry} {total : �
   -- the choice of none, where no record has the name
   pub withhold_calls-missing : under_name name entries ≡ None
       → IsBookCall (λ (value : Ruled). value) book book (Err NoSuchRecord)
-      (withhold_outcome naming name)
+      (withhold_outcome naming None name)
   withhold_calls-missing missing =
       withhold_calls naming name book book None (Err NoSuchRecord)
       (named-missing kept rising name missing) refl refl
@@ -167,9 +169,9 @@ module _ {naming : Naming} {rulings : Rulings} {entries : List Entry} {total : �
       → under_name name entries ≡ Some h
       → withheld ≡ is_withheld rulings (record_of h)
       → full ≡ nat_le most_choices (length rulings.choices)
-      → new ≡ after_any (if_done (withheld_by (Some (record_of h))) (none_by withheld full)) book
+      → new ≡ after_any (if_done (withheld_by None (Some (record_of h))) (none_by withheld full)) book
       → IsBookCall (λ (value : Ruled). value) book new (none_by withheld full)
-      (withhold_outcome naming name)
+      (withhold_outcome naming None name)
   withhold_calls-found h new withheld full found is_withheld' is_full changed =
       withhold_calls naming name book new (Some (record_of h)) (none_by withheld full)
       (named-found kept rising name h found)

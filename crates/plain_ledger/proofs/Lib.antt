@@ -19,6 +19,7 @@ pub mod TreatmentLemmas
 pub mod BookLemmas
 pub mod ChosenLemmas
 pub mod PlainCallLemmas
+pub mod JournalLemmas
 pub mod OtherPriceLemmas
 pub mod LineLemmas
 pub mod PlainDetailLemmas

@@ -1,17 +1,17 @@
 -- Calls of a ledger that keeps its books in memory: no store fails, and nothing is left to open.
 use Rattle.std.proofs.Common.{◌≡◌, ◌∙◌, refl, sym, ap, subst, false, true≢false, None, Result, Ok, Err}
-use Rattle.book_model.specs.Words.{Answers, Book, Naming, Outcome, RulingAsked, after_any, event_of}
-use Rattle.book_model.specs.Words.{rule_outcome}
-use Rattle.book_model.specs.declared.answer.Ruled.{Ruled}
+use Rattle.book_model.specs.Words.{Answers, Book, IsBookCall, Naming, Outcome, after_any, event_of}
 use Rattle.book_model.specs.declared.fault.LedgerFault.{LedgerFault}
 use Rattle.book_model.specs.declared.fault.LedgerFault.TheVariants.{Memory, Store, Reopen}
 use Rattle.book_model.specs.declared.naming.Naming.{Ghosts}
 use Rattle.book_core.specs.Calls.{IsCall, LeavesOpen, Makes, Reopens, is_reopen, is_store, listed}
 use Rattle.book_core.specs.Ledgers.{in_memory}
+use Rattle.book_core.specs.Transition.{IsTransition, Transition}
 use Rattle.book_core.proofs.MemoryLemmas.{after_listed}
-use Rattle.book_core.proofs.OpenAnswers.{opens, ruling_open}
-use Rattle.plain_ledger.specs.declared.plain.PlainLedger.{PlainLedger}
-use Rattle.plain_ledger.specs.PlainBook.{IsPlainCall, book_in, naming_in, seen_in}
+use Rattle.book_core.proofs.OpenAnswers.{opens}
+use Rattle.plain_ledger.specs.declared.ledger.PlainLedger.{PlainLedger}
+use Rattle.plain_ledger.specs.LedgerBook.{ledger_book, seen_in}
+use Rattle.plain_ledger.specs.PlainBook.{naming_in}
 
 -- a call that answers as the definitions say leaves the books open, where what they say does
 answered : {V A : Type 0} (view : V → A) (result : Result V LedgerFault)
@@ -83,27 +83,26 @@ read_in_memory {V} view naming book result outcome none plain answers =
     no_event (Ok value) = none
     no_event (Err fault) = refl
 
--- A call of a plain ledger is one of a ledger in memory.
 module _ {N : Type 0} {names : Ghosts N} where
-  pub plain_call : {V A : Type 0} (view : V → A) (old new : PlainLedger N names)
+  -- A call of a plain ledger is one of a ledger in memory,
+  pub ledger_call : {V A : Type 0} (view : V → A) (old new : PlainLedger N names)
       (result : Result V LedgerFault) (outcome : Book → Outcome A)
-      → LeavesOpen (outcome (book_in old)).answer → IsPlainCall view old new result outcome
+      → LeavesOpen (outcome (ledger_book old)).answer → naming_in new.books ≡ naming_in old.books
+      → IsBookCall view (ledger_book old) (ledger_book new) result outcome
       → IsCall view (seen_in old) (seen_in new) result outcome
-  plain_call view old new result outcome plain call =
-      subst (λ naming. IsCall view (seen_in old) (in_memory (names.name_of naming) (book_in new))
+  ledger_call view old new result outcome plain same call =
+      subst (λ naming. IsCall view (seen_in old) (in_memory (names.name_of naming) (ledger_book new))
       result outcome)
-      (sym call.naming)
-      (call_in_memory view (names.name_of (naming_in old)) (book_in old) (book_in new) result
-      outcome plain call.call.answer call.call.book)
+      (sym same)
+      (call_in_memory view (names.name_of (naming_in old.books)) (ledger_book old)
+      (ledger_book new) result outcome plain call.answer call.book)
 
-  -- so is a ruling that is asked for
-  pub ruling_call : (old new : PlainLedger N names) (result : Result Ruled LedgerFault)
-      (asked : RulingAsked)
-      → IsPlainCall (λ (ruled : Ruled). ruled) old new result
-      (rule_outcome (names.name_of (naming_in old)) asked)
-      → IsCall (λ (ruled : Ruled). ruled) (seen_in old) (seen_in new) result
-      (rule_outcome (names.name_of (naming_in old)) asked)
-  ruling_call old new result asked call =
-      plain_call (λ (ruled : Ruled). ruled) old new result
-      (rule_outcome (names.name_of (naming_in old)) asked)
-      (ruling_open (names.name_of (naming_in old)) (book_in old) asked) call
+  -- and so is any work of it
+  pub ledger_work : (old new : PlainLedger N names) (Made : Transition)
+      → naming_in new.books ≡ naming_in old.books
+      → IsTransition (in_memory (names.name_of (naming_in old.books)) (ledger_book old))
+      (in_memory (names.name_of (naming_in old.books)) (ledger_book new)) Made
+      → IsTransition (seen_in old) (seen_in new) Made
+  ledger_work old new Made same work =
+      subst (λ naming. IsTransition (seen_in old) (in_memory (names.name_of naming) (ledger_book new))
+      Made) (sym same) work

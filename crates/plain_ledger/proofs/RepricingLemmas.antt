@@ -112,6 +112,7 @@ module _ {price : HeldRecord → Priced} {entries anew : List Entry}
     held = held_stay i;
     posted = posted_stay posted i;
     past = past_stay closed i;
+    journal = [];
   }
 
   -- nobody has a share who is not held

@@ -1,4 +1,4 @@
--- How a plain ledger keeps its book. Read in this order.
+-- How a plain ledger keeps its book, and at the end its journal. Read in this order.
 pub mod PaddedIdentities
 pub mod Choices
 pub mod Plain
@@ -8,3 +8,5 @@ pub mod PlainBook
 pub mod PlainDetails
 pub mod PlainLives
 pub mod Replacements
+pub mod Journals
+pub mod LedgerBook

@@ -4,10 +4,13 @@
 mod charge_rows;
 mod choices;
 mod chosen;
+mod copies;
 mod credits;
 mod held;
 mod identities;
 mod identity;
+mod journal;
+mod ledger;
 mod life;
 mod period;
 mod period_end;
@@ -18,4 +21,4 @@ mod repricing;
 mod shown;
 mod treatment;
 
-pub use plain::PlainLedger;
+pub use ledger::PlainLedger;

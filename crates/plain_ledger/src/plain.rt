@@ -15,6 +15,7 @@ mod records;
 mod replacements;
 mod ruling_list;
 mod rulings;
+mod standings;
 mod trail;
 
 use crate::chosen::ChosenRecord;
@@ -22,19 +23,15 @@ use crate::held::HeldRecord;
 use crate::record_cache::RecordCache;
 use crate::replaced::ReplacedTariff;
 use crate::treatment::ClosedPeriod;
-use book_core::{AcceptedTariff, Ledger, Rulings};
-use book_model::{
-    Accepted, ChargeRow, Credit, Detail, Dispute, LedgerFault, Line, ListedRuling, Naming, Ruled,
-    Ruling, Trail,
-};
-use smf_text::Name;
-use std::alloc::{AllocError, Global};
+use book_core::Rulings;
+use book_model::{Credit, Naming};
+use std::alloc::Global;
 use std::collections::{BTreeMap, BTreeSet};
-use tariff_rules::Tariff;
 
 /// Books that are kept in memory: records by their names, and every list computed from them anew.
+/// They have no journal.
 #[derive(Drop)]
-pub struct PlainLedger<N: Naming + Drop> {
+pub(crate) struct PlainBooks<N: Naming + Drop> {
     naming: N,
     rulings: Rulings,
     held: BTreeMap<[u8; 32], HeldRecord>,
@@ -61,37 +58,18 @@ pub struct PlainLedger<N: Naming + Drop> {
     ghost few_credits: { length credits.items ≤ most_credits },
 }
 
-impl<N: Naming + Drop> PlainLedger<N> {
-    ghost use Rattle.std.specs.Prelude.{◌≡◌, [], IfOk, true};
-    ghost use Rattle.book_model.specs.Words.{flat_book, new_book};
-    ghost use Rattle.book_core.specs.Ledgers.{IsOpenAt};
-
-    /// New books, under no tariff yet.
-    pub fn new(alloc: Global, naming: N) -> Result<PlainLedger<N>, AllocError>
-        ensures { IfOk result (λ ledger. IsOpenAt (N.name_of naming) new_book
-            (⟦<PlainLedger<N> as Ledger>⟧.seen ledger)) }
-    {
-        Ok(PlainLedger::under(alloc, naming, Rulings::new(alloc)))
-    }
-
-    /// New books under one tariff, which is in force on every day from its first on.
-    pub fn flat(alloc: Global, naming: N, tariff: Tariff) -> Result<PlainLedger<N>, AllocError>
-        ensures { IfOk result (λ ledger. IsOpenAt (N.name_of naming) (flat_book tariff)
-            (⟦<PlainLedger<N> as Ledger>⟧.seen ledger)) }
-    {
-        let mut tariffs = Vec::with_capacity(alloc, 1)?;
-        tariffs.push(AcceptedTariff { text: None, tariff })?;
-        let rulings = Rulings::of(tariffs, Vec::new(alloc), None);
-        Ok(PlainLedger::under(alloc, naming, rulings))
-    }
+impl<N: Naming + Drop> PlainBooks<N> {
+    ghost use Rattle.std.specs.Prelude.{◌≡◌, []};
+    ghost use Rattle.book_model.specs.Words.{new_book};
+    ghost use Rattle.plain_ledger.specs.PlainBook.{book_in, naming_in};
 
     /// Books that hold no record, under these rulings, with no close among them.
-    fn under(alloc: Global, naming: N, rulings: Rulings) -> PlainLedger<N>
+    pub(crate) fn under(alloc: Global, naming: N, rulings: Rulings) -> PlainBooks<N>
         requires { (ruled_in rulings).closes ≡ [] }
-        ensures { IsOpenAt (N.name_of naming) (record new_book { rulings = ruled_in rulings })
-            (⟦<PlainLedger<N> as Ledger>⟧.seen result) }
+        ensures book { book_in result ≡ record new_book { rulings = ruled_in rulings } }
+        ensures naming { naming_in result ≡ naming }
     {
-        PlainLedger {
+        PlainBooks {
             naming,
             rulings,
             held: BTreeMap::new(alloc),
@@ -105,94 +83,4 @@ impl<N: Naming + Drop> PlainLedger<N> {
             alloc,
         }
     }
-}
-
-impl<N: Naming + Drop> Ledger for PlainLedger<N> {
-    ghost use Rattle.plain_ledger.specs.PlainBook.{seen_in};
-
-    ghost seen = { seen_in };
-
-    fn rule(&mut self, ruling: Ruling<'_>) -> Result<Ruled, LedgerFault> {
-        match ruling {
-            Ruling::Tariff(text) => self.put_in_force(text),
-            Ruling::Close { period, through } => self.close_period(period, through),
-            Ruling::Choose(name) => self.choose_named(name),
-            Ruling::Adopt(rule) => self.adopt_rule(rule),
-            Ruling::Replace(text) => self.replace_in_force(text),
-            Ruling::Withhold(name) => self.withhold_named(name),
-            Ruling::Credit {
-                period,
-                centre,
-                amount,
-                reason,
-            } => self.give_credit(period, centre, amount, reason),
-        }
-    }
-
-    fn accept(&mut self, bytes: &[u8]) -> Result<Accepted, LedgerFault> {
-        self.keep_record(bytes)
-    }
-
-    fn accept_many(&mut self, records: &[Vec<u8>]) -> Result<Vec<Accepted>, LedgerFault> {
-        // One record is a change here: nothing waits for a commit.
-        let mut answers = Vec::with_capacity(self.alloc, 1)?;
-        let accepted = self.keep_record(&records[0])?;
-        answers.push(accepted)?;
-        Ok(answers)
-    }
-
-    fn charges(&mut self, period: u16) -> Result<Vec<ChargeRow>, LedgerFault> {
-        self.charge_rows(period)
-    }
-
-    fn charges_under(
-        &mut self,
-        period: u16,
-        tariff: &Tariff,
-    ) -> Result<Vec<ChargeRow>, LedgerFault> {
-        self.charge_rows_under(period, tariff)
-    }
-
-    fn adjustments(&mut self, period: u16) -> Result<Vec<Line>, LedgerFault> {
-        self.lines(period)
-    }
-
-    fn next_detail(
-        &mut self,
-        period: u16,
-        centre: Option<Name>,
-        after: Option<Detail>,
-    ) -> Result<Option<Detail>, LedgerFault> {
-        self.detail_after(period, centre, after)
-    }
-
-    fn disputes(&mut self) -> Result<Vec<Dispute>, LedgerFault> {
-        self.disputes_held()
-    }
-
-    fn dispute_from(&mut self, from: &[u8]) -> Result<Option<Dispute>, LedgerFault> {
-        self.dispute_held(from)
-    }
-
-    fn periods(&mut self) -> Result<Vec<i32>, LedgerFault> {
-        self.close_days()
-    }
-
-    fn ruling(&mut self, number: u64) -> Result<Option<ListedRuling>, LedgerFault> {
-        self.ruling_listed(number)
-    }
-
-    fn credit_given(&mut self, number: u64) -> Result<Option<Credit>, LedgerFault> {
-        self.credit_kept(number)
-    }
-
-    fn record_named(&mut self, alloc: Global, name: &[u8; 32]) -> Result<Vec<u8>, LedgerFault> {
-        self.record_held(alloc, name)
-    }
-
-    fn trail_of(&mut self, alloc: Global, name: &[u8; 32]) -> Result<Trail, LedgerFault> {
-        self.trail_held(alloc, name)
-    }
-
-    ghost settled = { λ ledger honest books is_open book left. absurd left };
 }

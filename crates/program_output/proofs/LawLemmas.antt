@@ -60,8 +60,8 @@ same_records_same_texts terms dump other told other_told events other_events one
     other_events two.booked two.unrefused in
     let of_books : Receipt → Bool = λ one. is_stop_of_books one.stop in
     let between =
-    one_import_each sha256 (flat_book terms) stop other_stop found.records other_found.records same
-    (ap of_books first.receipt ∙ one.unrefused) (ap of_books second.receipt ∙ two.unrefused) in
+    one_import_each sha256 (flat_book terms) stop other_stop found.records other_found.records refl
+    same (ap of_books first.receipt ∙ one.unrefused) (ap of_books second.receipt ∙ two.unrefused) in
     let left : List Event → Book = λ events. after_all events (flat_book terms) in
     let books : trial_book terms events ≡ trial_book terms other_events =
     ap left (sym first.events) ∙ between ∙ ap left second.events in

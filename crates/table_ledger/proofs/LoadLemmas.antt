@@ -8,7 +8,7 @@ use Rattle.book_model.specs.Words.{second_rule}
 use Rattle.book_core.specs.Words.{IsOpenAt, ruled_in}
 use Rattle.table_model.specs.Words.{BookRow, Tables, tables_of, adopted_read, tariff_read}
 use Rattle.table_model.specs.Words.{IsReadable}
-use Rattle.table_model.proofs.BookLemmas.{book_follows}
+use Rattle.table_model.proofs.BookLemmas.{rulings_back}
 use Rattle.tree_tables.specs.Answers.{last_number}
 use Rattle.tree_tables.specs.declared.book_row.StoredBook.{StoredBook as Stored}
 use Rattle.tree_tables.specs.declared.tariff_rows.StoredTariff.{StoredTariff}
@@ -110,7 +110,7 @@ recalled_by (Err fault) tables row texts days choices gone given shows kinds are
 pub remembered : (naming : Naming) (book : Book) (summary : Summary) → IsReadable naming book
     → SummarizesTables summary (tables_of naming book) → Remembers summary book
 remembered naming book summary whole recalls =
-    let back = ap (λ (book : Book). book.rulings) (book_follows naming book whole) in
+    let back = rulings_back naming book whole in
     record {
       rulings = recalls.rulings ∙ ap without_lists back;
       choices = recalls.choices ∙ last_counts naming book whole;

@@ -57,7 +57,7 @@ pub created : (naming : Naming) (state : State) (summary : Summary)
     }))
 created naming state summary last clean keeping none choices replaced credits held total =
     opened naming state summary new_book last clean
-    (calls_read naming new_book (calls_stay.start naming))
+    (calls_read.books naming new_book (calls_stay.start naming))
     (subst (Stores state.view) (new_follow naming) keeping)
     (record {
       rulings = none;

@@ -17,6 +17,8 @@ use Rattle.table_model.proofs.UnderNumbers.{values-numbers}
 use Rattle.table_model.proofs.RulingsReading.{adopted_back, tariffs_back}
 use Rattle.table_model.proofs.ReplacedChanges.{replaced_back}
 use Rattle.table_model.proofs.SetReading.{before_back}
+use Rattle.table_model.specs.Journaled.{IsJournaled}
+use Rattle.table_model.proofs.JournalReading.{journal_back}
 
 module _ (closes : List ℤ) (charged : ℕ → Records) where
   -- the period after this many closes
@@ -99,33 +101,40 @@ module _ (naming : Naming) (book : Book) (whole : IsReadable naming book) where
       (λ i. past_in k (before i) tables ++ period i ∷ [])
       ∙ ap (λ periods. periods ++ link days charged k ∷ []) (past_back k (omega arith))
 
-  -- and the book
-  read_back : book_in tables ≡ book
-  read_back =
+  -- the rulings, whatever the journal
+  pub rulings_back : (book_in tables).rulings ≡ book.rulings
+  rulings_back =
       let closes = values-numbers days in
       let tariffs = tariffs_back book.rulings.tariffs whole.rising whole.texts in
       let choices = choices_back naming book whole.sound whole.lines.framed in
-      let posted = posted_back naming book whole.sound whole.lines.framed in
-      same_book
-      (λ i. record {
+      λ i. record {
         tariffs = tariffs i;
         closes = closes i;
         choices = choices i;
         adopted = adopted_back book.rulings book.held i;
         replaced = replaced_back book.rulings.replaced whole.replaced i;
         credits = values-numbers book.rulings.credits i;
-      })
+      }
+
+  -- and the book
+  read_back : IsJournaled book → book_in tables ≡ book
+  read_back journaled =
+      let closes = values-numbers days in
+      let posted = posted_back naming book whole.sound whole.lines.framed in
+      same_book rulings_back
       (held_back naming book whole.sound whole.lines.framed)
       posted
       ((λ i. past_in (length (closes i)) (posted i) tables)
       ∙ ap (λ charged. past_in (length days) charged tables) whole.past.posted
       ∙ past_back (length days) (omega arith) ∙ sym whole.past.past)
+      (journal_back naming book whole.sound whole.lines journaled)
 
 -- the law
 pub book_follows : BookFollows
-book_follows naming book whole = read_back naming book whole
+book_follows naming book whole journaled = read_back naming book whole journaled
 
 -- so the tables determine the book
 pub tables_determine : TablesDetermine
-tables_determine naming one other whole too same =
-    sym (book_follows naming one whole) ∙ ap book_in same ∙ book_follows naming other too
+tables_determine naming one other whole too one_journal other_journal same =
+    sym (book_follows naming one whole one_journal) ∙ ap book_in same
+    ∙ book_follows naming other too other_journal

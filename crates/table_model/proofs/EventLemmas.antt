@@ -1,5 +1,6 @@
 -- The tables after an event, and so those that are updated over a history, are those of the book.
-use Rattle.std.proofs.Common.{◌≡◌, ℕ, ◌+◌, List, [], ◌∷◌, ◌++◌, map, length, sym, ap, ◌∙◌, true}
+use Rattle.std.proofs.Common.{refl, ◌≡◌, ℕ, ◌+◌, List, [], ◌∷◌, ◌++◌, map, length, sym, ap, ◌∙◌}
+use Rattle.std.proofs.Common.{true}
 use Rattle.std.proofs.Common.{false, Bool, not, ◌||◌, Option, Some, None, subst, sum_by, filter_map}
 use Rattle.std.proofs.Common.{arith, option_map}
 use Rattle.std.proofs.Math.Bool.{or-true}
@@ -26,7 +27,12 @@ use Rattle.table_model.specs.Words.{counted_by, periods_by, record_entry, record
 use Rattle.table_model.specs.Words.{tables_of, tariff_entries}
 use Rattle.table_model.specs.Changed.{chosen_at, withheld_at}
 use Rattle.table_model.specs.TableChanges.{put_withheld}
+use Rattle.book_model.specs.Words.{ImportBegun, ImportEnded, ImportRead, IsAnswered, IsSound}
+use Rattle.book_model.specs.Words.{changed_by}
+use Rattle.table_model.specs.Changed.{rows_changed}
+use Rattle.table_model.specs.PeriodLists.{AreUsage}
 use Rattle.table_model.specs.Laws.{EventFollows, TablesFollow}
+use Rattle.table_model.proofs.JournalChanges.{came_follows, journal_follows, journaled_after}
 use Rattle.table_model.proofs.AdoptChanges.{adoption_follows}
 use Rattle.table_model.proofs.ChoiceChanges.{choice_follows, withhold_follows}
 use Rattle.table_model.proofs.CloseLemmas.{close_follows}
@@ -94,11 +100,11 @@ no_entries =
 -- the tariff that new books begin with
 begun : (naming : Naming) (terms : Terms)
     → tables_of naming (give (TariffAccepted None terms) new_book)
-    ≡ changed naming no_rulings (RulingGiven (TariffAccepted None terms))
+    ≡ rows_changed naming no_rulings (RulingGiven None (TariffAccepted None terms))
     (tables_of naming new_book)
 begun naming terms =
     new_under naming (record { text = None; terms = terms } ∷ []) ∙ sym no_walk
-    ∙ ap (changed naming no_rulings (RulingGiven (TariffAccepted None terms)))
+    ∙ ap (rows_changed naming no_rulings (RulingGiven None (TariffAccepted None terms)))
     (sym (new_under naming []))
   where
     made : List (List ℕ × RecordRow) → Tables
@@ -107,16 +113,20 @@ begun naming terms =
         (put_tariff_row terms.effective None
         (walk (reprice_step 1 terms) (map (λ (e : List ℕ × RecordRow). e.0) es) new_tables))
 
-    no_walk : changed naming no_rulings (RulingGiven (TariffAccepted None terms)) new_tables
+    no_walk : rows_changed naming no_rulings (RulingGiven None (TariffAccepted None terms)) new_tables
         ≡ record new_tables {
           tariffs = from_entries
               (tariff_entries (record { text = None; terms = terms } ∷ []));
         }
     no_walk = ap made no_entries
 
--- the law of events
-pub event_follows : EventFollows
-event_follows naming book (RecordKept bytes) sound usage answered rise =
+-- the tables after an event, but for the journal
+rows_follow : (naming : Naming) (book : Book) (event : Event)
+    → IsSound naming book → AreUsage book.held
+    → IsAnswered naming event book → are_rising book.rulings.tariffs ≡ true
+    → tables_of naming (changed_by event book)
+    ≡ rows_changed naming book.rulings event (tables_of naming book)
+rows_follow naming book (RecordKept bytes) sound usage answered rise =
     let cost = kept_cost naming book bytes answered in
     let name : List ℕ = name_of naming bytes in
     let tables : Tables = tables_of naming book in
@@ -125,19 +135,19 @@ event_follows naming book (RecordKept bytes) sound usage answered rise =
     (sym (view_follows naming book bytes sound))
     ∙ ap (λ price. option_map_or (λ priced. kept_at book.rulings name bytes priced tables) price
     tables) (sym cost.1)
-event_follows naming book (PeriodClosed day) sound usage answered rise =
+rows_follow naming book (PeriodClosed said day) sound usage answered rise =
     close_follows naming book (open_number book) day sound answered
-event_follows naming book (RulingGiven (TariffAccepted (Some text) terms)) sound usage answered rise =
+rows_follow naming book (RulingGiven said (TariffAccepted (Some text) terms)) sound usage answered rise =
     let framed = λ (q : List ℕ) (held : has book.held q ≡ true). (usage q held).framed in
     let later = (tariff_passes book text terms answered).later in
     tariff_follows naming book text terms sound framed answered
     ∙ ap (λ amount. tariff_at (open_number book) (Some text) terms amount (tables_of naming book))
     (sym (sum_is_read naming book text terms sound framed later))
-event_follows naming book (RulingGiven (TariffAccepted None terms)) sound usage answered rise =
+rows_follow naming book (RulingGiven said (TariffAccepted None terms)) sound usage answered rise =
     subst (λ (book : Book). tables_of naming (give (TariffAccepted None terms) book)
-    ≡ changed naming book.rulings (RulingGiven (TariffAccepted None terms)) (tables_of naming book))
+    ≡ rows_changed naming book.rulings (RulingGiven None (TariffAccepted None terms)) (tables_of naming book))
     (sym answered) (begun naming terms)
-event_follows naming book (RulingGiven (RecordChosen bytes)) sound usage answered rise =
+rows_follow naming book (RulingGiven said (RecordChosen bytes)) sound usage answered rise =
     let name : List ℕ = name_of naming bytes in
     let tables : Tables = tables_of naming book in
     let found = answered.1 in
@@ -152,7 +162,7 @@ event_follows naming book (RulingGiven (RecordChosen bytes)) sound usage answere
     ∙ ap (λ found. option_map_or (λ row. chosen_at book.rulings name row tables) found tables)
     (sym (row-found naming book sound (price_in book.rulings) (identity_by book.rulings)
     (charged_of book) bytes there cost.0 cost.1))
-event_follows naming book (RulingGiven (WorkWithheld bytes)) sound usage answered rise =
+rows_follow naming book (RulingGiven said (WorkWithheld bytes)) sound usage answered rise =
     let name : List ℕ = name_of naming bytes in
     let tables : Tables = tables_of naming book in
     let found = answered.1 in
@@ -165,9 +175,9 @@ event_follows naming book (RulingGiven (WorkWithheld bytes)) sound usage answere
     ∙ ap (λ found. option_map_or (λ row. withheld_at book.rulings name row tables) found tables)
     (sym (row-found naming book sound (price_in book.rulings) (identity_by book.rulings)
     (charged_of book) bytes there cost.0 cost.1))
-event_follows naming book (RulingGiven (TariffReplaced text terms)) sound usage answered rise =
+rows_follow naming book (RulingGiven said (TariffReplaced text terms)) sound usage answered rise =
     replace_follows naming book text terms sound (λ q held. (usage q held).framed) rise answered
-event_follows naming book (RulingGiven (CreditGiven centre amount reason)) sound usage answered
+rows_follow naming book (RulingGiven said (CreditGiven centre amount reason)) sound usage answered
     rise =
     let earlier : List Credit = book.rulings.credits in
     let credit : Credit = record {
@@ -178,15 +188,30 @@ event_follows naming book (RulingGiven (CreditGiven centre amount reason)) sound
     } in
     let rows = next_number earlier credit (length earlier + 1) (omega arith) in
     λ i. record (tables_of naming book) { credits = rows i }
-event_follows naming book (RulingGiven SecondRuleAdopted) sound usage answered rise =
+rows_follow naming book (RulingGiven said SecondRuleAdopted) sound usage answered rise =
     adoption_follows naming book sound usage answered
+rows_follow naming book (ImportBegun note) sound usage answered rise = refl
+rows_follow naming book (ImportRead reading) sound usage answered rise = refl
+rows_follow naming book (ImportEnded ending) sound usage answered rise = refl
+
+-- the law of events
+pub event_follows : EventFollows
+event_follows naming book event sound usage journaled answered rise =
+    let rows = rows_follow naming book event sound usage answered rise in
+    let noted = journal_follows naming book event journaled answered in
+    let came = came_follows naming book event journaled answered in
+    λ i. record (rows i) { journal = noted i; came = came i }
 
 -- what was held before an event is held
 held_before : (event : Event) (book : Book) (q : List ℕ) → has book.held q ≡ true
     → has (after event book).held q ≡ true
 held_before (RecordKept bytes) book q held = has_with book.held bytes q
     ∙ ap (λ b. is q bytes || b) held ∙ or-true (is q bytes)
-held_before event book q held = held
+held_before (PeriodClosed said day) book q held = held
+held_before (RulingGiven said ruling) book q held = held
+held_before (ImportBegun note) book q held = held
+held_before (ImportRead reading) book q held = held
+held_before (ImportEnded ending) book q held = held
 
 -- the tables of new books are those of the new book
 pub new_follow : (naming : Naming) → new_tables ≡ tables_of naming new_book
@@ -201,6 +226,6 @@ tables_follow naming (event ∷ older) made usage =
     (λ i. changed naming (sym (rulings_are older) i) event
     (tables_follow naming older made.1 before i))
     ∙ sym (event_follows naming (book_after older) event (sound_after naming older made.1) before
-    made.0
+    (journaled_after naming older made.1) made.0
     (ap (λ (ruled : Rulings). are_rising ruled.tariffs) (rulings_are older)
     ∙ latest_is_last.rising naming older made.1))

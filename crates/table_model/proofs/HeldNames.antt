@@ -6,7 +6,7 @@ use Rattle.book_model.specs.Words.{AreAmong, Book, IsSound, Naming, Records, by_
 use Rattle.book_model.proofs.RecordSets.{has_those, in_those, is, is_itself, not_true, passes_those}
 use Rattle.book_model.proofs.RecordSets.{same_records}
 use Rattle.book_model.proofs.SetChanges.{IsUnnamed, by_record, except, with-except}
-use Rattle.table_model.specs.TablesOf.{under_names}
+use Rattle.table_model.specs.UnderNames.{under_names}
 use Rattle.table_model.proofs.LineChanges.{lines-with, no_line}
 use Rattle.table_model.proofs.OpenChanges.{except-absent}
 use Rattle.table_model.proofs.OpenNames.{unnamed_in}

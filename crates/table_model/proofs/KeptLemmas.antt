@@ -1,9 +1,12 @@
 -- The tables of a book with one more record are those without it, changed by its effects.
-use Rattle.std.proofs.Common.{◌≡◌, ℕ, List, [], ◌∷◌, refl, sym, ap, ◌∙◌, true, false, Bool, ◌&&◌}
+use Rattle.std.proofs.Common.{Ok, ◌≡◌, ℕ, List, [], ◌∷◌, refl, sym, ap, ◌∙◌, true, false, Bool}
+use Rattle.std.proofs.Common.{◌&&◌}
 use Rattle.std.proofs.Common.{Option, Some, None, subst, ℤ, if◌then◌else◌, is_eq}
 use Rattle.std.proofs.Math.Bool.{or-false}
 use Rattle.book_model.proofs.Std.{list_any, IsStrictlySortedBy, nat_list_cmp_total, sorted_head}
 use Rattle.book_model.proofs.Std.{exact_bytes}
+use Rattle.book_model.specs.declared.answer.Accepted.TheVariants.{Kept}
+use Rattle.book_model.specs.Words.{accept_answer}
 use Rattle.book_model.specs.Words.{Priced, Book, share_identity, is_chosen, keep, Naming, name_of}
 use Rattle.book_model.specs.Words.{by_bytes, same_bytes, price_in, last_close, has, those, IsSound}
 use Rattle.book_model.proofs.ChargedChanges.{charged-new, charged-alone, charged-only}
@@ -113,15 +116,20 @@ module _ (naming : Naming) (book : Book) (sound : IsSound naming book) (bytes : 
       (charged-stays book.rulings book.held bytes new a b its_a.1 its_b.1 its_a.0 its_b.0
       (ap is_eq less.0) plain)
 
+-- no record that is held has the name of one that is kept
+pub unnamed_kept : (naming : Naming) (book : Book) (bytes : List ℕ)
+    → accept_answer naming book bytes ≡ Ok Kept → IsUnnamed naming bytes book.held
+unnamed_kept naming book bytes kept other there =
+    let same_name : List ℕ → Bool =
+    λ other. same_bytes (name_of naming other) (name_of naming bytes) in
+    is_back (name_of naming bytes) (name_of naming other)
+    ∙ (λ i. sym same_bytes-by_cmp i (name_of naming other) (name_of naming bytes))
+    ∙ fails_too nat_list_cmp_total exact_bytes same_name book.held other
+    (kept_passes naming book bytes kept).alone there
+
 -- the law
 pub kept_follows : KeptFollows
 kept_follows naming book bytes priced sound kept price =
     let tests = kept_passes naming book bytes kept in
-    let same_name : List ℕ → Bool =
-    λ other. same_bytes (name_of naming other) (name_of naming bytes) in
-    let unnamed = λ (other : List ℕ) (there : has book.held other ≡ true).
-    is_back (name_of naming bytes) (name_of naming other)
-    ∙ (λ i. sym same_bytes-by_cmp i (name_of naming other) (name_of naming bytes))
-    ∙ fails_too nat_list_cmp_total exact_bytes same_name book.held other tests.alone there in
     kept-as naming book sound bytes priced (steps_stay_sound.keep naming book bytes sound kept)
-    tests.is_new unnamed price (sharing book bytes) refl
+    tests.is_new (unnamed_kept naming book bytes kept) price (sharing book bytes) refl

@@ -56,6 +56,8 @@ pub mod SumRead
 pub mod LateRows
 pub mod AdoptChanges
 pub mod DueStays
+pub mod JournalChanges
+pub mod JournalFew
 pub mod EventLemmas
 pub mod PeriodReading
 pub mod PeriodPlaces
@@ -79,6 +81,7 @@ pub mod TouchedRecords
 pub mod ChoiceReading
 pub mod ListedChoices
 pub mod LineSides
+pub mod JournalReading
 pub mod BookLemmas
 pub mod AcceptLemmas
 pub mod ChoiceLemmas

@@ -15,15 +15,15 @@ use Rattle.table_model.proofs.LineChanges.{given, no_line}
 use Rattle.table_model.proofs.OpenNames.{names_differ}
 use Rattle.std.specs.FinMap as fin
 
-module _ (naming : Naming) (book : Book) (sound : IsSound naming book) (plus : Bool)
-    (others : List (List ℕ × Bool)) where
-  -- lines of records that are held, before others that have none of their names
-  names_apart : (ks : List (List ℕ)) → IsStrictlySortedBy by_bytes ks
+module _ {V : Type 0} (naming : Naming) (book : Book) (sound : IsSound naming book) (plus : V)
+    (others : List (List ℕ × V)) where
+  -- values of records that are held, before others that have none of their names
+  pub names_apart : (ks : List (List ℕ)) → IsStrictlySortedBy by_bytes ks
       → ((bytes : List ℕ) → list_any (is bytes) ks ≡ true → has book.held bytes ≡ true)
       → ((bytes : List ℕ) → list_any (is bytes) ks ≡ true
       → find by_bytes (name_of naming bytes) others ≡ None)
       → Apart by_bytes others
-      → Apart by_bytes (map {B = List ℕ × Bool} (λ bytes. (name_of naming bytes, plus)) ks
+      → Apart by_bytes (map {B = List ℕ × V} (λ bytes. (name_of naming bytes, plus)) ks
       ++ others)
   names_apart [] rising held free apart = apart
   names_apart (k ∷ ks) rising held free apart =
@@ -37,7 +37,7 @@ module _ (naming : Naming) (book : Book) (sound : IsSound naming book) (plus : B
       names_differ naming book sound k bytes (held k own) (held bytes (behind bytes among))
       (not_first k ks rising bytes among)) in (
         find-both by_bytes (name_of naming k)
-            (map {B = List ℕ × Bool} (λ bytes. (name_of naming bytes, plus)) ks) others
+            (map {B = List ℕ × V} (λ bytes. (name_of naming bytes, plus)) ks) others
             ∙ (λ i. else_find (none i) (free k own i)),
         names_apart ks (sorted_tail by_bytes k ks rising)
             (λ bytes among. held bytes (behind bytes among))

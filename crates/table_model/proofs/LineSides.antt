@@ -16,29 +16,30 @@ use Rattle.table_model.proofs.LineReading.{held_row}
 use Rattle.table_model.proofs.PeriodPlaces.{slice_get-map}
 use Rattle.table_model.proofs.PeriodReading.{read-period}
 use Rattle.table_model.specs.BookIn.{named_by, added_in, taken_in}
+use Rattle.table_model.specs.UnderNames.{under_names}
 use Rattle.table_model.proofs.SetReading.{set-permuted, set_of-members}
 
-module _ (naming : Naming) (keeps : Bool → Bool) (plus : Bool) where
+module _ {V : Type 0} (naming : Naming) (keeps : V → Bool) (plus : V) where
   -- a line of a side
-  abbrev line : List ℕ → List ℕ × Bool
+  abbrev line : List ℕ → List ℕ × V
   line bytes = (name_of naming bytes, plus)
 
   -- a side is kept whole if its sign is kept,
-  side_kept : keeps plus ≡ true → (ks : List (List ℕ))
+  pub side_kept : keeps plus ≡ true → (ks : List (List ℕ))
       → filter (λ row. keeps row.1) (map line ks) ≡ map line ks
   side_kept keep [] = refl
   side_kept keep (k ∷ ks) =
       let rest = side_kept keep ks in
-      let others : List (List ℕ × Bool) = filter (λ row. keeps row.1) (map line ks) in
+      let others : List (List ℕ × V) = filter (λ row. keeps row.1) (map line ks) in
       ap (λ b. cond b (line k ∷ others) others) keep ∙ ap (λ es. line k ∷ es) rest
 
   -- and otherwise dropped
-  side_dropped : keeps plus ≡ false → (ks : List (List ℕ))
+  pub side_dropped : keeps plus ≡ false → (ks : List (List ℕ))
       → filter (λ row. keeps row.1) (map line ks) ≡ []
   side_dropped drop [] = refl
   side_dropped drop (k ∷ ks) =
       let rest = side_dropped drop ks in
-      let others : List (List ℕ × Bool) = filter (λ row. keeps row.1) (map line ks) in
+      let others : List (List ℕ × V) = filter (λ row. keeps row.1) (map line ks) in
       ap (λ b. cond b (line k ∷ others) others) drop ∙ rest
 
 -- the plus lines of a period
@@ -68,7 +69,7 @@ module _ (naming : Naming) (book : Book) (sound : IsSound naming book) (lines : 
     records = (tables_of naming book).records
 
     -- the record of a line
-    abbrev given : List ℕ × Bool → Option (List ℕ)
+    abbrev pub given : {V : Type 0} → List ℕ × V → Option (List ℕ)
     given line = option_map row_record (get records line.0)
 
     -- a record that is held is found under its name
@@ -79,8 +80,8 @@ module _ (naming : Naming) (book : Book) (sound : IsSound naming book) (lines : 
         ∙ (λ i. Some (sym (lines.framed bytes there).is i))
 
     -- the records of a side
-    side_back : (plus : Bool) (some : Records) → AreAmong some book.held
-        → filter_map given (signed_names naming plus some) ≡ members some
+    pub side_back : {V : Type 0} (plus : V) (some : Records) → AreAmong some book.held
+        → filter_map given (under_names naming plus some) ≡ members some
     side_back plus some among =
         filter_map-map given (λ bytes. (name_of naming bytes, plus)) (members some)
         ∙ pick-agree (λ bytes. given (name_of naming bytes, plus)) (λ bytes. Some bytes) some

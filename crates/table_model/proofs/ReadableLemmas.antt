@@ -11,6 +11,8 @@ use Rattle.table_model.specs.FromCalls.{AreSubmitted}
 use Rattle.table_model.specs.ReadingLaws.{CallsRead}
 use Rattle.table_model.specs.Words.{IsReadable, IsTexted, IsTimely}
 use Rattle.table_model.specs.Readable.{IsCredited, IsReplaced}
+use Rattle.table_model.specs.Journaled.{IsJournaled}
+use Rattle.table_model.proofs.JournalChanges.{journaled_after}
 use Rattle.table_model.proofs.LinesStay.{lines_stay}
 use Rattle.table_model.proofs.ReadableStays.{readable_stays}
 
@@ -66,6 +68,10 @@ readable_after naming (event ∷ older) made submitted =
 
 -- the law
 pub calls_read : CallsRead
-calls_read naming book made =
-    subst (IsReadable naming) (sym made.left)
-    (readable_after naming made.history made.answered made.submitted)
+calls_read = record {
+  books = λ naming book made.
+      subst (IsReadable naming) (sym made.left)
+      (readable_after naming made.history made.answered made.submitted);
+  journals = λ naming book made.
+      subst IsJournaled (sym made.left) (journaled_after naming made.history made.answered);
+}

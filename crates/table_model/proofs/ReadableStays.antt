@@ -27,6 +27,9 @@ use Rattle.book_model.proofs.Lemmas.{tariff_passes}
 use Rattle.book_model.proofs.TestLemmas.{choice_passes, close_passes, credit_passes, replace_passes}
 use Rattle.book_model.proofs.TestLemmas.{withhold_passes}
 use Rattle.book_model.proofs.ReplacedLemmas.{replaced_rising}
+use Rattle.book_model.specs.Words.{Entry, ImportBegun, ImportEnded, ImportRead, changed_by}
+use Rattle.book_model.specs.Words.{entries_after}
+use Rattle.book_model.proofs.MadeByCallsLemmas.{sound_still}
 use Rattle.table_model.specs.Words.{close_after, ArePriced, IsSubmittedTo, IsBegun, IsReadable}
 use Rattle.table_model.specs.Words.{IsTexted, IsTimely, chained, BookRow}
 use Rattle.table_model.specs.FromCalls.{IsReadFrom, IsSubmitted}
@@ -496,24 +499,68 @@ module _ (naming : Naming) (book : Book) (whole : IsReadable naming book) where
       adopted_in (Some other) was period is =
           (still_begun (give SecondRuleAdopted book) (omega arith)).1 period (was ∙ is)
 
+-- an event, but for the journal
+readable_changed : (naming : Naming) (book : Book) (event : Event) → IsReadable naming book
+    → IsSubmittedTo book event → IsAnswered naming event book → IsReadable naming (changed_by event book)
+readable_changed naming book (RecordKept bytes) whole handed answered =
+    keep_stays naming book whole bytes handed answered
+readable_changed naming book (PeriodClosed said day) whole handed answered =
+    close_stays naming book whole (open_number book) day handed answered
+readable_changed naming book (RulingGiven said (TariffAccepted (Some text) terms)) whole handed answered =
+    tariff_stays naming book whole text terms handed.0 handed.1 answered
+readable_changed naming book (RulingGiven said (TariffAccepted None terms)) whole none answered =
+    absurd none
+readable_changed naming book (RulingGiven said (RecordChosen bytes)) whole handed answered =
+    choose_stays naming book whole (name_of naming bytes) bytes answered.0 answered.1
+readable_changed naming book (RulingGiven said (WorkWithheld bytes)) whole handed answered =
+    withhold_stays naming book whole (name_of naming bytes) bytes answered.0 answered.1
+readable_changed naming book (RulingGiven said (TariffReplaced text terms)) whole handed answered =
+    replace_stays naming book whole text terms handed.0 handed.1 answered
+readable_changed naming book (RulingGiven said (CreditGiven centre amount reason)) whole handed answered =
+    credit_stays naming book whole centre amount reason handed answered
+readable_changed naming book (RulingGiven said SecondRuleAdopted) whole handed answered =
+    adopt_stays naming book whole
+readable_changed naming book (ImportBegun note) whole handed answered = whole
+readable_changed naming book (ImportRead reading) whole handed answered = whole
+readable_changed naming book (ImportEnded ending) whole handed answered = whole
+
+-- a book can be read back whatever its journal
+readable_still : (naming : Naming) (book : Book) (entries : List Entry) → IsReadable naming book
+    → IsReadable naming (record book { journal = entries })
+readable_still naming book entries whole =
+    let later : Book = record book { journal = entries } in
+    let still = still_begun naming book whole later (omega arith) in
+    record {
+      sound = sound_still naming book entries whole.sound;
+      lines = record {
+        framed = whole.lines.framed;
+        apart = whole.lines.apart;
+      };
+      usage = whole.usage;
+      priced = whole.priced;
+      texts = whole.texts;
+      rising = whole.rising;
+      days = whole.days;
+      in_order = whole.in_order;
+      timely = still.0;
+      adopted = still.1;
+      past = still_linked naming book whole later refl refl refl;
+      replaced = still.3;
+      credited = still.2;
+      limits = record {
+        held = whole.limits.held;
+        cost = whole.limits.cost;
+        closes = whole.limits.closes;
+        choices = whole.limits.choices;
+        credits = whole.limits.credits;
+        replaced = whole.limits.replaced;
+      };
+    }
+
 -- an event
 pub readable_stays : (naming : Naming) (book : Book) (event : Event) → IsReadable naming book
     → IsSubmittedTo book event → IsAnswered naming event book → IsReadable naming (after event book)
-readable_stays naming book (RecordKept bytes) whole handed answered =
-    keep_stays naming book whole bytes handed answered
-readable_stays naming book (PeriodClosed day) whole handed answered =
-    close_stays naming book whole (open_number book) day handed answered
-readable_stays naming book (RulingGiven (TariffAccepted (Some text) terms)) whole handed answered =
-    tariff_stays naming book whole text terms handed.0 handed.1 answered
-readable_stays naming book (RulingGiven (TariffAccepted None terms)) whole none answered =
-    absurd none
-readable_stays naming book (RulingGiven (RecordChosen bytes)) whole handed answered =
-    choose_stays naming book whole (name_of naming bytes) bytes answered.0 answered.1
-readable_stays naming book (RulingGiven (WorkWithheld bytes)) whole handed answered =
-    withhold_stays naming book whole (name_of naming bytes) bytes answered.0 answered.1
-readable_stays naming book (RulingGiven (TariffReplaced text terms)) whole handed answered =
-    replace_stays naming book whole text terms handed.0 handed.1 answered
-readable_stays naming book (RulingGiven (CreditGiven centre amount reason)) whole said answered =
-    credit_stays naming book whole centre amount reason said answered
-readable_stays naming book (RulingGiven SecondRuleAdopted) whole handed answered =
-    adopt_stays naming book whole
+readable_stays naming book event whole handed answered =
+    readable_still naming (changed_by event book)
+    (entries_after event book.rulings book.journal)
+    (readable_changed naming book event whole handed answered)

@@ -28,15 +28,15 @@ ArePriced rulings held =
 -- and for the adoption of a rule nothing more is required than that they were answered so.
 abbrev pub IsSubmittedTo : Book → Event → Type 0
 IsSubmittedTo book (RecordKept bytes) = IsSubmitted book.rulings bytes
-IsSubmittedTo book (PeriodClosed day) = IsDay day
-IsSubmittedTo book (RulingGiven (TariffAccepted (Some text) terms)) =
+IsSubmittedTo book (PeriodClosed said day) = IsDay day
+IsSubmittedTo book (RulingGiven said (TariffAccepted (Some text) terms)) =
     IsReadFrom text terms × ArePriced (with_tariff (Some text) terms book.rulings) book.held
-IsSubmittedTo book (RulingGiven (TariffAccepted None terms)) = ⊥
-IsSubmittedTo book (RulingGiven (TariffReplaced text terms)) =
+IsSubmittedTo book (RulingGiven said (TariffAccepted None terms)) = ⊥
+IsSubmittedTo book (RulingGiven said (TariffReplaced text terms)) =
     IsReadFrom text terms × ArePriced (with_replaced text terms book.rulings) book.held
-IsSubmittedTo book (RulingGiven (CreditGiven centre amount reason)) =
+IsSubmittedTo book (RulingGiven said (CreditGiven centre amount reason)) =
     IsCreditOf centre amount reason
-IsSubmittedTo book (RulingGiven ruling) = Unit {0}
+IsSubmittedTo book event = Unit {0}
 
 -- each event of a history was submitted to the book before it
 abbrev pub AreSubmitted : List Event → Type 0

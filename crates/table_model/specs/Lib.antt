@@ -10,6 +10,8 @@
 -- those of lists at the end.
 pub mod PeriodRows
 pub mod Tables
+pub mod UnderNames
+pub mod JournalRows
 pub mod TablesOf
 pub mod Views
 pub mod MapChanges
@@ -18,12 +20,14 @@ pub mod Steps
 pub mod TableChanges
 pub mod Changed
 pub mod TablesAfter
+pub mod Journaled
 pub mod PeriodLists
 pub mod Differences
 pub mod Laws
 pub mod CountedLaws
 pub mod PostedLaws
 pub mod PeriodLaws
+pub mod JournalRowLaws
 pub mod BookIn
 pub mod FromCalls
 pub mod Readable

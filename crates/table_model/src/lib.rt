@@ -9,9 +9,9 @@ mod readings;
 pub use laws::{
     adoption_follows, at_most_five_differ, at_most_four_differ, at_most_one_name_differs,
     at_most_three_differ, at_most_two_names_differ, choice_follows, choice_reads, close_follows,
-    due_stays, event_follows, kept_follows, lines_follow, lines_stay, names_follow, past_stays,
-    posts_few, replace_follows, rows_follow, sum_is_read, tables_follow, tariff_follows, view_fits,
-    view_follows, withhold_follows,
+    due_stays, event_follows, journal_changes_few, kept_follows, lines_follow, lines_stay,
+    names_follow, past_stays, posts_few, replace_follows, rows_follow, sum_is_read, tables_follow,
+    tariff_follows, view_fits, view_follows, withhold_follows,
 };
 pub use readings::{
     accept_follows, adoptions_follow, book_follows, calls_read, calls_stay, choices_follow,

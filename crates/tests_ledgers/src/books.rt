@@ -34,7 +34,7 @@ fn close_periods<L: Ledger>(
         let Some(day) = first.days_later(done) else {
             break;
         };
-        match ledger.close(period, day.number) {
+        match ledger.close(period, day.number, &None) {
             Ok(Ruled::Done) => done = done.saturating_add(1),
             other => {
                 push_ruled(out, other);

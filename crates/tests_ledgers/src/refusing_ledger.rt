@@ -1,12 +1,14 @@
 //! Books that refuse one call for lack of memory, or none.
 
-ghost use Rattle.std.specs.Prelude.{◌≡◌, ◌<◌, length, take, List, ℤ, Err};
-ghost use Rattle.book_model.specs.Words.{periods_outcome};
+ghost use Rattle.std.specs.Prelude.{◌≡◌, ◌<◌, All, IfOk, length, take, List, None, ℤ, Err};
+ghost use Rattle.book_model.specs.Words.{IsUsageRecord, periods_outcome};
 ghost use Rattle.book_core.specs.Calls.{IsCall};
+ghost use Rattle.book_core.specs.Submissions.{TakesOf, records_in};
+ghost use Rattle.book_core.specs.Transition.{IsTransition};
 
 use book_core::{
     Accepted, ChargeRow, Credit, Detail, Dispute, Ledger, LedgerFault, Line, ListedRuling, Name,
-    Ruled, Ruling, Tariff, Trail,
+    Note, Ruled, Ruling, Share, Stop, Tariff, Trail,
 };
 use std::alloc::Global;
 use tests_scripts::is_due;
@@ -45,7 +47,7 @@ fn refusal<L: Ledger>(ledger: &mut L) -> LedgerFault
     }
 }
 
-/// The first of some records. Each is a call of its own, so that memory can run out between any two.
+/// The first of some records.
 fn first_alone(records: &[Vec<u8>]) -> &[Vec<u8>]
     requires { 0 < length records.now }
     ensures first { result.now ≡ take 1 records.now }
@@ -54,26 +56,42 @@ fn first_alone(records: &[Vec<u8>]) -> &[Vec<u8>]
     &records[..1]
 }
 
+/// Submits the first of some records. Each is a call of its own, so that memory can run out between
+/// any two.
+fn accept_first<L: Ledger>(
+    ledger: &mut L,
+    records: &[Vec<u8>],
+) -> Result<Vec<Accepted>, LedgerFault>
+    requires some { 0 < length records.now }
+    requires usage { All (λ one. IsUsageRecord one.items) records.now }
+    ensures takes { IsTransition (L.seen ledger.old) (L.seen ledger.new)
+        (TakesOf (L.seen ledger.old).naming None (records_in records.now) result) }
+    ensures some { IfOk result (λ answers. 0 < length answers.items) }
+{
+    let first = first_alone(records);
+    ledger.accept_many(first, &None)
+}
+
 impl<L: Ledger> Ledger for RefusingLedger<'_, L> {
     ghost seen = { λ ledger. L.seen ledger.inner.now };
 
-    fn rule(&mut self, ruling: Ruling<'_>) -> Result<Ruled, LedgerFault> {
+    fn rule(&mut self, ruling: Ruling<'_>, note: &Option<Note>) -> Result<Ruled, LedgerFault> {
         if is_due(&mut self.calls_left) {
             return Err(refusal(&mut *self.inner));
         }
         match ruling {
-            Ruling::Tariff(text) => self.inner.tariff(text),
-            Ruling::Close { period, through } => self.inner.close(period, through),
-            Ruling::Choose(name) => self.inner.choose(name),
-            Ruling::Adopt(rule) => self.inner.adopt_identity(rule),
-            Ruling::Replace(text) => self.inner.replace_tariff(text),
-            Ruling::Withhold(name) => self.inner.withhold(name),
+            Ruling::Tariff(text) => self.inner.tariff(text, note),
+            Ruling::Close { period, through } => self.inner.close(period, through, note),
+            Ruling::Choose(name) => self.inner.choose(name, note),
+            Ruling::Adopt(rule) => self.inner.adopt_identity(rule, note),
+            Ruling::Replace(text) => self.inner.replace_tariff(text, note),
+            Ruling::Withhold(name) => self.inner.withhold(name, note),
             Ruling::Credit {
                 period,
                 centre,
                 amount,
                 reason,
-            } => self.inner.credit(period, centre, amount, reason),
+            } => self.inner.credit(period, centre, amount, reason, note),
         }
     }
 
@@ -84,15 +102,29 @@ impl<L: Ledger> Ledger for RefusingLedger<'_, L> {
         self.inner.accept(bytes)
     }
 
-    fn accept_many(&mut self, records: &[Vec<u8>]) -> Result<Vec<Accepted>, LedgerFault> {
+    fn accept_many(
+        &mut self,
+        records: &[Vec<u8>],
+        import: &Option<Share>,
+    ) -> Result<Vec<Accepted>, LedgerFault> {
         if self.calls_left.is_none() {
-            return self.inner.accept_many(records);
+            return self.inner.accept_many(records, import);
         }
         if is_due(&mut self.calls_left) {
             return Err(refusal(&mut *self.inner));
         }
-        let first = first_alone(records);
-        self.inner.accept_many(first)
+        // What an import says is of all its records: they are not taken apart.
+        match import {
+            None => accept_first(&mut *self.inner, records),
+            Some(_) => self.inner.accept_many(records, import),
+        }
+    }
+
+    fn end_import(&mut self, stop: Stop) -> Result<(), LedgerFault> {
+        if is_due(&mut self.calls_left) {
+            return Err(refusal(&mut *self.inner));
+        }
+        self.inner.end_import(stop)
     }
 
     fn charges(&mut self, period: u16) -> Result<Vec<ChargeRow>, LedgerFault> {

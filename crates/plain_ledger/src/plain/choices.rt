@@ -1,13 +1,14 @@
 //! Records that an operator chooses among those of their identity, and works of which none counts.
 
-use super::PlainLedger;
+use super::PlainBooks;
 use crate::choices::{is_current, is_withheld};
 use crate::chosen::ChosenRecord;
 use crate::identities::is_unopposed;
 use book_core::MAX_CHOICES;
 use book_model::{LedgerFault, Naming, Ruled};
 
-impl<N: Naming + Drop> PlainLedger<N> {
+impl<N: Naming + Drop> PlainBooks<N> {
+    ghost use Rattle.std.specs.Prelude.{None};
     ghost use Rattle.book_model.specs.Words.{choose_outcome, withhold_outcome};
     ghost use Rattle.plain_ledger.specs.PlainBook.{IsPlainCall, naming_in};
 
@@ -15,7 +16,7 @@ impl<N: Naming + Drop> PlainLedger<N> {
     /// work was withheld, and it is not the choice already.
     pub(super) fn choose_named(&mut self, name: [u8; 32]) -> Result<Ruled, LedgerFault>
         ensures { IsPlainCall (λ ruled. ruled) self.old self.new result
-            (choose_outcome (N.name_of (naming_in self.old)) name) }
+            (choose_outcome (N.name_of (naming_in self.old)) None name) }
     {
         let Some(held) = self.held.get(&name) else {
             return Err(LedgerFault::NoSuchRecord);
@@ -39,7 +40,7 @@ impl<N: Naming + Drop> PlainLedger<N> {
     /// already.
     pub(super) fn withhold_named(&mut self, name: [u8; 32]) -> Result<Ruled, LedgerFault>
         ensures { IsPlainCall (λ ruled. ruled) self.old self.new result
-            (withhold_outcome (N.name_of (naming_in self.old)) name) }
+            (withhold_outcome (N.name_of (naming_in self.old)) None name) }
     {
         let Some(held) = self.held.get(&name) else {
             return Err(LedgerFault::NoSuchRecord);

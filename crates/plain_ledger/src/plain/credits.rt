@@ -1,14 +1,14 @@
 //! Credits that an office gives its centres.
 
-use super::PlainLedger;
+use super::PlainBooks;
 use crate::credits::{has_most, is_given, new_credit};
 use book_core::is_done;
 use book_model::{LedgerFault, Naming, Ruled};
 use smf_text::Name;
 use std::alloc::AllocError;
 
-impl<N: Naming + Drop> PlainLedger<N> {
-    ghost use Rattle.std.specs.Prelude.{◌≡◌, ◌<◌, OnErr, OnOk, length};
+impl<N: Naming + Drop> PlainBooks<N> {
+    ghost use Rattle.std.specs.Prelude.{◌≡◌, ◌<◌, None, OnErr, OnOk, length};
     ghost use Rattle.book_model.specs.Words.{CreditGiven, credit_answer, credit_outcome, give};
     ghost use Rattle.book_model.specs.Words.{most_credits};
     ghost use Rattle.plain_ledger.specs.PlainBook.{IsPlainCall, book_in, naming_in};
@@ -52,7 +52,7 @@ impl<N: Naming + Drop> PlainLedger<N> {
         reason: &str,
     ) -> Result<Ruled, LedgerFault>
         ensures { IsPlainCall (λ ruled. ruled) self.old self.new result
-            (credit_outcome period centre amount reason.now) }
+            (credit_outcome None period centre amount reason.now) }
     {
         let answer = self.answer_to_credit(period, centre, amount, reason);
         if !is_done(&answer) {

@@ -3,7 +3,7 @@
 ghost use Rattle.std.specs.Prelude.{◌≡◌};
 ghost use Rattle.plain_ledger.specs.PlainDetails as spec;
 
-use super::PlainLedger;
+use super::PlainBooks;
 use crate::charge_rows::{are_too_dear, charge_rows};
 use crate::choices::{last_chosen, last_counts};
 use crate::identities::{disputes, first_from, shared_identities};
@@ -34,7 +34,7 @@ fn next_of(details: &[Detail], centre: Option<Name>, last: Option<Detail>) -> Op
     None
 }
 
-impl<N: Naming + Drop> PlainLedger<N> {
+impl<N: Naming + Drop> PlainBooks<N> {
     ghost use Rattle.std.specs.Prelude.{◌≡◌, All, IfOk, map, ok_or, option_map};
     ghost use Rattle.book_model.specs.Words.{IsDay, Answers, period_of, AreDisputes, dispute_shown};
     ghost use Rattle.book_model.specs.Words.{AreLines, adjustments_outcome, charges_outcome};
@@ -74,7 +74,7 @@ impl<N: Naming + Drop> PlainLedger<N> {
     }
 
     /// The charge rows of a period.
-    pub(super) fn charge_rows(&self, number: u16) -> Result<Vec<ChargeRow>, LedgerFault>
+    pub(crate) fn charge_rows(&self, number: u16) -> Result<Vec<ChargeRow>, LedgerFault>
         ensures rows { Answers (λ rows. rows.items) result
             (charges_outcome number (book_in self.now)).answer }
         ensures shown { IfOk result (λ rows. AreRows rows.items) }
@@ -85,7 +85,7 @@ impl<N: Naming + Drop> PlainLedger<N> {
     }
 
     /// The charge rows that a period would have by another tariff.
-    pub(super) fn charge_rows_under(
+    pub(crate) fn charge_rows_under(
         &self,
         number: u16,
         tariff: &Tariff,
@@ -103,7 +103,7 @@ impl<N: Naming + Drop> PlainLedger<N> {
     }
 
     /// The adjustment lines of a period.
-    pub(super) fn lines(&self, number: u16) -> Result<Vec<Line>, LedgerFault>
+    pub(crate) fn lines(&self, number: u16) -> Result<Vec<Line>, LedgerFault>
         ensures lines { Answers (λ lines. lines.items) result (adjustments_outcome
             (N.name_of (naming_in self.now)) number (book_in self.now)).answer }
         ensures shown { IfOk result (λ lines. AreLines lines.items) }
@@ -116,7 +116,7 @@ impl<N: Naming + Drop> PlainLedger<N> {
 
     /// The first detail of a period after one. All are made for it, as the books are in memory
     /// anyway.
-    pub(super) fn detail_after(
+    pub(crate) fn detail_after(
         &self,
         number: u16,
         centre: Option<Name>,
@@ -133,7 +133,7 @@ impl<N: Naming + Drop> PlainLedger<N> {
     }
 
     /// The identities in dispute, with their records.
-    pub(super) fn disputes_held(&self) -> Result<Vec<Dispute>, LedgerFault>
+    pub(crate) fn disputes_held(&self) -> Result<Vec<Dispute>, LedgerFault>
         ensures disputes { Answers (λ found. map dispute_shown found.items) result
             (disputes_outcome (N.name_of (naming_in self.now)) (book_in self.now)).answer }
         ensures shown { IfOk result (λ found. AreDisputes (map dispute_shown found.items)) }
@@ -143,7 +143,7 @@ impl<N: Naming + Drop> PlainLedger<N> {
     }
 
     /// The first dispute from some bytes on. All are made for it, as the books are in memory anyway.
-    pub(super) fn dispute_held(&self, from: &[u8]) -> Result<Option<Dispute>, LedgerFault>
+    pub(crate) fn dispute_held(&self, from: &[u8]) -> Result<Option<Dispute>, LedgerFault>
         ensures dispute { Answers (λ found. option_map dispute_shown found) result
             (dispute_outcome (N.name_of (naming_in self.now)) from.now (book_in self.now)).answer }
         ensures shown { IfOk result ShowsDispute }
@@ -154,7 +154,7 @@ impl<N: Naming + Drop> PlainLedger<N> {
     }
 
     /// The days of the closes.
-    pub(super) fn close_days(&self) -> Result<Vec<i32>, LedgerFault>
+    pub(crate) fn close_days(&self) -> Result<Vec<i32>, LedgerFault>
         ensures days { Answers (λ days. days.items) result
             (periods_outcome (book_in self.now)).answer }
         ensures shown { IfOk result (λ days. All IsDay days.items) }

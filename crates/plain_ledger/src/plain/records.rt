@@ -4,7 +4,7 @@ ghost use Rattle.std.specs.Prelude.{◌≡◌, Ok, Err, if◌then◌else◌};
 ghost use Rattle.book_model.specs.Words.{same_bytes};
 ghost use Rattle.plain_ledger.specs.Plain.{record_of};
 
-use super::PlainLedger;
+use super::PlainBooks;
 use crate::held::HeldRecord;
 use book_core::{is_full, name_of, price_in};
 use book_model::{Accepted, LedgerFault, Naming};
@@ -23,7 +23,7 @@ fn known_or_clash(held: &HeldRecord, bytes: &[u8]) -> Result<Accepted, LedgerFau
     }
 }
 
-impl<N: Naming + Drop> PlainLedger<N> {
+impl<N: Naming + Drop> PlainBooks<N> {
     ghost use Rattle.std.specs.Prelude.{◌≡◌, IfOk};
     ghost use Rattle.book_model.specs.Words.{Answers, identity_of, IsUsage, IsUsageRecord};
     ghost use Rattle.book_model.specs.Words.{accept_outcome, record_outcome};
@@ -31,7 +31,7 @@ impl<N: Naming + Drop> PlainLedger<N> {
 
     /// Holds a record from now on where it is new, a tariff is in force on its day, and there is
     /// room for it.
-    pub(super) fn keep_record(&mut self, bytes: &[u8]) -> Result<Accepted, LedgerFault>
+    pub(crate) fn keep_record(&mut self, bytes: &[u8]) -> Result<Accepted, LedgerFault>
         requires { IsUsageRecord bytes.now }
         ensures { IsPlainCall (λ accepted. accepted) self.old self.new result
             (accept_outcome (N.name_of (naming_in self.old)) bytes.now) }
@@ -73,7 +73,7 @@ impl<N: Naming + Drop> PlainLedger<N> {
     }
 
     /// The record that is held under a name.
-    pub(super) fn record_held(&self, alloc: Global, name: &[u8; 32]) -> Result<Vec<u8>, LedgerFault>
+    pub(crate) fn record_held(&self, alloc: Global, name: &[u8; 32]) -> Result<Vec<u8>, LedgerFault>
         ensures bytes { Answers (λ bytes. bytes.items) result (record_outcome
             (N.name_of (naming_in self.now)) name.now (book_in self.now)).answer }
         ensures usage { IfOk result (λ bytes. IsUsage bytes.items) }

@@ -2,7 +2,7 @@
 
 ghost use Rattle.book_model.specs.RulingAnswers as spec;
 
-use super::PlainLedger;
+use super::PlainBooks;
 use crate::replaced::ReplacedTariff;
 use crate::repricing::{cost_in_place, replace_prices};
 use book_core::MAX_REPLACED;
@@ -10,8 +10,8 @@ use book_model::{LedgerFault, Naming, Ruled};
 use std::alloc::AllocError;
 use tariff_rules::Tariff;
 
-impl<N: Naming + Drop> PlainLedger<N> {
-    ghost use Rattle.std.specs.Prelude.{◌≡◌, IfOk, IfSome, Ok, OnErr, OnOk};
+impl<N: Naming + Drop> PlainBooks<N> {
+    ghost use Rattle.std.specs.Prelude.{◌≡◌, IfOk, IfSome, None, Ok, OnErr, OnOk};
     ghost use Rattle.std.specs.BTreeMap.{values};
     ghost use Rattle.book_model.specs.Words.{TariffReplaced, give, replace_outcome};
     ghost use Rattle.book_core.specs.OfficeRulings.{ruled_in};
@@ -21,7 +21,7 @@ impl<N: Naming + Drop> PlainLedger<N> {
     /// Puts the tariff of a file in the place of the one that begins on its first day.
     pub(super) fn replace_in_force(&mut self, text: &str) -> Result<Ruled, LedgerFault>
         ensures { IsPlainCall (λ ruled. ruled) self.old self.new result
-            (replace_outcome text.now) }
+            (replace_outcome None text.now) }
     {
         let tariff = Tariff::parse(self.alloc, text)?;
         match self.cost_in_its_place(text, &tariff)? {

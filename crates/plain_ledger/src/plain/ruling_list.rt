@@ -1,13 +1,13 @@
 //! The list of the office's rulings, as it is read of a plain ledger.
 
-use super::PlainLedger;
+use super::PlainBooks;
 use crate::credits::credit_at;
 use crate::replaced::list_replaced;
 use book_core::{ListedAt, RulingCounts, name_of};
 use book_model::{Credit, LedgerFault, ListedRuling, Naming};
 use std::alloc::AllocError;
 
-impl<N: Naming + Drop> PlainLedger<N> {
+impl<N: Naming + Drop> PlainBooks<N> {
     ghost use Rattle.std.specs.Prelude.{◌≡◌, ◌<◌, ◌≤◌, ◌+◌, IfOk, Some, length, option_map};
     ghost use Rattle.std.specs.Prelude.{slice_get};
     ghost use Rattle.book_model.specs.Words.{Answers, HasDays, ShowsDays, choice_seen, credit_seen};
@@ -75,7 +75,7 @@ impl<N: Naming + Drop> PlainLedger<N> {
     }
 
     /// The ruling of a number, if there is one.
-    pub(super) fn ruling_listed(&self, number: u64) -> Result<Option<ListedRuling>, LedgerFault>
+    pub(crate) fn ruling_listed(&self, number: u64) -> Result<Option<ListedRuling>, LedgerFault>
         ensures ruling { Answers (λ found. option_map ruling_shown found) result
             (ruling_outcome (N.name_of (naming_in self.now)) number (book_in self.now)).answer }
         ensures shown { IfOk result ShowsDays }
@@ -92,7 +92,7 @@ impl<N: Naming + Drop> PlainLedger<N> {
     }
 
     /// The credit of a number, if there is one.
-    pub(super) fn credit_kept(&self, number: u64) -> Result<Option<Credit>, LedgerFault>
+    pub(crate) fn credit_kept(&self, number: u64) -> Result<Option<Credit>, LedgerFault>
         ensures { Answers (λ found. option_map credit_shown found) result
             (credit_given_outcome number (book_in self.now)).answer }
     {

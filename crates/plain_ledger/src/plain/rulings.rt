@@ -2,26 +2,49 @@
 
 ghost use Rattle.book_model.specs.RulingAnswers as spec;
 
-use super::PlainLedger;
+use super::PlainBooks;
 use crate::repricing::{cost_under, reprice};
 use crate::treatment::ClosedPeriod;
 use book_core::is_done;
-use book_model::{LedgerFault, Naming, Ruled};
+use book_model::{LedgerFault, Naming, Ruled, Ruling};
 use std::alloc::AllocError;
 use tariff_rules::Tariff;
 
-impl<N: Naming + Drop> PlainLedger<N> {
-    ghost use Rattle.std.specs.Prelude.{◌≡◌, ◌<◌, IfOk, IfSome, Ok, OnErr, OnOk, Some};
+impl<N: Naming + Drop> PlainBooks<N> {
+    ghost use Rattle.std.specs.Prelude.{◌≡◌, ◌<◌, IfOk, IfSome, None, Ok, OnErr, OnOk, Some};
     ghost use Rattle.std.specs.BTreeMap.{values};
     ghost use Rattle.book_model.specs.Words.{IsDay, TariffAccepted, close, give, last_period};
-    ghost use Rattle.book_model.specs.Words.{close_outcome, open_number, tariff_outcome};
+    ghost use Rattle.book_model.specs.Words.{MayBeAsked, close_outcome, open_number, rule_outcome};
+    ghost use Rattle.book_model.specs.Words.{ruling_asked, tariff_outcome};
     ghost use Rattle.plain_ledger.specs.PlainBook.{IsPlainCall, book_in, naming_in};
     ghost use Rattle.plain_ledger.specs.Repricing.{cost_anew, ruled_by_cost};
 
-    /// Puts the tariff of a file in force.
-    pub(super) fn put_in_force(&mut self, text: &str) -> Result<Ruled, LedgerFault>
+    /// Makes a ruling.
+    pub(crate) fn make_ruling(&mut self, ruling: &Ruling<'_>) -> Result<Ruled, LedgerFault>
+        requires { MayBeAsked (ruling_asked ruling.now) }
         ensures { IsPlainCall (λ ruled. ruled) self.old self.new result
-            (tariff_outcome text.now) }
+            (rule_outcome (N.name_of (naming_in self.old)) None (ruling_asked ruling.now)) }
+    {
+        match *ruling {
+            Ruling::Tariff(text) => self.put_in_force(text),
+            Ruling::Close { period, through } => self.close_period(period, through),
+            Ruling::Choose(name) => self.choose_named(name),
+            Ruling::Adopt(rule) => self.adopt_rule(rule),
+            Ruling::Replace(text) => self.replace_in_force(text),
+            Ruling::Withhold(name) => self.withhold_named(name),
+            Ruling::Credit {
+                period,
+                centre,
+                amount,
+                reason,
+            } => self.give_credit(period, centre, amount, reason),
+        }
+    }
+
+    /// Puts the tariff of a file in force.
+    fn put_in_force(&mut self, text: &str) -> Result<Ruled, LedgerFault>
+        ensures { IsPlainCall (λ ruled. ruled) self.old self.new result
+            (tariff_outcome None text.now) }
     {
         let tariff = Tariff::parse(self.alloc, text)?;
         match self.cost_in_force(text, &tariff)? {
@@ -70,10 +93,10 @@ impl<N: Naming + Drop> PlainLedger<N> {
     }
 
     /// Closes the open period.
-    pub(super) fn close_period(&mut self, period: u16, through: i32) -> Result<Ruled, LedgerFault>
+    fn close_period(&mut self, period: u16, through: i32) -> Result<Ruled, LedgerFault>
         requires { IsDay through }
         ensures { IsPlainCall (λ ruled. ruled) self.old self.new result
-            (close_outcome period through) }
+            (close_outcome None period through) }
     {
         let answer = self.rulings.close_answer(period, through);
         if !is_done(&answer) {

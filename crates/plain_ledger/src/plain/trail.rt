@@ -1,6 +1,6 @@
 //! The trail of a record, as it is read of a plain ledger.
 
-use super::PlainLedger;
+use super::PlainBooks;
 use crate::choices::choices_with;
 use crate::held::HeldRecord;
 use crate::identities::members_with;
@@ -9,7 +9,7 @@ use book_core::reckon_in;
 use book_model::{LedgerFault, Naming, Trail, Turn};
 use std::alloc::{AllocError, Global};
 
-impl<N: Naming + Drop> PlainLedger<N> {
+impl<N: Naming + Drop> PlainBooks<N> {
     ghost use Rattle.std.specs.Prelude.{◌≡◌, IfOk, Some};
     ghost use Rattle.book_model.specs.Words.{Answers, IsTrail, life_of, trail_outcome, trail_shown};
     ghost use Rattle.plain_ledger.specs.Plain.{record_of};
@@ -36,7 +36,7 @@ impl<N: Naming + Drop> PlainLedger<N> {
     }
 
     /// The trail of the record that is held under a name.
-    pub(super) fn trail_held(&self, alloc: Global, name: &[u8; 32]) -> Result<Trail, LedgerFault>
+    pub(crate) fn trail_held(&self, alloc: Global, name: &[u8; 32]) -> Result<Trail, LedgerFault>
         ensures trail { Answers trail_shown result (trail_outcome
             (N.name_of (naming_in self.now)) name.now (book_in self.now)).answer }
         ensures shown { IfOk result (λ trail. IsTrail (trail_shown trail)) }

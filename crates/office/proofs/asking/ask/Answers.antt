@@ -29,7 +29,8 @@ returns-in-Rule g c =
     (unread no_dump (record { is = refl; same = refl })
     (work_told Ruling c.ruled.ensures
     (subst (λ (ruling : RulingAsked).
-    IsTransition old new (Calls (λ ruled. ruled) (rule_outcome old.naming ruling) c.rule.result))
+    IsTransition old new
+    (Calls (λ ruled. ruled) (rule_outcome old.naming None ruling) c.rule.result))
     c.lent.ensures c.rule.ensures.work)))
 
 pub returns-in-Import : goal.returns-in-Import

@@ -3,7 +3,7 @@ use Rattle.std.proofs.lemmas.Result.{err_from_is_err_and}
 use Rattle.streams.specs.Sinks.{writer_of}
 use Rattle.book_model.specs.Words.{charges_outcome}
 use Rattle.report_texts.specs.Statements.{statement_text}
-use Rattle.plain_ledger.specs.PlainBook.{book_in}
+use Rattle.plain_ledger.specs.LedgerBook.{ledger_book}
 use Rattle.book_import.specs.declared.receipt.Receipt.{Receipt}
 use Rattle.book_import.specs.ReadLimits.{cut_of}
 use Rattle.book_lists.specs.declared.fault.ReportFault.{ReportFault}
@@ -23,11 +23,11 @@ use Rattle.program_output.proofs.trials.trial.Goals.{After-import_by_pieces-rece
 booked : (g : Over) (c : After-import_by_pieces-receipt g)
     → IsBooked c.args.tariff c.args.layout (cut_of c.import_by_pieces-receipt.new.source)
     c.import_by_pieces-receipt.ensures.booked.0 c.import_by_pieces-receipt.result
-    (book_in c.import_by_pieces-receipt.new.ledger)
+    (ledger_book c.import_by_pieces-receipt.new.ledger)
 booked g c =
     is_booked c.args.tariff c.args.layout (cut_of c.import_by_pieces-receipt.new.source)
     c.import_by_pieces-receipt.ensures.booked.0 c.import_by_pieces-receipt.result _
-    (book_in c.in_ok-ledger.ledger) (book_in c.import_by_pieces-receipt.new.ledger)
+    (ledger_book c.in_ok-ledger.ledger) (ledger_book c.import_by_pieces-receipt.new.ledger)
     c.in_ok-ledger.ensures.book c.import_by_pieces-receipt.ensures.booked.2
 
 pub returns-in_err-ledger-clause-trial : goal.returns-in_err-ledger-clause-trial
@@ -38,11 +38,11 @@ returns-in_err-ledger-clause-trial g c =
 
 -- no period of these books was closed: their statement is that of the open one
 first : (g : Over) (c : After-import_by_pieces-receipt g)
-    → shown_by (statement_text 1 (closed_through (book_in c.import_by_pieces-receipt.new.ledger) 1))
-    (charges_outcome 1 (book_in c.import_by_pieces-receipt.new.ledger)).answer
-    ≡ Ok (open_statement (book_in c.import_by_pieces-receipt.new.ledger))
+    → shown_by (statement_text 1 (closed_through (ledger_book c.import_by_pieces-receipt.new.ledger) 1))
+    (charges_outcome 1 (ledger_book c.import_by_pieces-receipt.new.ledger)).answer
+    ≡ Ok (open_statement (ledger_book c.import_by_pieces-receipt.new.ledger))
 first g c =
-    let book = book_in c.import_by_pieces-receipt.new.ledger in
+    let book = ledger_book c.import_by_pieces-receipt.new.ledger in
     first_statement book
     (never_closed c.args.tariff c.args.layout (cut_of c.import_by_pieces-receipt.new.source)
     c.import_by_pieces-receipt.ensures.booked.0 c.import_by_pieces-receipt.result book (booked g c))
@@ -51,7 +51,7 @@ pub returns-in_err-receipt_line-clause-trial : goal.returns-in_err-receipt_line-
 returns-in_err-receipt_line-clause-trial g c =
     let answer = c.from_residual-in_err-receipt_line in
     let failed = err_from_is_err_and answer.result answer.ensures.1 in
-    let book = book_in c.import_by_pieces-receipt.new.ledger in
+    let book = ledger_book c.import_by_pieces-receipt.new.ledger in
     let import = c.import_by_pieces-receipt.ensures in
     let receipt = c.in_err-receipt_line.ensures.text in
     let written = others_unwritten failed.0 (open_statement book ∷ dispute_text book ∷ [])
@@ -65,7 +65,7 @@ pub returns-in_err-statement-clause-trial : goal.returns-in_err-statement-clause
 returns-in_err-statement-clause-trial g c =
     let answer = c.from_residual-in_err-statement in
     let failed = err_from_is_err_and answer.result answer.ensures.1 in
-    let book = book_in c.import_by_pieces-receipt.new.ledger in
+    let book = ledger_book c.import_by_pieces-receipt.new.ledger in
     let import = c.import_by_pieces-receipt.ensures in
     let end = g.W.Write.contents (writer_of c.statement.new.sink) in
     let refused : Result Receipt ReportFault = Err failed.0 in
@@ -86,10 +86,10 @@ pub returns-in_err-dispute_list-clause-trial : goal.returns-in_err-dispute_list-
 returns-in_err-dispute_list-clause-trial g c =
     let answer = c.from_residual-in_err-dispute_list in
     let failed = err_from_is_err_and answer.result answer.ensures.1 in
-    let book = book_in c.import_by_pieces-receipt.new.ledger in
+    let book = ledger_book c.import_by_pieces-receipt.new.ledger in
     let import = c.import_by_pieces-receipt.ensures in
     let end = g.W.Write.contents (writer_of c.dispute_list.new.sink) in
-    let after = book_in c.statement.new.ledger in
+    let after = ledger_book c.statement.new.ledger in
     let written =
     texts_written c.import_by_pieces-receipt.result book after _ _ _ end (Err failed.0)
     (report_stays c.in_ok-statement.ensures.report refl) c.in_ok-receipt_line.ensures.text
@@ -103,10 +103,10 @@ returns-in_err-dispute_list-clause-trial g c =
 
 pub returns-clause-trial : goal.returns-clause-trial
 returns-clause-trial g c =
-    let book = book_in c.import_by_pieces-receipt.new.ledger in
+    let book = ledger_book c.import_by_pieces-receipt.new.ledger in
     let import = c.import_by_pieces-receipt.ensures in
     let end = g.W.Write.contents (writer_of c.dispute_list.new.sink) in
-    let after = book_in c.statement.new.ledger in
+    let after = ledger_book c.statement.new.ledger in
     let written =
     texts_written c.import_by_pieces-receipt.result book after _ _ _ end
     (Ok c.import_by_pieces-receipt.result)
@@ -122,7 +122,7 @@ pub returns-in_err-statement-clause-fault : goal.returns-in_err-statement-clause
 returns-in_err-statement-clause-fault g c =
     let answer = c.from_residual-in_err-statement in
     let failed = err_from_is_err_and answer.result answer.ensures.1 in
-    let book = book_in c.import_by_pieces-receipt.new.ledger in
+    let book = ledger_book c.import_by_pieces-receipt.new.ledger in
     rw failed.1
     (ap is_write_or_memory failed.2
     ∙ report_fault c.in_err-statement.ensures.report (open_statement book)
@@ -135,4 +135,4 @@ returns-in_err-dispute_list-clause-fault g c =
     rw failed.1
     (ap is_write_or_memory failed.2
     ∙ report_fault c.in_err-dispute_list.ensures.report
-    (dispute_text (book_in c.statement.new.ledger)) refl)
+    (dispute_text (ledger_book c.statement.new.ledger)) refl)

@@ -2,7 +2,7 @@ use Rattle.std.proofs.Common.{◌∙◌, Err, Result, [], ap, arith, get_or, sub
 use Rattle.std.proofs.lemmas.Result.{err_from_is_err_and}
 use Rattle.book_model.specs.declared.answer.Ruled.{Ruled}
 use Rattle.book_model.specs.declared.fault.LedgerFault.{LedgerFault}
-use Rattle.book_model.specs.Words.{withhold_outcome}
+use Rattle.book_model.specs.Words.{note_given, withhold_outcome}
 use Rattle.book_core.specs.Calls.{IsCall}
 use Rattle.book_core.specs.declared.withheld.Withheld.{Withheld}
 use Rattle.book_core.proofs.WithholdingLemmas.{first_name, more_withheld, one_refused, one_withheld}
@@ -17,7 +17,7 @@ returns-in_err-answer-clause-takes g c =
     (first_name c.args.names.now [] c.requires)
     (subst (λ (told : Result Ruled LedgerFault). IsCall (λ (ruled : Ruled). ruled) old
     (g.Self.Ledger.seen c.withhold-told.new.self) told
-    (withhold_outcome old.naming (get_or c.args.names.now 0 [])))
+    (withhold_outcome old.naming (note_given c.args.note.now) (get_or c.args.names.now 0 [])))
     c.in_err-answer.ensures.refused c.withhold-told.ensures)
 
 -- or it is answered
@@ -29,7 +29,7 @@ returns-clause-takes g c =
     (first_name c.args.names.now [] c.requires)
     (subst (λ (told : Result Ruled LedgerFault). IsCall (λ (ruled : Ruled). ruled) old
     (g.Self.Ledger.seen c.withhold-told.new.self) told
-    (withhold_outcome old.naming (get_or c.args.names.now 0 [])))
+    (withhold_outcome old.naming (note_given c.args.note.now) (get_or c.args.names.now 0 [])))
     c.in_ok-answer.ensures.answer c.withhold-told.ensures)
 
 -- it is one of those that are there
