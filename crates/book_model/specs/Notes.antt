@@ -8,13 +8,18 @@ use Rattle.book_model.specs.Records.{Records}
 use Rattle.smf_frames.specs.Faults.{frame_number}
 use Rattle.book_model.specs.declared.answer.Accepted.{Accepted}
 use Rattle.book_model.specs.declared.answer.Accepted.TheVariants.{Kept, Known, Unpriced}
+use Rattle.book_model.specs.declared.entry.Ending.{Ending as GivenEnding}
+use Rattle.book_model.specs.declared.entry.Ending.TheVariants as ends
+use Rattle.book_model.specs.declared.entry.Place.{Place as GivenPlace}
+use Rattle.book_model.specs.declared.entry.Place.TheVariants as stands
 use Rattle.book_model.specs.declared.note.Note.{Note as GivenNote}
 use Rattle.book_model.specs.declared.note.Reading.{Reading as GivenReading}
 use Rattle.book_model.specs.declared.note.Share.{Share}
 use Rattle.book_model.specs.declared.note.Stop.{Stop}
 use Rattle.book_model.specs.declared.note.Stop.TheVariants.{End, Frame, Ledger, Read, ReadLimit}
 use Rattle.book_model.specs.Journal.{AtEnd, AtFrame, AtLedger, AtRead, AtReadLimit, Ending, Note}
-use Rattle.book_model.specs.Journal.{Entry, Imported, Importing, Reading}
+use Rattle.book_model.specs.Journal.{AdoptionOf, ChoiceOf, CloseOf, CreditOf, Place}
+use Rattle.book_model.specs.Journal.{Entry, Imported, Importing, Reading, ReplacementOf, TariffOf}
 use Rattle.book_model.specs.Books.{Book}
 use Rattle.book_model.specs.Events.{Event, ImportBegun, ImportEnded, ImportRead, RecordKept}
 use Rattle.book_model.specs.Faults.{ledger_number}
@@ -53,6 +58,23 @@ stop_shown (Frame fault) = AtFrame (frame_number fault)
 stop_shown Read = AtRead
 stop_shown ReadLimit = AtReadLimit
 stop_shown (Ledger fault) = AtLedger (ledger_number fault)
+
+-- where a ruling stands, as the journal has it
+abbrev pub place_shown : GivenPlace → Place
+place_shown (stands.Tariff day) = TariffOf day
+place_shown (stands.Close period) = CloseOf period
+place_shown (stands.Choice number) = ChoiceOf number
+place_shown stands.Adoption = AdoptionOf
+place_shown (stands.Replacement number) = ReplacementOf number
+place_shown (stands.Credit number) = CreditOf number
+
+-- why an import ended, by the numbers of faults
+abbrev pub ending_shown : GivenEnding → Ending
+ending_shown ends.End = AtEnd
+ending_shown (ends.Frame number) = AtFrame number
+ending_shown ends.Read = AtRead
+ending_shown ends.ReadLimit = AtReadLimit
+ending_shown (ends.Ledger number) = AtLedger number
 
 -- the end of the import that goes on
 abbrev pub ended_outcome : Stop → Book → Outcome (Unit {0})

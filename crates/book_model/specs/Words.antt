@@ -139,7 +139,7 @@ pub use Rattle.book_model.specs.JournalLists.{ActSeen, EntrySeen, entries_listed
 pub use Rattle.book_model.specs.JournalLists.{entry_seen, ruling_at}
 pub use Rattle.book_model.specs.Notes.{Portion, import_events, told, told_end, told_so_far}
 pub use Rattle.book_model.specs.Notes.{with_import}
-pub use Rattle.book_model.specs.Notes.{ended_outcome, stop_shown}
+pub use Rattle.book_model.specs.Notes.{ended_outcome, ending_shown, place_shown, stop_shown}
 pub use Rattle.book_model.specs.Notes.{note_given, note_shown, read_with, reading_shown, told_by}
 pub use Rattle.book_model.specs.Answers.{Answers, IsBookCall, event_of}
 pub use Rattle.book_model.specs.Faults.{ledger_number}

@@ -1,0 +1,31 @@
+/// Where a ruling stands among those of the office.
+#[derive(Clone, Copy, PartialEq, Eq)]
+pub enum Place {
+    /// A tariff, by its first day, in days since 1970-01-01.
+    Tariff(i32),
+    /// A close, by its period.
+    Close(u16),
+    /// A choice, or a choice of none, by its number, from 1.
+    Choice(u32),
+    /// The adoption of the second rule of identity.
+    Adoption,
+    /// A tariff that took another's place, by the number of the one that was replaced, from 1.
+    Replacement(u32),
+    /// A credit, by its number, from 1.
+    Credit(u32),
+}
+
+/// Why an import ended, with the number of the fault where one ended it.
+#[derive(Clone, Copy, PartialEq, Eq)]
+pub enum Ending {
+    /// The dump ends after its last record.
+    End,
+    /// The dump goes on with something that is not a whole record.
+    Frame(u8),
+    /// The reader failed.
+    Read,
+    /// The reader was asked as often as allowed, and its end did not come.
+    ReadLimit,
+    /// The books refused to go on, or memory ran out.
+    Ledger(u8),
+}
