@@ -86,17 +86,17 @@ begins_with x xs row false first = absurd (none_there x xs first)
 module _ {K V : Type 0} {R : K → K → Ordering} (layout : Layout K V R) where
   -- a row against a key
   pub at_key : (e : K × V) (k : K) → prefix_cmp plain (row_of layout e) (layout.key k) ≡ R e.0 k
-  at_key e k = prefix_of (layout.key e.0) (layout.rest e.1) (layout.key k) (layout.alike e.0 k)
+  at_key e k = prefix_of (layout.key e.0) (layout.rest e.0 e.1) (layout.key k) (layout.alike e.0 k)
       ∙ layout.ordered e.0 k
 
   -- a row against another
   pub at_row : (e : K × V) (k : K) (v : V)
       → entry_cmp plain (row_of layout e) (row_of layout (k, v))
-      ≡ ordering_then (R e.0 k) (entry_cmp plain (layout.rest e.1) (layout.rest v))
+      ≡ ordering_then (R e.0 k) (entry_cmp plain (layout.rest e.0 e.1) (layout.rest k v))
   at_row e k v =
-      entry_of (layout.key e.0) (layout.rest e.1) (layout.key k) (layout.rest v)
+      entry_of (layout.key e.0) (layout.rest e.0 e.1) (layout.key k) (layout.rest k v)
       (layout.alike e.0 k)
-      ∙ ap (λ o. ordering_then o (entry_cmp plain (layout.rest e.1) (layout.rest v)))
+      ∙ ap (λ o. ordering_then o (entry_cmp plain (layout.rest e.0 e.1) (layout.rest k v)))
       (layout.ordered e.0 k)
 
   -- the key asked the other way round
@@ -114,15 +114,15 @@ module _ {K V : Type 0} {R : K → K → Ordering} (layout : Layout K V R) where
       ≡ map (row_of layout) (put R k v (e ∷ es))) [
         | Less ↦ λ is.
             let row : entry_cmp plain (row_of layout e) (row_of layout (k, v)) ≡ Greater =
-            at_row e k v ∙ ap (λ o. ordering_then o (entry_cmp plain (layout.rest e.1)
-            (layout.rest v))) (turned k e Less is) in
+            at_row e k v ∙ ap (λ o. ordering_then o (entry_cmp plain (layout.rest e.0 e.1)
+            (layout.rest k v))) (turned k e Less is) in
             rw (row, is) refl
         | Equal ↦ λ is. absurd (not_none e.1 (sym (ap (λ o. cond (is_eq o) (Some e.1)
             (find R k es)) is) ∙ none))
         | Greater ↦ λ is.
             let row : entry_cmp plain (row_of layout e) (row_of layout (k, v)) ≡ Less =
-            at_row e k v ∙ ap (λ o. ordering_then o (entry_cmp plain (layout.rest e.1)
-            (layout.rest v))) (turned k e Greater is) in
+            at_row e k v ∙ ap (λ o. ordering_then o (entry_cmp plain (layout.rest e.0 e.1)
+            (layout.rest k v))) (turned k e Greater is) in
             let later : find R k es ≡ None =
             sym (ap (λ o. cond (is_eq o) (Some e.1) (find R k es)) is) ∙ none in
             rw (row, is) (ap (λ rows. row_of layout e ∷ rows) (insert_new k v es later))

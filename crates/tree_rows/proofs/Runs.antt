@@ -230,7 +230,7 @@ module _ {K V A : Type 0} {R : K → K → Ordering} {C : A → A → Ordering} 
       → prefix_cmp plain (row_of layout e) (value a ∷ []) ≡ C (head e.0) a
   unfolding first_key
   at_first a e =
-      ap (λ (key : Row). prefix_cmp plain (key ++ layout.rest e.1) (value a ∷ [])) (is e.0)
+      ap (λ (key : Row). prefix_cmp plain (key ++ layout.rest e.0 e.1) (value a ∷ [])) (is e.0)
       ∙ then-Equal (value_cmp (value (head e.0)) (value a)) ∙ by_value (head e.0) a
 
   -- the rows that begin with a first part are those of the entries with keys that have it
@@ -252,10 +252,10 @@ module _ {K V A : Type 0} {R : K → K → Ordering} {C : A → A → Ordering} 
   at_front : (a : A) (e : K × V)
       → prefix_cmp plain (row_of layout e) (front a) ≡ C (head e.0) a
   at_front a e =
-      ap (λ (key : Row). prefix_cmp plain (key ++ layout.rest e.1) (front a)) (is e.0)
+      ap (λ (key : Row). prefix_cmp plain (key ++ layout.rest e.0 e.1) (front a)) (is e.0)
       ∙ ap (λ row. prefix_cmp plain row (front a))
-      (append_assoc (front (head e.0)) (rest e.0) (layout.rest e.1))
-      ∙ prefix_of (front (head e.0)) (rest e.0 ++ layout.rest e.1) (front a)
+      (append_assoc (front (head e.0)) (rest e.0) (layout.rest e.0 e.1))
+      ∙ prefix_of (front (head e.0)) (rest e.0 ++ layout.rest e.0 e.1) (front a)
       (alike (head e.0) a)
       ∙ by_front (head e.0) a
 

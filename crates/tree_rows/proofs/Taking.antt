@@ -57,12 +57,12 @@ module _ {K V : Type 0} {R : K → K → Ordering} (layout : Layout K V R) where
   unfolding stays
   stays_apart k v e Less is apart =
       ap (λ o. not (is_eq o)) (at_row layout e k v
-      ∙ ap (λ o. ordering_then o (entry_cmp plain (layout.rest e.1) (layout.rest v)))
+      ∙ ap (λ o. ordering_then o (entry_cmp plain (layout.rest e.0 e.1) (layout.rest k v)))
       (turned layout k e Less is))
   stays_apart k v e Equal is apart = absurd (true≢false apart)
   stays_apart k v e Greater is apart =
       ap (λ o. not (is_eq o)) (at_row layout e k v
-      ∙ ap (λ o. ordering_then o (entry_cmp plain (layout.rest e.1) (layout.rest v)))
+      ∙ ap (λ o. ordering_then o (entry_cmp plain (layout.rest e.0 e.1) (layout.rest k v)))
       (turned layout k e Greater is))
 
   -- the very row is taken

@@ -5,11 +5,11 @@ use Rattle.std.specs.FinMap.{FinMap, entries, get, IsAntisymmetric}
 use Rattle.std.specs.declared.cmp.Ordering.{Ordering}
 use Rattle.sqlite_value.specs.Order.{Row, row_cmp}
 
--- A row is the columns of a key, which are as many for every key, and then those of a value. Keys
--- compare as their columns do, and no two keys have one place in the order.
+-- A row is the columns of a key, which are as many for every key, and then those of a value under
+-- it. Keys compare as their columns do, and no two keys have one place in the order.
 pub record Layout (K V : Type 0) (R : K → K → Ordering) : Type 0 where
   pub key : K → Row
-  pub rest : V → Row
+  pub rest : K → V → Row
   pub total : IsTotalOrder R
   pub exact : IsAntisymmetric R
   pub alike : (k l : K) → length (key k) ≡ length (key l)
@@ -18,7 +18,7 @@ pub record Layout (K V : Type 0) (R : K → K → Ordering) : Type 0 where
 module _ {K V : Type 0} {R : K → K → Ordering} (layout : Layout K V R) where
   -- the row of a key and its value
   abbrev pub row_of : K × V → Row
-  row_of entry = layout.key entry.0 ++ layout.rest entry.1
+  row_of entry = layout.key entry.0 ++ layout.rest entry.0 entry.1
 
   -- the rows of a map, which are in the order of its keys
   abbrev pub rows_of : FinMap R V → List Row
