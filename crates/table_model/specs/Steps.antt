@@ -1,6 +1,6 @@
 -- The steps that every change of the tables is made of: each changes rows of one table, as one call
 -- of the kept tables does.
-use Rattle.std.specs.Prelude.{ℕ, ℤ, Bool, true, false, List, Option, fold}
+use Rattle.std.specs.Prelude.{ℕ, ℤ, Bool, true, false, List, Option, None, Some, fold}
 use Rattle.std.specs.FinMap.{get, insert, remove}
 use Rattle.book_model.specs.declared.row.ChargeRow.{ChargeRow}
 use Rattle.book_model.specs.declared.row.RowKey.{RowKey}
@@ -9,7 +9,7 @@ use Rattle.book_core.specs.declared.effects.DayChange.{DayChange}
 use Rattle.table_model.specs.MapChanges.{updated, moved}
 use Rattle.table_model.specs.RowChanges.{by_second_rule, change_day, count_where, mark_at, move_on}
 use Rattle.table_model.specs.RowChanges.{post_at, post_by, price_at}
-use Rattle.table_model.specs.Tables.{RecordRow, ReplacedRow, Tables}
+use Rattle.table_model.specs.Tables.{JournalRow, RecordRow, ReplacedRow, Tables}
 use Rattle.table_model.specs.TablesOf.{row_key}
 
 -- the book counts this many records, which cost this much together
@@ -59,6 +59,17 @@ put_credit_row number credit tables =
 -- a record's row is stored under its name
 abbrev pub put_record_row : List ℕ → RecordRow → Tables → Tables
 put_record_row name row tables = record tables { records = insert tables.records name row }
+
+-- an entry of the journal is stored under its number
+abbrev pub put_journal_row : ℕ → JournalRow → Tables → Tables
+put_journal_row number row tables =
+    record tables { journal = insert tables.journal number row }
+
+-- a record came by the entry of a number, if it came by one
+abbrev pub put_came : List ℕ → Option ℕ → Tables → Tables
+put_came name None tables = tables
+put_came name (Some number) tables =
+    record tables { came = insert tables.came name number }
 
 -- a record is charged from now on, or is so no more
 abbrev pub set_mark_row : Bool → List ℕ → Tables → Tables
