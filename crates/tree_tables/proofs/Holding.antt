@@ -17,6 +17,7 @@ use Rattle.tree_tables.specs.Columns.{record_columns, day_columns, line_columns}
 use Rattle.tree_tables.specs.Columns.{identity_columns, mark_columns, choice_columns}
 use Rattle.tree_tables.specs.Columns.{choice_name_columns, credit_columns, detail_columns}
 use Rattle.tree_tables.specs.Columns.{replaced_columns}
+use Rattle.tree_tables.specs.JournalColumns.{journal_columns}
 use Rattle.tree_tables.specs.Holds.{AreUnderOwnKeys, Holds, choice_name_index, detail_index}
 use Rattle.tree_tables.specs.Holds.{identity_index, marks}
 use Rattle.tree_tables.specs.Steps.{Always, Changes}
@@ -25,7 +26,7 @@ use Rattle.tree_tables.specs.Steps.{Always, Changes}
 abbrev pub table_rows : Tables → List (List Row)
 table_rows tables =
     (book_columns tables.book ∷ []) ∷ map tariff_columns (entries tables.tariffs)
-    ∷ map closed_columns (entries tables.closes) ∷ map record_columns (entries tables.records)
+    ∷ map closed_columns (entries tables.closes) ∷ map (record_columns tables.came) (entries tables.records)
     ∷ map day_columns (entries tables.days) ∷ map line_columns (entries tables.lines)
     ∷ map identity_columns (entries (identity_index tables.records))
     ∷ map mark_columns (entries (marks tables.records))
@@ -33,7 +34,8 @@ table_rows tables =
     ∷ map choice_name_columns (entries (choice_name_index tables.choices))
     ∷ map detail_columns (entries (detail_index tables.counted tables.records))
     ∷ map credit_columns (entries tables.credits)
-    ∷ map replaced_columns (entries tables.replaced) ∷ []
+    ∷ map replaced_columns (entries tables.replaced)
+    ∷ map journal_columns (entries tables.journal) ∷ []
 
 -- each tree but one has the rows that it had
 abbrev pub SameBut : Trees → Trees → ℕ → Type 0

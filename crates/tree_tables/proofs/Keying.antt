@@ -8,7 +8,8 @@ use Rattle.std.proofs.lemmas.Bool.Decides.{nat_tests}
 use Rattle.std.specs.FinMap.{entries, get, get-entries, get-insert, insert}
 use Rattle.std.specs.Option.{option_map}
 use Rattle.std.specs.Ordering.{eq_by_cmp}
-use Rattle.std.proofs.lemmas.Cmp.{eq_by_cmp_equiv}
+use Rattle.std.proofs.lemmas.Cmp.{eq_by_cmp_equiv, nat_list_cmp_total}
+use Rattle.std.proofs.lemmas.Map.Lookups.{exact_bytes}
 use Rattle.sqlite_trees.specs.Tree.{Trees}
 use Rattle.sqlite_trees.specs.View.{View}
 use Rattle.sqlite_value.specs.Order.{Row, column}
@@ -17,7 +18,7 @@ use Rattle.sqlite_value.specs.declared.value.Value.TheVariants.{Blob}
 use Rattle.book_model.specs.Words.{by_bytes}
 use Rattle.table_model.specs.Steps.{rename_rows}
 use Rattle.table_model.specs.RowChanges.{by_second_rule}
-use Rattle.table_model.specs.Tables.{RecordRow, RecordTable, Tables}
+use Rattle.table_model.specs.Tables.{CameTable, RecordRow, RecordTable, Tables}
 use Rattle.tree_rows.specs.Changes.{above, is_above, FindsAbove}
 use Rattle.tree_rows.specs.Indexes.{by_both}
 use Rattle.tree_rows.specs.Rows.{Finds, IsFirst, IsUnchanged, rows_changed}
@@ -27,7 +28,7 @@ use Rattle.tree_rows.proofs.Taking.{some_is}
 use Rattle.tree_rows.proofs.Updating.{get_updated, updated_done, updated_step}
 use Rattle.tree_tables.proofs.CountedRows.{details_same}
 use Rattle.tree_tables.proofs.Holding.{SameBut, apart, has_rows, have_but, holds_rows}
-use Rattle.tree_tables.proofs.Layouts.{identity_layout, mark_layout, record_layout}
+use Rattle.tree_tables.proofs.Layouts.{identity_layout, mark_layout}
 use Rattle.tree_tables.proofs.Looking.{only_both, only_looks, rewrites_after_look}
 use Rattle.tree_tables.proofs.RecordIndexes.{identity_named, index_row_changed, mark_named}
 use Rattle.tree_tables.proofs.Records.{record_there}
@@ -70,12 +71,12 @@ next_entry (Some entry) m key rows row there place held begins =
     (subst (λ some. IsFirst some row there) (ap₂ rows_past place held) begins)
 
 -- trees are the same with other rows of the records, but for these
-other_rows : (keyed others : RecordTable) (trees : Trees)
-    → SameBut (with_rows_of keyed trees) (with_rows_of others trees) 3
-other_rows keyed others trees other apart =
+other_rows : (came : CameTable) (keyed others : RecordTable) (trees : Trees)
+    → SameBut (with_rows_of came keyed trees) (with_rows_of came others trees) 3
+other_rows came keyed others trees other apart =
     let is_other : (other == 3) ≡ false = grind (arith, nat_tests, apart) in
-    ap (λ b. cond b (map record_columns (entries others)) (trees other)) is_other
-    ∙ sym (ap (λ b. cond b (map record_columns (entries keyed)) (trees other)) is_other)
+    ap (λ b. cond b (map (record_columns came) (entries others)) (trees other)) is_other
+    ∙ sym (ap (λ b. cond b (map (record_columns came) (entries keyed)) (trees other)) is_other)
 
 -- A walk has come to a key, and looks at the first entry after it.
 module _ (tables : Tables) {old : Trees} {key : Row} (so_far : IsKeying tables old key) where
@@ -92,7 +93,7 @@ module _ (tables : Tables) {old : Trees} {key : Row} (so_far : IsKeying tables o
       (identity_index so_far.keyed) none (row.identity, name) tt
       (index_has identity_named so_far.keyed name row there)) in
       let same : so_far.keyed ≡ tables.records =
-      sym (updated_done record_layout.total record_layout.exact by_second_rule so_far.keyed all)
+      sym (updated_done nat_list_cmp_total exact_bytes by_second_rule so_far.keyed all)
       ∙ so_far.whole in
       held_by_same so_far.holds (ap identity_index same) (ap marks same)
       (ap (detail_index tables.counted) same)
@@ -125,14 +126,14 @@ module _ (tables : Tables) {old : Trees} {key : Row} (so_far : IsKeying tables o
       now_there : get tables.records at.1 ≡ Some (by_second_rule was)
       now_there =
           ap (λ (m : RecordTable). get m at.1) (sym so_far.whole)
-          ∙ get_updated record_layout.total record_layout.exact by_second_rule so_far.keyed at.1
+          ∙ get_updated nat_list_cmp_total exact_bytes by_second_rule so_far.keyed at.1
           ∙ ap (option_map by_second_rule) names.1
 
-      row_is : row ≡ record_columns (at.1, by_second_rule was)
+      row_is : row ≡ record_columns tables.came (at.1, by_second_rule was)
       row_is =
           let found = record_there tables {name = at.1} so_far.holds.records
           (named_is ∙ ap (λ one. column one 1 ∷ []) it.4) finds there in
-          found.2 ∙ ap (λ one. record_columns (at.1, one))
+          found.2 ∙ ap (λ one. record_columns tables.came (at.1, one))
           (some_is found.0 (by_second_rule was) (sym found.1 ∙ now_there))
 
       -- the next key of the walk
@@ -211,13 +212,13 @@ module _ (tables : Tables) {old : Trees} {key : Row} (so_far : IsKeying tables o
             holds = record {
               records = two 3 (apart 3 7 refl) ∙ one 3 (apart 3 6 refl) ∙ so_far.holds.records;
               rest = holds_rows so_far.holds.rest.placed
-                  (have_but {old = with_rows_of keyed new} 10 (λ other apart. refl) shown_rows
-                  (have_but 7 (same_beside keyed 7 two) mark_rows
-                  (have_but 6 (same_beside keyed 6 one) identity_rows
-                  (have_but 3 (other_rows so_far.keyed keyed old) refl (has_rows so_far.holds.rest) refl)
+                  (have_but {old = with_rows_of tables.came keyed new} 10 (λ other apart. refl) shown_rows
+                  (have_but 7 (same_beside tables.came keyed 7 two) mark_rows
+                  (have_but 6 (same_beside tables.came keyed 6 one) identity_rows
+                  (have_but 3 (other_rows tables.came so_far.keyed keyed old) refl (has_rows so_far.holds.rest) refl)
                   refl) refl) refl);
             };
-            whole = updated_step record_layout.total record_layout.exact by_second_rule
+            whole = updated_step nat_list_cmp_total exact_bytes by_second_rule
                 (λ one. refl) so_far.keyed at.1 was names.1 ∙ so_far.whole;
             done = λ name one found behind.
                 elim (eq_by_cmp by_bytes name at.1) as (λ b.
@@ -232,12 +233,12 @@ module _ (tables : Tables) {old : Trees} {key : Row} (so_far : IsKeying tables o
                       (one.identity, name) tt (index_has identity_named so_far.keyed name one now)
                       behind) [
                         | inl here ↦ absurd (true≢false
-                            (sym ((eq_by_cmp_equiv record_layout.total).refl at.1)
+                            (sym ((eq_by_cmp_equiv nat_list_cmp_total).refl at.1)
                             ∙ sym (ap (λ (p : List ℕ × List ℕ). eq_by_cmp by_bytes p.1 at.1) here)
                             ∙ tie))
                         | inr before ↦ so_far.done name one now before
                       ]
-                ] (sym (get-insert record_layout.total so_far.keyed at.1 (by_second_rule was) name)
+                ] (sym (get-insert nat_list_cmp_total so_far.keyed at.1 (by_second_rule was) name)
                 ∙ found) refl;
           }
 

@@ -1,8 +1,9 @@
 -- Each table as a map with its entries in the rows of its tree.
-use Rattle.std.proofs.Common.{◌≡◌, ℕ, ℤ, pos, List, [], ◌∷◌, Bool, Option, refl, ap₂, ◌∙◌}
+use Rattle.std.proofs.Common.{◌≡◌, ℕ, ℤ, pos, List, [], ◌∷◌, ◌++◌, Bool, Option, refl, ap₂}
+use Rattle.std.proofs.Common.{◌∙◌}
 use Rattle.std.specs.Cmp.{nat_cmp_total}
 use Rattle.std.specs.Cmp.{IsTotalOrder}
-use Rattle.std.specs.FinMap.{IsAntisymmetric, int_cmp-IsAntisymmetric, nat_cmp-IsAntisymmetric}
+use Rattle.std.specs.FinMap.{get, IsAntisymmetric, int_cmp-IsAntisymmetric, nat_cmp-IsAntisymmetric}
 use Rattle.std.specs.Ordering.{int_cmp, nat_cmp, ordering_then}
 use Rattle.std.proofs.lemmas.Cmp.{nat_list_cmp_total, int_cmp_total}
 use Rattle.std.proofs.lemmas.Map.Lookups.{exact_bytes}
@@ -16,14 +17,16 @@ use Rattle.book_model.specs.declared.row.ChargeRow.{ChargeRow}
 use Rattle.book_model.specs.declared.row.RowKey.{RowKey}
 use Rattle.book_model.proofs.RowLemmas.{by_key_total, by_key_exact}
 use Rattle.table_model.specs.PeriodRows.{by_period}
-use Rattle.table_model.specs.Tables.{ChoiceRow, RecordRow, ReplacedRow}
+use Rattle.table_model.specs.Tables.{CameTable, ChoiceRow, JournalRow, RecordRow}
+use Rattle.table_model.specs.Tables.{ReplacedRow}
 use Rattle.table_model.proofs.NumberedLemmas.{by_period_total, by_period_exact}
 use Rattle.tree_rows.specs.Indexes.{by_both, by_mark}
 use Rattle.tree_rows.specs.Layouts.{Layout}
 use Rattle.tree_rows.proofs.IndexOrders.{by_both_total, by_both_exact, by_mark_total, by_mark_exact}
 use Rattle.tree_rows.proofs.IndexOrders.{by_bytes_exact, parts_exact, parts_total}
-use Rattle.tree_tables.specs.Columns.{flag, tariff_value, day_key_columns, detail_columns}
-use Rattle.tree_tables.specs.Columns.{step_value}
+use Rattle.tree_tables.specs.Columns.{came_columns, flag, tariff_value, day_key_columns}
+use Rattle.tree_tables.specs.Columns.{detail_columns, step_value}
+use Rattle.tree_tables.specs.JournalColumns.{act_columns, note_columns}
 use Rattle.tree_tables.specs.Holds.{by_chosen, by_shown, by_work}
 use Rattle.tree_tables.proofs.DetailOrders.{by_shown_exact, by_shown_total, by_step, in_turn}
 pub use Rattle.tree_tables.proofs.DetailOrders.{numbers}
@@ -32,7 +35,7 @@ pub use Rattle.tree_tables.proofs.DetailOrders.{numbers}
 abbrev pub tariff_layout : Layout ℤ (Option (List ℕ)) int_cmp
 tariff_layout = record {
   key = λ day. Int day ∷ [];
-  rest = λ text. tariff_value text ∷ [];
+  rest = λ day text. tariff_value text ∷ [];
   total = int_cmp_total;
   exact = int_cmp-IsAntisymmetric;
   alike = λ k l. refl;
@@ -43,21 +46,21 @@ tariff_layout = record {
 abbrev pub closed_layout : Layout ℕ ℤ nat_cmp
 closed_layout = record {
   key = λ period. Int (pos period) ∷ [];
-  rest = λ day. Int day ∷ [];
+  rest = λ period day. Int day ∷ [];
   total = nat_cmp_total;
   exact = nat_cmp-IsAntisymmetric;
   alike = λ k l. refl;
   ordered = λ k l. then-Equal _ ∙ value_cmp-Int (pos k) (pos l) ∙ numbers k l;
 }
 
--- records by their names
-abbrev pub record_layout : Layout (List ℕ) RecordRow by_bytes
-record_layout = record {
+-- records by their names, and by the entries by which they came
+abbrev pub record_layout : CameTable → Layout (List ℕ) RecordRow by_bytes
+record_layout came = record {
   key = λ name. Blob name ∷ [];
-  rest = λ row. Blob row.identity ∷ Blob row.data_bytes ∷ Int row.priced.day
+  rest = λ name row. Blob row.identity ∷ Blob row.data_bytes ∷ Int row.priced.day
       ∷ Text row.priced.shift ∷ Text row.priced.centre ∷ Int (pos row.priced.cpu)
       ∷ Int (pos row.priced.excp) ∷ Int (pos row.priced.amount) ∷ Int (pos (flag row.charged))
-      ∷ Int (pos (flag row.posted)) ∷ [];
+      ∷ Int (pos (flag row.posted)) ∷ came_columns (get came name);
   total = nat_list_cmp_total;
   exact = exact_bytes;
   alike = λ k l. refl;
@@ -74,7 +77,7 @@ by_place k l = refl
 abbrev pub day_layout : Layout (ℕ × RowKey) ChargeRow (by_period by_key)
 day_layout = record {
   key = day_key_columns;
-  rest = λ row. Int (pos row.count) ∷ Int (pos row.cpu) ∷ Int (pos row.blocks)
+  rest = λ place row. Int (pos row.count) ∷ Int (pos row.cpu) ∷ Int (pos row.blocks)
       ∷ Int (pos row.amount) ∷ [];
   total = by_period_total by_key by_key_total;
   exact = by_period_exact by_key by_key_exact;
@@ -89,7 +92,7 @@ day_layout = record {
 abbrev pub line_layout : Layout (ℕ × List ℕ) Bool (by_period by_bytes)
 line_layout = record {
   key = λ place. Int (pos place.0) ∷ Blob place.1 ∷ [];
-  rest = λ plus. Int (pos (flag plus)) ∷ [];
+  rest = λ place plus. Int (pos (flag plus)) ∷ [];
   total = by_period_total by_bytes nat_list_cmp_total;
   exact = by_period_exact by_bytes exact_bytes;
   alike = λ k l. refl;
@@ -101,7 +104,7 @@ line_layout = record {
 abbrev pub choice_layout : Layout ℕ ChoiceRow nat_cmp
 choice_layout = record {
   key = λ number. Int (pos number) ∷ [];
-  rest = λ choice.
+  rest = λ number choice.
       Blob choice.name ∷ Int (pos choice.period) ∷ Int (pos (flag choice.counts)) ∷ [];
   total = nat_cmp_total;
   exact = nat_cmp-IsAntisymmetric;
@@ -113,7 +116,7 @@ choice_layout = record {
 abbrev pub credit_layout : Layout ℕ Credit nat_cmp
 credit_layout = record {
   key = λ number. Int (pos number) ∷ [];
-  rest = λ credit.
+  rest = λ number credit.
       Int (pos credit.period) ∷ Text credit.centre ∷ Int credit.amount ∷ Text credit.reason ∷ [];
   total = nat_cmp_total;
   exact = nat_cmp-IsAntisymmetric;
@@ -125,7 +128,18 @@ credit_layout = record {
 abbrev pub replaced_layout : Layout ℕ ReplacedRow nat_cmp
 replaced_layout = record {
   key = λ number. Int (pos number) ∷ [];
-  rest = λ row. Int row.day ∷ Int (pos row.period) ∷ tariff_value row.text ∷ [];
+  rest = λ number row. Int row.day ∷ Int (pos row.period) ∷ tariff_value row.text ∷ [];
+  total = nat_cmp_total;
+  exact = nat_cmp-IsAntisymmetric;
+  alike = λ k l. refl;
+  ordered = λ k l. then-Equal _ ∙ value_cmp-Int (pos k) (pos l) ∙ numbers k l;
+}
+
+-- entries of the journal by their numbers
+abbrev pub journal_layout : Layout ℕ JournalRow nat_cmp
+journal_layout = record {
+  key = λ number. Int (pos number) ∷ [];
+  rest = λ number row. note_columns row.note ++ act_columns row.act;
   total = nat_cmp_total;
   exact = nat_cmp-IsAntisymmetric;
   alike = λ k l. refl;
@@ -143,7 +157,7 @@ by_chosen_exact = parts_exact by_bytes_exact nat_cmp-IsAntisymmetric
 abbrev pub choice_name_layout : Layout (List ℕ × ℕ) (Unit {0}) by_chosen
 choice_name_layout = record {
   key = λ place. Blob place.0 ∷ Int (pos place.1) ∷ [];
-  rest = λ nothing. [];
+  rest = λ key nothing. [];
   total = by_chosen_total;
   exact = by_chosen_exact;
   alike = λ k l. refl;
@@ -155,7 +169,7 @@ choice_name_layout = record {
 abbrev pub identity_layout : Layout (List ℕ × List ℕ) (Unit {0}) by_both
 identity_layout = record {
   key = λ pair. Blob pair.0 ∷ Blob pair.1 ∷ [];
-  rest = λ nothing. [];
+  rest = λ key nothing. [];
   total = by_both_total;
   exact = by_both_exact;
   alike = λ k l. refl;
@@ -167,7 +181,7 @@ identity_layout = record {
 abbrev pub mark_layout : Layout (ℕ × (List ℕ × List ℕ)) (Unit {0}) by_mark
 mark_layout = record {
   key = λ place. Int (pos place.0) ∷ Blob place.1.0 ∷ Blob place.1.1 ∷ [];
-  rest = λ nothing. [];
+  rest = λ key nothing. [];
   total = by_mark_total;
   exact = by_mark_exact;
   alike = λ k l. refl;
@@ -215,7 +229,7 @@ detail_order k l =
 abbrev pub detail_layout : Layout Detail (Unit {0}) by_shown
 detail_layout = record {
   key = λ detail. detail_columns (detail, tt);
-  rest = λ nothing. [];
+  rest = λ key nothing. [];
   total = by_shown_total;
   exact = by_shown_exact;
   alike = λ k l. refl;

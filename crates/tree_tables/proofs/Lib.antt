@@ -20,7 +20,9 @@ pub mod ChosenLists
 pub mod LastNumbers
 pub mod CreditRows
 pub mod ReplacedRows
+pub mod EntryRows
 pub mod OldChoices
+pub mod CameRows
 pub mod Records
 pub mod FoundNames
 pub mod RecordLists

@@ -73,7 +73,7 @@ abbrev no_book : List (List Row)
 no_book = with_rows 0 [] (table_rows new_tables)
 
 only_book : AllByRecursion (λ rows. rows ≡ []) no_book
-only_book = search (no_rows, no_index, no_details, identity_named, mark_named, chosen_named) depth 26
+only_book = search (no_rows, no_index, no_details, identity_named, mark_named, chosen_named) depth 28
 
 -- which trees without rows have
 have_none : {trees : Trees} (all : List (List Row)) → AllByRecursion (λ rows. rows ≡ []) all

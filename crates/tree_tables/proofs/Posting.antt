@@ -47,7 +47,8 @@ module _ (tables : Tables) (name : List ℕ) (day : ℤ) (row : RecordRow)
     -- After a look its row makes room for the one that is posted.
     pub record_posted : (old : View) {look new : View} {before made : Row} → IsUnchanged old look
         → ChangesRow look new 3 before made
-        → before ≡ record_columns (name, row) → made ≡ record_columns (name, now)
+        → before ≡ record_columns tables.came (name, row)
+        → made ≡ record_columns tables.came (name, now)
         → Holds old.trees tables → Holds new.trees (post_row day name tables)
     record_posted old {look} {new} {before} {made} same written before_is made_is holds =
         let records = tables.records in
@@ -70,6 +71,6 @@ module _ (tables : Tables) (name : List ℕ) (day : ℤ) (row : RecordRow)
         (sym (index_same identity_named records name row now some
         (posted_stays identity_key (λ name row. refl) day name row))))
         (have_but 3 behind.others
-        (behind.rows_now ∙ row_changed record_layout records name row now made_is before_is
+        (behind.rows_now ∙ row_changed (record_layout tables.came) records name row now made_is before_is
         (ap (λ (v : View). v.trees 3) same ∙ holds.records) some)
         (has_rows holds) refl) refl) refl) refl))

@@ -8,16 +8,18 @@ use Rattle.sqlite_value.specs.Order.{Row}
 use Rattle.tariff_rules.specs.declared.priced.Priced.{Priced}
 use Rattle.table_model.specs.RowChanges.{price_at}
 use Rattle.table_model.specs.Steps.{put_price_row}
-use Rattle.table_model.specs.Tables.{CountedTable, RecordRow, RecordTable, Tables}
+use Rattle.table_model.specs.Tables.{CameTable, CountedTable, RecordRow}
+use Rattle.table_model.specs.Tables.{RecordTable, Tables}
 use Rattle.tree_rows.specs.Indexes.{index_of}
 use Rattle.tree_rows.specs.Layouts.{rows_of}
-use Rattle.tree_rows.specs.Rows.{ChangesRow, IsFirst, rows_changed}
+use Rattle.tree_rows.specs.Rows.{ChangesRow, IsFirst, IsUnchanged, Rewrites, rows_changed}
 use Rattle.tree_rows.proofs.Indexes.{index_same}
 use Rattle.tree_rows.proofs.Keyed.{rows_replaced}
 use Rattle.tree_tables.proofs.CountedRows.{counted_by_there, counted_changed, counted_stays}
 use Rattle.tree_tables.proofs.CountedRows.{detail_named, row_counted, uncounted_by_missing}
 use Rattle.tree_tables.proofs.Holding.{apart, has_rows, have_but, holds_rows}
 use Rattle.tree_tables.proofs.Layouts.{detail_layout, record_layout}
+use Rattle.tree_tables.proofs.Looking.{rewrites_after_look}
 use Rattle.tree_tables.proofs.Renewing.{finds_next}
 use Rattle.tree_tables.proofs.RecordIndexes.{identity_named, index_row_changed, mark_named}
 use Rattle.tree_tables.proofs.RecordIndexes.{row_changed}
@@ -32,22 +34,22 @@ use Rattle.tree_tables.specs.declared.stored_record.StoredRecord.{StoredRecord}
 
 -- The first row after the key of a name that a walk has come to.
 module _ (tables : Tables) (last : Option (List ℕ)) {rows : List Row} {key : Row} (row : Row)
-    (held : rows ≡ map record_columns (entries tables.records)) (key_is : key ≡ last_name_key last)
+    (held : rows ≡ map (record_columns tables.came) (entries tables.records)) (key_is : key ≡ last_name_key last)
   where
     -- where there is none, no record is left
     pub next_none : IsFirst (rows_past key rows) row false → FindsNext last tables None
     next_none begins =
         ap (λ left. slice_get left 0)
-        (sym (finds_next last tables.records key rows row false key_is held begins))
+        (sym (finds_next tables.came last tables.records key rows row false key_is held begins))
 
     -- what is read of it is the next record
     pub next_some : (stored : StoredRecord) → IsFirst (rows_past key rows) row true
-        → ((entry : List ℕ × RecordRow) → row ≡ record_columns entry
+        → ((came : CameTable) (entry : List ℕ × RecordRow) → row ≡ record_columns came entry
         → stored_entry stored ≡ entry)
         → FindsNext last tables (Some stored)
     next_some stored begins says =
-        let it = finds_next last tables.records key rows row true key_is held begins in
-        ap Some (says (it.0, it.1) it.4) ∙ ap (λ left. slice_get left 0) (sym it.3)
+        let it = finds_next tables.came last tables.records key rows row true key_is held begins in
+        ap Some (says tables.came (it.0, it.1) it.4) ∙ ap (λ left. slice_get left 0) (sym it.3)
 
 -- A record has another price, which its detail shows too if it has one.
 module _ (counted : CountedTable) (records : RecordTable) (name : List ℕ) (row : RecordRow)
@@ -76,17 +78,19 @@ module _ (counted : CountedTable) (records : RecordTable) (name : List ℕ) (row
         ap (index_of {P = by_shown} detail_shown) (sym (counted_stays counted records name now
         (uncounted_by_missing counted records name row some none)))
 
--- The row of a record that is as it was read makes room for one with another price, and so does that
+-- After a look the row of a record that is as it was read makes room for one with another price, and so does that
 -- of its detail; its identity and its mark stay.
-pub record_priced : {old mid new : View} (tables : Tables) (stored : StoredRecord) (priced : Priced)
-    {before made : Row}
-    → ChangesRow old mid 3 before made → PricesDetail mid new stored priced
-    → before ≡ record_columns (stored_entry stored)
-    → made ≡ record_columns (priced_entry stored priced)
+pub record_priced : (old : View) {look mid new : View} (tables : Tables) (stored : StoredRecord)
+    (priced : Priced) {before made : Row} → IsUnchanged old look
+    → ChangesRow look mid 3 before made → PricesDetail mid new stored priced
+    → before ≡ record_columns tables.came (stored_entry stored)
+    → made ≡ record_columns tables.came (priced_entry stored priced)
     → IsAsRead stored tables → Holds old.trees tables
     → Holds new.trees (put_price_row stored.name priced tables)
-record_priced {old} {mid} {new} tables stored priced rewrites replaces before_is made_is stands
-    holds =
+record_priced old {look} {mid} {new} tables stored priced {before} {made} same written replaces
+    before_is made_is stands holds =
+    let rewrites : Rewrites old mid 3 (rows_changed before made (look.trees 3)) =
+    rewrites_after_look {old = old} same written in
     let records = tables.records in
     let counted = tables.counted in
     let name = stored.name in
@@ -112,5 +116,6 @@ record_priced {old} {mid} {new} tables stored priced rewrites replaces before_is
     (sym (index_same identity_named records name row now stands refl)))
     (have_but 3 rewrites.others
     (rewrites.rows_now
-    ∙ row_changed record_layout records name row now made_is before_is holds.records stands)
+    ∙ row_changed (record_layout tables.came) records name row now made_is before_is
+    (ap (λ (v : View). v.trees 3) same ∙ holds.records) stands)
     (has_rows holds) refl) refl) refl) refl))

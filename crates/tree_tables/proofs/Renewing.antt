@@ -6,13 +6,15 @@ use Rattle.std.specs.Prelude.{◌==◌, int_lt}
 use Rattle.std.specs.FinMap.{FinMap, entries, get, insert}
 use Rattle.std.specs.Option.{option_map}
 use Rattle.std.specs.declared.cmp.Ordering.{Ordering}
+use Rattle.std.proofs.lemmas.Cmp.{nat_list_cmp_total}
+use Rattle.std.proofs.lemmas.Map.Lookups.{exact_bytes}
 use Rattle.sqlite_trees.specs.Tree.{Trees, from_key}
 use Rattle.sqlite_trees.specs.View.{View}
 use Rattle.sqlite_value.specs.Keys.{plain}
 use Rattle.sqlite_value.specs.Order.{Row, column}
 use Rattle.table_model.specs.RowChanges.{post_by}
 use Rattle.table_model.specs.Steps.{post_rows}
-use Rattle.table_model.specs.Tables.{RecordRow, RecordTable, Tables}
+use Rattle.table_model.specs.Tables.{CameTable, RecordRow, RecordTable, Tables}
 use Rattle.tree_rows.specs.Changes.{above, updated, FindsAbove}
 use Rattle.tree_rows.specs.Indexes.{IsIndexKey, index_of}
 use Rattle.tree_rows.specs.Layouts.{rows_of}
@@ -58,31 +60,34 @@ held_by_same {trees} {tables} found same_identities same_marks same_details =
     assumption (identities, kept, shown)
 
 -- trees that are the same but for one still are, where the records' own has other rows
-pub same_beside : {old new : Trees} (keyed : RecordTable) (tree : ℕ) → SameBut old new tree
-    → SameBut (with_rows_of keyed old) (with_rows_of keyed new) tree
-same_beside keyed tree same other apart =
-    ap (cond (other == 3) (map record_columns (entries keyed))) (same other apart)
+pub same_beside : {old new : Trees} (came : CameTable) (keyed : RecordTable) (tree : ℕ)
+    → SameBut old new tree
+    → SameBut (with_rows_of came keyed old) (with_rows_of came keyed new) tree
+same_beside came keyed tree same other apart =
+    ap (cond (other == 3) (map (record_columns came) (entries keyed))) (same other apart)
 
 -- other rows of the same records
 pub found_rows : {old new : Trees} {tables : Tables} {keyed : RecordTable} (records : RecordTable)
     → HoldsFoundBy old tables keyed → SameBut old new 3
-    → new 3 ≡ map record_columns (entries records)
+    → new 3 ≡ map (record_columns tables.came) (entries records)
     → HoldsFoundBy new (record tables { records = records }) keyed
-found_rows {old} {keyed = keyed} records found same now = record {
+found_rows {old} {tables = tables} {keyed = keyed} records found same now = record {
   records = now;
-  rest = holds_rows found.rest.placed (have_but {old = with_rows_of keyed old} 3
-      (same_beside keyed 3 same) refl (has_rows found.rest) refl);
+  rest = holds_rows found.rest.placed (have_but
+      {old = with_rows_of tables.came keyed old} 3
+      (same_beside tables.came keyed 3 same) refl (has_rows found.rest) refl);
 }
 
 -- the first row after a walk's key is that of the first entry that is still to come
-pub finds_next : (last : Option (List ℕ)) (m : RecordTable) (key : Row) (rows : List Row) (row : Row)
-    (there : Bool) → key ≡ last_name_key last → rows ≡ rows_of record_layout m
-    → IsFirst (rows_past key rows) row there → FindsAbove record_layout last m row there
-finds_next None m key rows row there place held begins =
-    walk_start record_layout m row there
+pub finds_next : (came : CameTable) (last : Option (List ℕ)) (m : RecordTable) (key : Row)
+    (rows : List Row) (row : Row) (there : Bool) → key ≡ last_name_key last
+    → rows ≡ rows_of (record_layout came) m
+    → IsFirst (rows_past key rows) row there → FindsAbove (record_layout came) last m row there
+finds_next came None m key rows row there place held begins =
+    walk_start (record_layout came) m row there
     (subst (λ some. IsFirst some row there) (ap₂ rows_past place held) begins)
-finds_next (Some name) m key rows row there place held begins =
-    walk_step record_layout m name row there
+finds_next came (Some name) m key rows row there place held begins =
+    walk_step (record_layout came) m name row there
     (subst (λ some. IsFirst some row there) (ap₂ rows_past place held) begins)
 
 -- a look-up of the key with no columns begins where a walk does
@@ -101,7 +106,7 @@ renewing_starts change trees tables key empty holds = record {
   records = tables.records;
   holds = found_by_own holds;
   whole = refl;
-  done = done_start record_layout.total record_layout.exact change tables.records;
+  done = done_start nat_list_cmp_total exact_bytes change tables.records;
 }
 
 -- A change that does nothing to what it has changed.
@@ -117,10 +122,10 @@ module _ (change : RecordRow → RecordRow)
             → HoldsFoundBy old (renewed change tables) tables.records
         renewing_ends begins =
             let none : above so_far.last so_far.records ≡ [] =
-            finds_next so_far.last so_far.records key (old 3) row false so_far.place
+            finds_next tables.came so_far.last so_far.records key (old 3) row false so_far.place
             so_far.holds.records begins in
             let all : updated change so_far.records ≡ so_far.records =
-            done_all record_layout.total record_layout.exact change so_far.last so_far.records
+            done_all nat_list_cmp_total exact_bytes change so_far.last so_far.records
             none so_far.done in
             subst (λ rows. HoldsFoundBy old (record tables { records = rows }) tables.records)
             (sym all ∙ so_far.whole) so_far.holds
@@ -130,7 +135,7 @@ module _ (change : RecordRow → RecordRow)
             → next ≡ column row 0 ∷ [] → RenewsRow change row made false
             → IsRenewing change tables old next
         renewing_passes next made begins named stands =
-            let it = finds_next so_far.last so_far.records key (old 3) row true so_far.place
+            let it = finds_next tables.came so_far.last so_far.records key (old 3) row true so_far.place
             so_far.holds.records begins in
             record {
               last = Some it.0;
@@ -138,8 +143,8 @@ module _ (change : RecordRow → RecordRow)
               records = so_far.records;
               holds = so_far.holds;
               whole = so_far.whole;
-              done = done_kept record_layout.total record_layout.exact change so_far.last
-                  so_far.records it.0 it.1 it.2 it.3 (stands (it.0, it.1) it.4) so_far.done;
+              done = done_kept nat_list_cmp_total exact_bytes change so_far.last
+                  so_far.records it.0 it.1 it.2 it.3 (stands tables.came (it.0, it.1) it.4) so_far.done;
             }
 
         -- where it is changed, so are all that are passed
@@ -149,23 +154,23 @@ module _ (change : RecordRow → RecordRow)
             → new 3 ≡ rows_changed row made (old 3)
             → IsRenewing change tables new next
         renewing_goes_on {new} next made begins named made_is same now =
-            let it = finds_next so_far.last so_far.records key (old 3) row true so_far.place
+            let it = finds_next tables.came so_far.last so_far.records key (old 3) row true so_far.place
             so_far.holds.records begins in
             let there : get so_far.records it.0 ≡ Some it.1 =
-            first_there record_layout.total record_layout.exact so_far.last so_far.records it.0 it.1
+            first_there nat_list_cmp_total exact_bytes so_far.last so_far.records it.0 it.1
             it.2 it.3 in
-            let rows : new 3 ≡ rows_of record_layout
+            let rows : new 3 ≡ rows_of (record_layout tables.came)
             (insert so_far.records it.0 (change it.1)) =
-            now ∙ row_changed record_layout so_far.records it.0 it.1 (change it.1)
-            (made_is (it.0, it.1) it.4) it.4 so_far.holds.records there in
+            now ∙ row_changed (record_layout tables.came) so_far.records it.0 it.1 (change it.1)
+            (made_is tables.came (it.0, it.1) it.4) it.4 so_far.holds.records there in
             record {
               last = Some it.0;
               place = named ∙ ap (λ one. column one 0 ∷ []) it.4;
               records = insert so_far.records it.0 (change it.1);
               holds = found_rows (insert so_far.records it.0 (change it.1)) so_far.holds same rows;
-              whole = updated_step record_layout.total record_layout.exact change again
+              whole = updated_step nat_list_cmp_total exact_bytes change again
                   so_far.records it.0 it.1 there ∙ so_far.whole;
-              done = done_step record_layout.total record_layout.exact change again so_far.last
+              done = done_step nat_list_cmp_total exact_bytes change again so_far.last
                   so_far.records it.0 it.1 it.2 it.3 so_far.done;
             }
 

@@ -9,12 +9,13 @@ use Rattle.sqlite_trees.specs.Tree.{Trees}
 use Rattle.book_model.specs.Words.{by_bytes}
 use Rattle.table_model.specs.TableChanges.{walk}
 use Rattle.table_model.specs.Tables.{RecordRow, Tables}
+use Rattle.std.proofs.lemmas.Cmp.{nat_list_cmp_total}
+use Rattle.std.proofs.lemmas.Map.Lookups.{exact_bytes}
 use Rattle.tree_rows.specs.Changes.{above}
 use Rattle.tree_rows.proofs.Maps.{not_none}
 use Rattle.tree_rows.proofs.Passing.{first_there}
 use Rattle.tree_rows.proofs.Remaining.{above_next}
 use Rattle.tree_rows.proofs.Taking.{some_is}
-use Rattle.tree_tables.proofs.Layouts.{record_layout}
 use Rattle.tree_tables.specs.Answers.{FindsNext}
 use Rattle.tree_tables.specs.Holds.{Holds}
 use Rattle.tree_tables.specs.Stored.{IsAsRead, stored_entry}
@@ -46,13 +47,13 @@ module _ (last : Option (List ℕ)) (tables : Tables) (stored : StoredRecord)
   -- the others come after it
   rest : above (Some stored.name) tables.records ≡ front.0
   rest =
-      above_next record_layout.total record_layout.exact last tables.records stored.name
+      above_next nat_list_cmp_total exact_bytes last tables.records stored.name
       (stored_entry stored).1 front.0 front.1
 
   -- it is in the tables
   pub next_stands : IsAsRead stored tables
   next_stands =
-      first_there record_layout.total record_layout.exact last tables.records stored.name
+      first_there nat_list_cmp_total exact_bytes last tables.records stored.name
       (stored_entry stored).1 front.0 front.1
 
   pub next_names : names_left last tables ≡ stored.name ∷ names_left (Some stored.name) tables

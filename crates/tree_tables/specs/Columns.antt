@@ -1,6 +1,8 @@
 -- The rows of the tables: the columns in which each kind of row is kept, those of its key first.
-use Rattle.std.specs.Prelude.{ℕ, ℤ, pos, Bool, true, false, List, [], ◌∷◌, Option, Some, None}
+use Rattle.std.specs.Prelude.{ℕ, ℤ, pos, Bool, true, false, List, [], ◌∷◌, ◌++◌, Option, Some}
+use Rattle.std.specs.Prelude.{None}
 use Rattle.std.specs.Prelude.{if◌then◌else◌}
+use Rattle.std.specs.FinMap.{get}
 use Rattle.sqlite_value.specs.Order.{Row}
 use Rattle.sqlite_value.specs.declared.value.Value.{Value}
 use Rattle.sqlite_value.specs.declared.value.Value.TheVariants.{Null, Int, Text, Blob}
@@ -8,7 +10,7 @@ use Rattle.book_model.specs.declared.detail.Detail.{Detail}
 use Rattle.book_model.specs.declared.row.ChargeRow.{ChargeRow}
 use Rattle.book_model.specs.declared.row.RowKey.{RowKey}
 use Rattle.book_model.specs.Words.{Credit}
-use Rattle.table_model.specs.Tables.{BookRow, ChoiceRow, RecordRow, ReplacedRow}
+use Rattle.table_model.specs.Tables.{BookRow, CameTable, ChoiceRow, RecordRow, ReplacedRow}
 
 -- a mark is 1 or 0
 abbrev pub flag : Bool → ℕ
@@ -33,14 +35,24 @@ tariff_columns tariff = Int tariff.0 ∷ tariff_value tariff.1 ∷ []
 abbrev pub closed_columns : ℕ × ℤ → Row
 closed_columns closed = Int (pos closed.0) ∷ Int closed.1 ∷ []
 
--- a record under its name
-abbrev pub record_columns : List ℕ × RecordRow → Row
-record_columns entry =
+-- The number of the entry by which a record came. The row of one that came by none ends before it,
+-- as all rows of older forms do: SQLite reads 0 there.
+abbrev pub came_columns : Option ℕ → Row
+came_columns None = []
+came_columns (Some number) = Int (pos number) ∷ []
+
+-- a record under its name, but for the entry by which it came
+abbrev pub record_front : List ℕ × RecordRow → Row
+record_front entry =
     let priced = entry.1.priced in
     Blob entry.0 ∷ Blob entry.1.identity ∷ Blob entry.1.data_bytes ∷ Int priced.day
     ∷ Text priced.shift ∷ Text priced.centre ∷ Int (pos priced.cpu) ∷ Int (pos priced.excp)
     ∷ Int (pos priced.amount) ∷ Int (pos (flag entry.1.charged)) ∷ Int (pos (flag entry.1.posted))
     ∷ []
+
+-- a record under its name, by the entries by which records came
+abbrev pub record_columns : CameTable → List ℕ × RecordRow → Row
+record_columns came entry = record_front entry ++ came_columns (get came entry.0)
 
 -- the columns of a charge row's key: its period, and its place there
 abbrev pub day_key_columns : ℕ × RowKey → Row
@@ -97,7 +109,7 @@ charged_part identity = Int (pos (flag true)) ∷ Blob identity ∷ []
 abbrev pub uncharged_part : List ℕ → Row
 uncharged_part identity = Int (pos (flag false)) ∷ Blob identity ∷ []
 
--- the number of the step that ended, if one did
+-- a number that may be missing, as of the step that ended
 abbrev pub step_value : Option ℕ → Value
 step_value None = Null
 step_value (Some step) = Int (pos step)

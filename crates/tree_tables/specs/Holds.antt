@@ -26,6 +26,7 @@ use Rattle.tree_tables.specs.Columns.{record_columns, day_columns, line_columns}
 use Rattle.tree_tables.specs.Columns.{identity_columns, mark_columns, choice_columns}
 use Rattle.tree_tables.specs.Columns.{choice_name_columns, detail_columns, credit_columns}
 use Rattle.tree_tables.specs.Columns.{replaced_columns}
+use Rattle.tree_tables.specs.JournalColumns.{journal_columns}
 
 -- an identity with a name that has it
 abbrev pub identity_key : List ℕ × RecordRow → List ℕ × List ℕ
@@ -81,14 +82,14 @@ AreUnderOwnKeys days =
 
 -- how many trees there are
 abbrev pub tree_count : ℕ
-tree_count = 13
+tree_count = 14
 
 -- The rows of the trees are those of the tables.
 pub record Holds (trees : Trees) (tables : Tables) : Type 0 where
   pub book : trees 0 ≡ book_columns tables.book ∷ []
   pub tariffs : trees 1 ≡ map tariff_columns (entries tables.tariffs)
   pub closes : trees 2 ≡ map closed_columns (entries tables.closes)
-  pub records : trees 3 ≡ map record_columns (entries tables.records)
+  pub records : trees 3 ≡ map (record_columns tables.came) (entries tables.records)
   pub days : trees 4 ≡ map day_columns (entries tables.days)
   pub placed : AreUnderOwnKeys tables.days
   pub lines : trees 5 ≡ map line_columns (entries tables.lines)
@@ -99,6 +100,7 @@ pub record Holds (trees : Trees) (tables : Tables) : Type 0 where
   pub details : trees 10 ≡ map detail_columns (entries (detail_index tables.counted tables.records))
   pub credits : trees 11 ≡ map credit_columns (entries tables.credits)
   pub replaced : trees 12 ≡ map replaced_columns (entries tables.replaced)
+  pub journal : trees 13 ≡ map journal_columns (entries tables.journal)
 
 -- whether rows begin with one that has the number of the book's
 abbrev pub begin_with_book : List Row → Bool
@@ -125,4 +127,5 @@ pub record HasShapes (view : View) : Type 0 where
   pub details : view.shape 10 ≡ Index plain
   pub credits : view.shape 11 ≡ Index plain
   pub replaced : view.shape 12 ≡ Index plain
+  pub journal : view.shape 13 ≡ Index plain
   pub committed : view.committed_shape ≡ view.shape

@@ -7,6 +7,7 @@ use Rattle.sqlite_value.specs.Order.{Row, column}
 use Rattle.sqlite_value.specs.declared.value.Value.TheVariants.{Blob, Int, Text}
 use Rattle.tariff_rules.specs.declared.priced.Priced.{Priced}
 use Rattle.book_model.specs.Words.{Credit}
+use Rattle.table_model.specs.Steps.{put_came, put_record_row}
 use Rattle.table_model.specs.Tables.{BookRow, ChoiceRow, RecordRow, ReplacedRow, Tables}
 use Rattle.tree_tables.specs.Columns.{flag}
 use Rattle.tree_tables.specs.declared.book_row.StoredBook.{StoredBook}
@@ -114,10 +115,15 @@ new_entry kept = (
   },
 )
 
--- no record has the name, and none that had it is counted
+-- no record has the name, and none that had it is counted or came by an entry
 pub record IsFree (name : List ℕ) (tables : Tables) : Type 0 where
   pub none : get tables.records name ≡ None
   pub uncounted : get tables.counted name ≡ None
+  pub came : get tables.came name ≡ None
+
+-- the tables with a new record, which came by the entry of a number, if it came by one
+abbrev pub inserted : List ℕ × RecordRow → Option ℕ → Tables → Tables
+inserted entry came tables = put_came entry.0 came (put_record_row entry.0 entry.1 tables)
 
 -- a record was written, and is not counted yet
 pub record IsUncounted (entry : List ℕ × RecordRow) (tables : Tables) : Type 0 where

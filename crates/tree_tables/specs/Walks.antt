@@ -10,7 +10,7 @@ use Rattle.sqlite_value.specs.Order.{Row, column}
 use Rattle.sqlite_value.specs.declared.value.Value.TheVariants.{Blob}
 use Rattle.table_model.specs.Steps.{rename_rows}
 use Rattle.table_model.specs.RowChanges.{by_second_rule}
-use Rattle.table_model.specs.Tables.{RecordRow, RecordTable, Tables}
+use Rattle.table_model.specs.Tables.{CameTable, RecordRow, RecordTable, Tables}
 use Rattle.tree_rows.specs.Changes.{is_above, updated, DoneTo}
 use Rattle.tree_rows.specs.Indexes.{by_both}
 use Rattle.tree_rows.specs.Rows.{past_key, ChangesRow}
@@ -28,24 +28,25 @@ last_name_key None = []
 last_name_key (Some name) = Blob name ∷ []
 
 -- The trees hold these tables, but that the two trees which find records have the keys of others.
-abbrev pub with_rows_of : RecordTable → Trees → Trees
-with_rows_of records trees tree =
-    if tree == 3 then map record_columns (entries records) else trees tree
+abbrev pub with_rows_of : CameTable → RecordTable → Trees → Trees
+with_rows_of came records trees tree =
+    if tree == 3 then map (record_columns came) (entries records) else trees tree
 
 pub record HoldsFoundBy (trees : Trees) (tables : Tables) (keyed : RecordTable) : Type 0 where
-  pub records : trees 3 ≡ map record_columns (entries tables.records)
-  pub rest : Holds (with_rows_of keyed trees) (record tables { records = keyed })
+  pub records : trees 3 ≡ map (record_columns tables.came) (entries tables.records)
+  pub rest : Holds (with_rows_of tables.came keyed trees) (record tables { records = keyed })
 
 -- a record's row as a change makes it, or that it is so already
 abbrev pub IsRenewed :
-    (RecordRow → RecordRow) → List ℕ × RecordRow → Row → Bool → Type 0
-IsRenewed change entry row true = row ≡ record_columns (entry.0, change entry.1)
-IsRenewed change entry row false = change entry.1 ≡ entry.1
+    (RecordRow → RecordRow) → CameTable → List ℕ × RecordRow → Row → Bool → Type 0
+IsRenewed change came entry row true = row ≡ record_columns came (entry.0, change entry.1)
+IsRenewed change came entry row false = change entry.1 ≡ entry.1
 
 -- the same of the record that has this row
 abbrev pub RenewsRow : (RecordRow → RecordRow) → Row → Row → Bool → Type 0
 RenewsRow change before row due =
-    (entry : List ℕ × RecordRow) → before ≡ record_columns entry → IsRenewed change entry row due
+    (came : CameTable) (entry : List ℕ × RecordRow) → before ≡ record_columns came entry
+    → IsRenewed change came entry row due
 
 -- A walk by name that changes the rows of the records of these tables, and no key that finds them,
 -- has come to a key: all rows that it has passed are changed, and the change of all makes the same.

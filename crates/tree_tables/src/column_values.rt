@@ -1,7 +1,8 @@
 //! Columns that are read into types of the books. A column that does not fit is an error:
 //! `Corrupt`.
 
-ghost use Rattle.std.specs.Prelude.{◌≡◌, ◌<◌, ◌+◌, ◌++◌, ◌^◌, IfOk, IfSome, OnOk, map, pos};
+ghost use Rattle.std.specs.Prelude.{◌≡◌, ◌<◌, ◌+◌, ◌++◌, ◌∷◌, ◌^◌, [], IfOk, IfSome, OnOk, map};
+ghost use Rattle.std.specs.Prelude.{pos};
 ghost use Rattle.std.specs.Prelude.{slice_set, string_bytes};
 ghost use Rattle.sqlite_value.specs.Order.{column};
 ghost use Rattle.sqlite_value.specs.Value.{owned};
@@ -164,8 +165,22 @@ pub fn step_at(row: &Row, at: usize) -> Result<Option<u16>, StoreError>
     }
 }
 
+/// The number of an entry in a column, which may have none.
+pub fn entry_at(row: &Row, at: usize) -> Result<Option<u64>, StoreError>
+    ensures read { IfOk result (λ number. column row.now at ≡ step_value number) }
+{
+    match row.get(at) {
+        ValueRef::Null => Ok(None),
+        ValueRef::Int(n) => match u64::try_from(n) {
+            Ok(number) => Ok(Some(number)),
+            Err(_) => Err(StoreError::Corrupt),
+        },
+        _ => Err(StoreError::Corrupt),
+    }
+}
+
 /// The text in a column.
-fn str_at<'a>(row: &'a Row, at: usize) -> Result<&'a str, StoreError>
+pub(crate) fn str_at<'a>(row: &'a Row, at: usize) -> Result<&'a str, StoreError>
     ensures read { IfOk result (λ text. column row.now at ≡ Text text.now) }
 {
     match row.get(at) {
@@ -188,6 +203,17 @@ pub fn name_at(row: &Row, at: usize) -> Result<Name, StoreError>
 {
     let text = str_at(row, at)?;
     Name::of(text).ok_or(StoreError::Corrupt)
+}
+
+/// A number joins a row, where it fits a signed number of 64 bits.
+pub(crate) fn push_number(row: &mut Row, number: u64) -> Result<(), StoreError>
+    ensures { OnOk result (row.new ≡ row.old ++ Int (pos number) ∷ []) }
+{
+    let Ok(number) = i64::try_from(number) else {
+        return Err(StoreError::Unstorable);
+    };
+    row.push(ValueRef::Int(number))?;
+    Ok(())
 }
 
 /// Values join a row.

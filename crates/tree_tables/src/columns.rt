@@ -68,6 +68,10 @@ pub const RECORD_CHARGED: usize = 9;
 /// Whether the last close charged it.
 pub const RECORD_POSTED: usize = 10;
 
+/// The number of the entry of the journal by which it came. The row of a record that came by none
+/// ends before it.
+pub const RECORD_CAME: usize = 11;
+
 // Charge rows.
 
 /// The number of the period.
@@ -214,3 +218,65 @@ pub const REPLACED_PERIOD: usize = 2;
 
 /// The text of its file, if it came as one.
 pub const REPLACED_TEXT: usize = 3;
+
+// Entries of the journal.
+
+/// Its number, from 1.
+pub const ENTRY_NUMBER: usize = 0;
+
+/// When, in seconds since the beginning of 1970, UTC.
+pub const ENTRY_TIME: usize = 1;
+
+/// Who.
+pub const ENTRY_PERSON: usize = 2;
+
+/// A remark.
+pub const ENTRY_REMARK: usize = 3;
+
+/// The name of the file that was read.
+pub const ENTRY_FILE: usize = 4;
+
+/// The word for a ruling, or for an import.
+pub const ENTRY_ACT: usize = 5;
+
+/// The number under which a ruling stands. The row of a ruling ends with it; an import has none.
+pub const ENTRY_PLACE: usize = 6;
+
+/// The SHA-256 of the bytes that were read, 32 bytes.
+pub const ENTRY_DIGEST: usize = 7;
+
+/// How many bytes they are.
+pub const ENTRY_LENGTH: usize = 8;
+
+/// How many records were kept.
+pub const ENTRY_KEPT: usize = 9;
+
+/// How many were held already.
+pub const ENTRY_KNOWN: usize = 10;
+
+/// How many no tariff was in force for.
+pub const ENTRY_UNPRICED: usize = 11;
+
+/// How many were of other types.
+pub const ENTRY_OTHER: usize = 12;
+
+/// How many were headers of dumps.
+pub const ENTRY_HEADERS: usize = 13;
+
+/// How many were trailers of dumps.
+pub const ENTRY_TRAILERS: usize = 14;
+
+/// How many said that records were lost.
+pub const ENTRY_LOST: usize = 15;
+
+/// How many were continued elsewhere.
+pub const ENTRY_CONTINUED: usize = 16;
+
+/// How many were damaged.
+pub const ENTRY_DAMAGED: usize = 17;
+
+/// Why the import ended, in a word; none where it goes on or was cut off.
+pub const ENTRY_STOP: usize = 18;
+
+/// The number of the fault that ended it, or 0.
+pub const ENTRY_FAULT: usize = 19;

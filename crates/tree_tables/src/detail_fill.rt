@@ -55,7 +55,7 @@ pub fn start_records<S: Store>(store: &mut S, row: &mut Row) -> Result<(), Store
     requires { IsSorted S.Store store.old RECORDS }
     ensures passing { OnOk result (IsPassing (S.Store.view store.new)) }
     ensures looks { Looks result (state S.Store store.old) (state S.Store store.new)
-        (λ tables started. HasRecordsLeft (S.Store.view store.new) (entries tables.records)) }
+        (λ tables started. HasRecordsLeft tables.came (S.Store.view store.new) (entries tables.records)) }
     ensures schema { KeepsSchema (S.Store.view store.old) (S.Store.view store.new) }
 {
     start_pass(store, RECORDS, row)

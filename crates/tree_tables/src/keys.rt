@@ -3,6 +3,7 @@
 ghost use Rattle.std.specs.Prelude.{◌≡◌, ◌∷◌, [], OnOk, pos};
 ghost use Rattle.sqlite_value.specs.declared.value.Value.TheVariants.{Blob, Int};
 
+use crate::column_values::push_number;
 use sqlite_trees::error::StoreError;
 use sqlite_value::row::Row;
 use sqlite_value::value::ValueRef;
@@ -41,6 +42,14 @@ pub(crate) fn ruling_key(key: &mut Row, number: u32) -> Result<(), StoreError>
     ensures made { OnOk result (key.new ≡ Int (pos number) ∷ []) }
 {
     number_key(key, i64::from(number))
+}
+
+/// The number of an entry of the journal as a key.
+pub(crate) fn entry_key(key: &mut Row, number: u64) -> Result<(), StoreError>
+    ensures made { OnOk result (key.new ≡ Int (pos number) ∷ []) }
+{
+    key.clear();
+    push_number(key, number)
 }
 
 /// Bytes as a key.

@@ -14,6 +14,7 @@ mod day_rows;
 mod detail_changes;
 mod detail_fill;
 mod detail_rows;
+mod entry_rows;
 mod forms;
 mod found_names;
 mod identity_looks;
@@ -37,14 +38,15 @@ pub use choice_rows::StoredChoice;
 pub use closed_rows::Close;
 // How columns are read, for who reads the rows anew.
 pub use column_values::{
-    bytes_at, count_at, day_at, eight_at, hash_at, int_at, mark_at, name_at, number_at, period_at,
-    step_at, text_at,
+    bytes_at, count_at, day_at, eight_at, entry_at, hash_at, int_at, mark_at, name_at, number_at,
+    period_at, step_at, text_at,
 };
 pub use credit_rows::{CreditText, StoredCredit};
 pub use day_rows::{DayKey, DayRow};
 pub use detail_changes::{DetailScratch, count_in};
 pub use detail_fill::{closes_in, lines_in, next_record_in, start_records};
 pub use detail_rows::DetailStart;
+pub use entry_rows::{StoredAct, StoredEntry, read_entry};
 pub use forms::THIS_FORM;
 pub use found_names::FoundName;
 pub use late_records::LateRecord;
@@ -54,7 +56,7 @@ pub use old_choices::mark_choices;
 pub use record_rows::NewRecord;
 pub use record_walks::MOST_STEPS;
 pub use replaced_rows::{ReplacedText, StoredReplaced};
-pub use stored_record::{RecordMark, StoredRecord, data_of, read_mark, read_record};
+pub use stored_record::{RecordMark, StoredRecord, data_of, read_came, read_mark, read_record};
 pub use stored_usage::{put_data, record_with, usage_bytes, usage_in};
 pub use tables::TreeTables;
 pub use tariff_rows::{StoredTariff, TariffText};

@@ -3,7 +3,7 @@
 ghost use Rattle.std.specs.Prelude.{◌≡◌, ◌∷◌, [], ℕ, IfOk, List, OnOk, pos};
 ghost use Rattle.sqlite_value.specs.declared.value.Value.TheVariants.{Blob, Int};
 ghost use Rattle.book_model.specs.Words.{line_with, record_with};
-ghost use Rattle.table_model.specs.Tables.{RecordRow};
+ghost use Rattle.table_model.specs.Tables.{CameTable, RecordRow};
 ghost use Rattle.tree_tables.specs.Columns.{line_columns, record_columns};
 ghost use Rattle.tree_tables.specs.Stored.{SaysLine};
 
@@ -62,8 +62,8 @@ fn line_row(row: &mut Row, spot: &LineKey<'_>, plus: bool) -> Result<(), StoreEr
 
 /// The line that a stored line makes with the row of its record, which is put together in `bytes`.
 fn line_of(row: &Row, bytes: &mut Vec<u8>, stored: &StoredLine) -> Result<Line, StoreError>
-    ensures read { IfOk result (λ line. (entry : List ℕ × RecordRow)
-        → row.now ≡ record_columns entry → line ≡ line_with stored.now.plus stored.now.name
+    ensures read { IfOk result (λ line. (came : CameTable) (entry : List ℕ × RecordRow)
+        → row.now ≡ record_columns came entry → line ≡ line_with stored.now.plus stored.now.name
         (record_with entry.1.data_bytes) entry.1.priced) }
 {
     let data = data_of(row)?;

@@ -6,14 +6,14 @@ ghost use Rattle.sqlite_value.specs.Value.{owned};
 ghost use Rattle.sqlite_value.specs.declared.value.Value.TheVariants.{Int};
 ghost use Rattle.tree_rows.specs.Calls.{CommitsNothing, IsSorted, LeavesCommitted};
 ghost use Rattle.tree_rows.specs.Rows.{ChangesRow};
-ghost use Rattle.tree_tables.specs.Columns.{flag, record_columns};
+ghost use Rattle.tree_tables.specs.Columns.{came_columns, flag, record_front};
 ghost use Rattle.tree_tables.specs.Stored.{new_entry, priced_entry};
 
-use crate::column_values::{make_row, with_column};
+use crate::column_values::{make_row, push_number, with_column};
 use crate::columns::{RECORD_CHARGED, RECORD_IDENTITY, RECORD_NAME};
 use crate::found_names::FoundName;
 use crate::keys::{NOT_CHARGED, bytes_key, number_key};
-use crate::stored_record::{StoredRecord, read_record};
+use crate::stored_record::{StoredRecord, read_came, read_record};
 use crate::tables::TreeTables;
 use crate::trees::{IDENTITIES, MARKS, RECORDS};
 use sqlite_trees::error::StoreError;
@@ -44,17 +44,6 @@ pub struct NewRecord<'a> {
     pub posted: bool,
 }
 
-/// A number joins a row, where it fits a signed number of 64 bits.
-fn push_number(row: &mut Row, number: u64) -> Result<(), StoreError>
-    ensures { OnOk result (row.new ≡ row.old ++ Int (pos number) ∷ []) }
-{
-    let Ok(number) = i64::try_from(number) else {
-        return Err(StoreError::Unstorable);
-    };
-    row.push(ValueRef::Int(number))?;
-    Ok(())
-}
-
 /// What a record used and costs joins its row.
 pub(crate) fn push_price(row: &mut Row, priced: &Priced) -> Result<(), StoreError>
     ensures { OnOk result (row.new ≡ row.old ++ Int (pos priced.now.cpu)
@@ -72,9 +61,9 @@ fn mark_value<'a>(mark: bool) -> ValueRef<'a>
     ValueRef::Int(i64::from(mark))
 }
 
-/// Makes the row of a record.
+/// Makes the row of a record, but for the entry by which it came.
 fn record_row(row: &mut Row, kept: &NewRecord<'_>) -> Result<(), StoreError>
-    ensures { OnOk result (row.new ≡ record_columns (new_entry kept.now)) }
+    ensures { OnOk result (row.new ≡ record_front (new_entry kept.now)) }
 {
     make_row(
         row,
@@ -91,6 +80,16 @@ fn record_row(row: &mut Row, kept: &NewRecord<'_>) -> Result<(), StoreError>
     row.push(mark_value(kept.charged))?;
     row.push(mark_value(kept.posted))?;
     Ok(())
+}
+
+/// The number of the entry by which a record came joins its row, if it came by one.
+fn push_came(row: &mut Row, came: Option<u64>) -> Result<(), StoreError>
+    ensures { OnOk result (row.new ≡ row.old ++ came_columns came) }
+{
+    match came {
+        None => Ok(()),
+        Some(number) => push_number(row, number),
+    }
 }
 
 /// A record that was read, as its row is written where it costs this.
@@ -143,7 +142,7 @@ impl<S: Store> TreeTables<S> {
     ghost use Rattle.tree_tables.specs.Answers.{NamesSharing};
     ghost use Rattle.tree_tables.specs.States.{state_of};
     ghost use Rattle.tree_tables.specs.Steps.{Always, Does, Looks};
-    ghost use Rattle.tree_tables.specs.Stored.{IsAsRead, IsFree, new_entry};
+    ghost use Rattle.tree_tables.specs.Stored.{IsAsRead, IsFree, inserted, new_entry};
 
     /// The record of a name, if there is one.
     pub fn find_record(
@@ -201,14 +200,19 @@ impl<S: Store> TreeTables<S> {
         self.read_named(alloc, &names)
     }
 
-    /// A new record's row joins the table, and is found by its identity and by its mark. What is
-    /// under its name, if anything is, is not looked at. It is not counted yet.
-    pub fn insert_record(&mut self, kept: &NewRecord<'_>) -> Result<(), StoreError>
+    /// A new record's row joins the table, with the number of the entry by which it came, if it came
+    /// by one, and is found by its identity and by its mark. What is under its name, if anything is,
+    /// is not looked at. It is not counted yet.
+    pub fn insert_record(
+        &mut self,
+        kept: &NewRecord<'_>,
+        came: Option<u64>,
+    ) -> Result<(), StoreError>
         ensures does { Does result (state_of self.old) (state_of self.new)
-            (IsFree kept.now.name.now)
-            (step.put_record_row (new_entry kept.now).0 (new_entry kept.now).1) }
+            (IsFree kept.now.name.now) (inserted (new_entry kept.now) came) }
     {
         record_row(&mut self.row, kept)?;
+        push_came(&mut self.row, came)?;
         add_row(&mut self.store, RECORDS, &self.row)?;
         let identity = ValueRef::Blob(kept.identity);
         let name = ValueRef::Blob(kept.name);
@@ -219,14 +223,20 @@ impl<S: Store> TreeTables<S> {
     }
 
     /// A record that is as it was read costs this from now on, also where details show it. Its
-    /// identity and its marks stay, and with them the rows that find it. The row is not looked for:
-    /// it is what was read.
+    /// identity and its marks stay, and with them the rows that find it. Its row is looked for, as it
+    /// says by which entry the record came.
     pub fn set_price(&mut self, stored: &StoredRecord, priced: &Priced) -> Result<(), StoreError>
         ensures does { Does result (state_of self.old) (state_of self.new) (IsAsRead stored.now)
             (step.put_price_row stored.now.name priced.now) }
     {
-        record_row(&mut self.before, &with_price(stored, &stored.priced))?;
+        bytes_key(&mut self.key, &stored.name)?;
+        if !find_row(&mut self.store, RECORDS, &self.key, &mut self.before)? {
+            // Only a disk that lies has lost it since it was read.
+            return Err(StoreError::Corrupt);
+        }
         record_row(&mut self.row, &with_price(stored, priced))?;
+        let came = read_came(&self.before)?;
+        push_came(&mut self.row, came)?;
         change_row(&mut self.store, RECORDS, &self.before, &self.row)?;
         self.price_detail(stored, priced)
     }

@@ -126,7 +126,7 @@ impl<S: Store> TreeTables<S> {
         ensures passing { OnOk result (IsPassing (S.Store.view self.new.store)) }
         ensures looks { Looks result (state_of self.old) (state_of self.new)
             (λ tables started.
-            HasRecordsLeft (state_of self.new).view (entries tables.records)) }
+            HasRecordsLeft tables.came (state_of self.new).view (entries tables.records)) }
     {
         start_pass(&mut self.store, RECORDS, &mut self.before)
     }

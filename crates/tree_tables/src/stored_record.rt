@@ -1,16 +1,19 @@
 //! Records as their rows say.
 
 ghost use Rattle.std.specs.Prelude.{◌≡◌, ℕ, IfOk, List, pos};
+ghost use Rattle.std.specs.FinMap.{get};
 ghost use Rattle.sqlite_value.specs.Order.{column};
 ghost use Rattle.sqlite_value.specs.declared.value.Value.TheVariants.{Int, Text};
-ghost use Rattle.table_model.specs.Tables.{RecordRow};
+ghost use Rattle.table_model.specs.Tables.{CameTable, RecordRow};
 ghost use Rattle.tree_tables.specs.Columns.{record_columns};
 ghost use Rattle.tree_tables.specs.Stored.{mark_of, stored_entry};
 
-use crate::column_values::{blob_at, bytes_at, counts_at, day_at, hash_at, mark_at, name_at};
+use crate::column_values::{
+    blob_at, bytes_at, counts_at, day_at, entry_at, hash_at, mark_at, name_at,
+};
 use crate::columns::{
-    RECORD_CENTRE, RECORD_CHARGED, RECORD_CPU, RECORD_DATA, RECORD_DAY, RECORD_IDENTITY,
-    RECORD_NAME, RECORD_POSTED, RECORD_SHIFT,
+    RECORD_CAME, RECORD_CENTRE, RECORD_CHARGED, RECORD_CPU, RECORD_DATA, RECORD_DAY,
+    RECORD_IDENTITY, RECORD_NAME, RECORD_POSTED, RECORD_SHIFT,
 };
 use sqlite_trees::error::StoreError;
 use sqlite_value::row::Row;
@@ -47,8 +50,8 @@ pub struct RecordMark {
 
 /// What the row of a record says that it costs.
 pub(crate) fn read_price(row: &Row) -> Result<Priced, StoreError>
-    ensures read { IfOk result (λ priced. (entry : List ℕ × RecordRow)
-        → row.now ≡ record_columns entry → priced ≡ entry.1.priced) }
+    ensures read { IfOk result (λ priced. (came : CameTable) (entry : List ℕ × RecordRow)
+        → row.now ≡ record_columns came entry → priced ≡ entry.1.priced) }
     ensures day { IfOk result (λ priced. column row.now 3 ≡ Int priced.day) }
     ensures shift { IfOk result (λ priced. column row.now 4 ≡ Text priced.shift) }
     ensures centre { IfOk result (λ priced. column row.now 5 ≡ Text priced.centre) }
@@ -69,8 +72,8 @@ pub(crate) fn read_price(row: &Row) -> Result<Priced, StoreError>
 
 /// What the row of a record says.
 pub fn read_record(row: &Row, alloc: Global) -> Result<StoredRecord, StoreError>
-    ensures read { IfOk result (λ stored. (entry : List ℕ × RecordRow)
-        → row.now ≡ record_columns entry → stored_entry stored ≡ entry) }
+    ensures read { IfOk result (λ stored. (came : CameTable) (entry : List ℕ × RecordRow)
+        → row.now ≡ record_columns came entry → stored_entry stored ≡ entry) }
 {
     Ok(StoredRecord {
         name: hash_at(row, RECORD_NAME)?,
@@ -85,8 +88,8 @@ pub fn read_record(row: &Row, alloc: Global) -> Result<StoredRecord, StoreError>
 
 /// What the row of a record says that tells whether a period counts it.
 pub fn read_mark(row: &Row) -> Result<RecordMark, StoreError>
-    ensures read { IfOk result (λ mark. (entry : List ℕ × RecordRow)
-        → row.now ≡ record_columns entry → mark ≡ mark_of entry) }
+    ensures read { IfOk result (λ mark. (came : CameTable) (entry : List ℕ × RecordRow)
+        → row.now ≡ record_columns came entry → mark ≡ mark_of entry) }
 {
     Ok(RecordMark {
         name: hash_at(row, RECORD_NAME)?,
@@ -95,10 +98,18 @@ pub fn read_mark(row: &Row) -> Result<RecordMark, StoreError>
     })
 }
 
+/// The number of the entry by which the record of a row came, if it came by one.
+pub fn read_came(row: &Row) -> Result<Option<u64>, StoreError>
+    ensures read { IfOk result (λ number. (came : CameTable) (entry : List ℕ × RecordRow)
+        → row.now ≡ record_columns came entry → number ≡ get came entry.0) }
+{
+    entry_at(row, RECORD_CAME)
+}
+
 /// The data in the row of a record, after the descriptor; they are lent.
 pub fn data_of<'a>(row: &'a Row) -> Result<&'a [u8], StoreError>
-    ensures read { IfOk result (λ data_bytes. (entry : List ℕ × RecordRow)
-        → row.now ≡ record_columns entry → data_bytes.now ≡ entry.1.data_bytes) }
+    ensures read { IfOk result (λ data_bytes. (came : CameTable) (entry : List ℕ × RecordRow)
+        → row.now ≡ record_columns came entry → data_bytes.now ≡ entry.1.data_bytes) }
 {
     Ok(blob_at(row, RECORD_DATA)?)
 }

@@ -38,3 +38,6 @@ pub const CREDITS: u32 = 11;
 
 /// Tariffs that were replaced.
 pub const REPLACED: u32 = 12;
+
+/// Entries of the journal.
+pub const JOURNAL: u32 = 13;

@@ -20,8 +20,8 @@ returns-clause-looks g c =
     let there = record_there tables holds.records c.in_ok-bytes_key.ensures.made
     (c.in_ok-find_row.ensures.found clean) c.if-not-branch.false in
     let name = c.args.name.now in
-    let kept = c.in_ok-data_of.ensures.read (name, there.0) there.2 in
-    let priced = c.in_ok-priced.ensures.read (name, there.0) there.2 in
+    let kept = c.in_ok-data_of.ensures.read tables.came (name, there.0) there.2 in
+    let priced = c.in_ok-priced.ensures.read tables.came (name, there.0) there.2 in
     let bytes = c.in_ok-usage.ensures.value ∙ c.deref.ensures.value
     ∙ c.in_ok-put_data.ensures.bytes ∙ ap record_with kept in (
       there.0,

@@ -1,9 +1,9 @@
-use Rattle.std.proofs.Common.{◌≡◌, ◌∷◌, [], ◌∙◌, ap}
+use Rattle.std.proofs.Common.{◌≡◌, ◌∷◌, ◌++◌, [], ◌∙◌, ap}
 use Rattle.sqlite_value.specs.declared.value.Value.TheVariants.{Blob}
 use Rattle.tree_rows.proofs.Calls.{clean_before, quiet_both}
 use Rattle.tree_tables.proofs.Looking.{does_after, only_both}
 use Rattle.tree_tables.proofs.Records.{record_added}
-use Rattle.tree_tables.specs.Columns.{mark_columns}
+use Rattle.tree_tables.specs.Columns.{came_columns, mark_columns}
 use Rattle.tree_tables.specs.Holds.{mark_key}
 use Rattle.tree_tables.specs.Stored.{new_entry}
 use Rattle.tree_tables.proofs.tables.TreeTables.insert_record.Goals as goal
@@ -25,8 +25,10 @@ returns g c = record {
       let mark_is : c.make_row-2.new.row ≡ mark_columns (mark_key entry, tt) =
       c.in_ok-make_row-2.ensures.made
       ∙ ap (λ value. value ∷ Blob entry.1.identity ∷ Blob entry.0 ∷ []) c.mark_value.ensures in
-      record_added entry.0 entry.1
+      record_added entry.0 entry.1 c.args.came
       (c.in_ok-add_row.ensures.done (clean_before ghosts second before))
-      (c.in_ok-add_row-2.ensures.done before) rewritten c.in_ok-record_row.ensures
+      (c.in_ok-add_row-2.ensures.done before) rewritten
+      (c.in_ok-push_came.ensures
+      ∙ ap (λ front. front ++ came_columns c.args.came) c.in_ok-record_row.ensures)
       c.in_ok-make_row.ensures.made mark_is holds new);
 }

@@ -8,7 +8,7 @@ pub returns-then-not-branch : goal.returns-then-not-branch
 returns-then-not-branch g c = record {
   looks = looks_found g.S.Store c.last_row.ensures.quiet c.in_ok-last_row.ensures.same
       (λ clean tables holds.
-      number_none choice_layout.rest tables.choices _ c.last_row.new.row holds.choices
+      number_none (choice_layout.rest 0) tables.choices _ c.last_row.new.row holds.choices
       (rw c.if-not-branch.true at (c.in_ok-last_row.ensures.found clean)));
 }
 
@@ -18,6 +18,6 @@ returns g c = record {
   looks = looks_read g.S.Store c.number_at.result c.last_row.ensures.quiet
       c.in_ok-last_row.ensures.same c.number_at.ensures.read
       (λ number says clean tables holds.
-      number_read choice_layout.rest tables.choices _ c.last_row.new.row holds.choices number
+      number_read (choice_layout.rest 0) tables.choices _ c.last_row.new.row holds.choices number
       (rw c.if-not-branch.false at (c.in_ok-last_row.ensures.found clean)) says);
 }

@@ -32,7 +32,7 @@ returns-then-not-due g c = record {
       nothing_posted tables name through there.0 there.1
       (subst (λ day. RenewsRow (post_by day) c.find_row.new.row c.post_row.new.row false)
       (to_z-of_z w32 through c.ranges.through)
-      (rw c.if-not-due.true at c.in_ok-due.ensures) (name, there.0) there.2));
+      (rw c.if-not-due.true at c.in_ok-due.ensures) tables.came (name, there.0) there.2));
 }
 
 -- or is posted now
@@ -55,6 +55,6 @@ returns g c = record {
       written there.2
       (subst (λ day. RenewsRow (post_by day) c.find_row.new.row c.post_row.new.row true)
       (to_z-of_z w32 through c.ranges.through)
-      (rw c.if-not-due.false at c.in_ok-due.ensures) (name, there.0) there.2)
+      (rw c.if-not-due.false at c.in_ok-due.ensures) tables.came (name, there.0) there.2)
       holds);
 }

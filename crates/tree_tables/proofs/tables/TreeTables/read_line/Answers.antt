@@ -27,7 +27,7 @@ returns g c =
           (λ clean tables holds.
           let there = record_there tables holds.records c.in_ok-bytes_key.ensures.made
           (c.in_ok-find_row.ensures.found clean) c.if-not-branch.false in
-          ap Some (c.in_ok-line.ensures.read (stored.name, there.0) there.2)
+          ap Some (c.in_ok-line.ensures.read tables.came (stored.name, there.0) there.2)
           ∙ ap (option_map (λ (row : RecordRow).
           line_with stored.plus stored.name (record_with row.data_bytes) row.priced))
           (sym there.1));

@@ -1,0 +1,90 @@
+-- The rows of the journal: the columns in which entries are kept, those of the key first. The row of
+-- a ruling ends after its place.
+use Rattle.std.specs.Prelude.{ℕ, ℤ, pos, List, [], ◌∷◌, ◌++◌, Option, None, Some}
+use Rattle.std.specs.Prelude.{option_map, string_bytes}
+use Rattle.sqlite_value.specs.Order.{Row}
+use Rattle.sqlite_value.specs.declared.value.Value.TheVariants.{Blob, Int, Null, Text}
+use Rattle.book_model.specs.Journal.{AdoptionOf, AtEnd, AtFrame, AtLedger, AtRead, AtReadLimit}
+use Rattle.book_model.specs.Journal.{ChoiceOf, CloseOf, CreditOf, Ending, Note, Place, Reading}
+use Rattle.book_model.specs.Journal.{ReplacementOf, TariffOf}
+use Rattle.book_model.specs.Words.{ending_shown, note_shown, place_shown, reading_shown}
+use Rattle.table_model.specs.Tables.{ImportRow, JournalRow, RowAct, RulingRow}
+use Rattle.tree_tables.specs.declared.entry_rows.StoredAct.{StoredAct}
+use Rattle.tree_tables.specs.declared.entry_rows.StoredAct.TheVariants as stored
+use Rattle.tree_tables.specs.declared.entry_rows.StoredEntry.{StoredEntry}
+
+-- the word for a ruling
+abbrev pub place_word : Place → List ℕ
+place_word (TariffOf day) = string_bytes "TARIFF"
+place_word (CloseOf period) = string_bytes "CLOSE"
+place_word (ChoiceOf number) = string_bytes "CHOICE"
+place_word AdoptionOf = string_bytes "ADOPTION"
+place_word (ReplacementOf number) = string_bytes "REPLACEMENT"
+place_word (CreditOf number) = string_bytes "CREDIT"
+
+-- the number under which it stands, which the adoption has none of
+abbrev pub place_number : Place → ℤ
+place_number (TariffOf day) = day
+place_number (CloseOf period) = pos period
+place_number (ChoiceOf number) = pos number
+place_number AdoptionOf = pos 0
+place_number (ReplacementOf number) = pos number
+place_number (CreditOf number) = pos number
+
+-- the word for an import
+abbrev pub import_word : List ℕ
+import_word = string_bytes "IMPORT"
+
+-- why an import ended, in a word, which is empty where it goes on or was cut off
+abbrev pub ending_word : Option Ending → List ℕ
+ending_word None = []
+ending_word (Some AtEnd) = string_bytes "END"
+ending_word (Some (AtFrame number)) = string_bytes "FRAME"
+ending_word (Some AtRead) = string_bytes "READ"
+ending_word (Some AtReadLimit) = string_bytes "READLIMIT"
+ending_word (Some (AtLedger number)) = string_bytes "LEDGER"
+
+-- the number of the fault that ended it, or 0
+abbrev pub ending_number : Option Ending → ℕ
+ending_number (Some (AtFrame number)) = number
+ending_number (Some (AtLedger number)) = number
+ending_number ending = 0
+
+-- the columns of a note
+abbrev pub note_columns : Note → Row
+note_columns note =
+    Int (pos note.time) ∷ Text note.person ∷ Text note.remark ∷ Text note.file ∷ []
+
+-- those of the records of a dump that are no usage records, or were not whole
+abbrev pub other_columns : Reading → Row
+other_columns reading =
+    Int (pos reading.other) ∷ Int (pos reading.headers) ∷ Int (pos reading.trailers)
+    ∷ Int (pos reading.lost) ∷ Int (pos reading.continued) ∷ Int (pos reading.damaged) ∷ []
+
+-- those of what an import has read: the digest, the length, what was kept, and the other counts
+abbrev pub reading_columns : Reading → ℕ → Row
+reading_columns reading kept =
+    Blob reading.digest ∷ Int (pos reading.length) ∷ Int (pos kept) ∷ Int (pos reading.known)
+    ∷ Int (pos reading.unpriced) ∷ other_columns reading
+
+-- those of what an entry is about
+abbrev pub act_columns : RowAct → Row
+act_columns (RulingRow place) = Text (place_word place) ∷ Int (place_number place) ∷ []
+act_columns (ImportRow reading ending kept) =
+    Text import_word ∷ Null ∷ reading_columns reading kept
+    ++ Text (ending_word ending) ∷ Int (pos (ending_number ending)) ∷ []
+
+-- an entry under its number
+abbrev pub journal_columns : ℕ × JournalRow → Row
+journal_columns entry =
+    Int (pos entry.0) ∷ note_columns entry.1.note ++ act_columns entry.1.act
+
+-- what an entry is about, as code has it
+abbrev pub act_stored : StoredAct → RowAct
+act_stored (stored.Ruling place) = RulingRow (place_shown place)
+act_stored (stored.Import reading ending kept) =
+    ImportRow (reading_shown reading) (option_map ending_shown ending) kept
+
+-- an entry, as code has it
+abbrev pub entry_stored : StoredEntry → JournalRow
+entry_stored entry = record { note = note_shown entry.note; act = act_stored entry.act }
