@@ -25,7 +25,8 @@ use Rattle.book_trees.proofs.ListingLemmas.{rows_stand}
 use Rattle.book_trees.specs.LedgerFiles.{page_size}
 use Rattle.book_trees.specs.Listing.{lists, lists_books, lists_old_books, may_be_listed}
 use Rattle.book_trees.specs.Schema.{books_schema, choice_table, credit_table, detail_table}
-use Rattle.book_trees.specs.Schema.{old_choice_table, old_schema, replaced_table, table_object}
+use Rattle.book_trees.specs.Schema.{journal_table, old_choice_table, old_record_table, old_schema}
+use Rattle.book_trees.specs.Schema.{record_table, replaced_table, table_object}
 use Rattle.book_trees.specs.Schema.{tables_with}
 use Rattle.book_trees.specs.Texts.{credit_text, detail_text}
 use Rattle.book_trees.specs.declared.schema.OlderForm.{OlderForm}
@@ -159,9 +160,10 @@ credits_listed : (rows : List Row) → lists_books rows ≡ true
     → list_any (lists credit_table) rows ≡ true
 unfolding books_schema
 credits_listed rows books =
-    one_listed (take 11 (tables_with choice_table)) credit_table (replaced_table ∷ []) rows
-    (and_parts (list_all (λ wanted. list_any (lists wanted) rows) (tables_with choice_table))
-    (list_all (may_be_listed (tables_with choice_table)) rows) books).0
+    let tables = tables_with record_table choice_table in
+    one_listed (take 11 tables) credit_table (replaced_table ∷ journal_table ∷ []) rows
+    (and_parts (list_all (λ wanted. list_any (lists wanted) rows) tables)
+    (list_all (may_be_listed tables) rows) books).0
 
 -- which no older form has,
 no_credits : (form : OlderForm) → IsMissing (codes "credit") credit_text (old_schema form)
@@ -174,10 +176,10 @@ details_listed : (rows : List Row) → lists_old_books Second rows ≡ true
     → list_any (lists detail_table) rows ≡ true
 unfolding old_schema
 details_listed rows second =
-    one_listed (take 10 (tables_with old_choice_table)) detail_table [] rows
-    (and_parts (list_all (λ wanted. list_any (lists wanted) rows)
-    (take 11 (tables_with old_choice_table)))
-    (list_all (may_be_listed (take 11 (tables_with old_choice_table))) rows) second).0
+    let tables = tables_with old_record_table old_choice_table in
+    one_listed (take 10 tables) detail_table [] rows
+    (and_parts (list_all (λ wanted. list_any (lists wanted) rows) (take 11 tables))
+    (list_all (may_be_listed (take 11 tables)) rows) second).0
 
 -- which the first has not
 no_details : IsMissing (codes "detail") detail_text (old_schema First)

@@ -30,8 +30,10 @@ use Rattle.book_trees.proofs.Trees.{few_tables, old_only}
 use Rattle.book_trees.specs.OldForms.{AddsTables, HasOldTrees, HasGrown, IsFree, ListMore}
 use Rattle.book_trees.specs.OldForms.{GrowsOn, HasGrownTo, form_by}
 use Rattle.book_trees.specs.Schema.{choice_table, credit_table, detail_table, old_schema}
-use Rattle.book_trees.specs.Schema.{replaced_table, table_count, table_object}
-use Rattle.book_trees.specs.Texts.{choice_text, credit_text, detail_text, replaced_text}
+use Rattle.book_trees.specs.Schema.{journal_table, record_table, replaced_table, table_count}
+use Rattle.book_trees.specs.Schema.{table_object}
+use Rattle.book_trees.specs.Texts.{choice_text, credit_text, detail_text, journal_text}
+use Rattle.book_trees.specs.Texts.{record_text, replaced_text}
 use Rattle.book_trees.specs.declared.schema.OlderForm.{OlderForm}
 use Rattle.book_trees.specs.declared.schema.OlderForm.TheVariants.{First, Second}
 
@@ -80,6 +82,12 @@ no_replaced : (form : OlderForm)
 unfolding old_schema
 no_replaced First = refl
 no_replaced Second = refl
+
+no_journal : (form : OlderForm)
+    → have_others (codes "journal") (listed_from 0 (old_schema form)) ≡ true
+unfolding old_schema
+no_journal First = refl
+no_journal Second = refl
 
 -- nor those of the first the name of details
 no_detail : have_others (codes "detail") (listed_from 0 (old_schema First)) ≡ true
@@ -204,6 +212,11 @@ replaced_free view old =
     subst (AllByRecursion (λ (row : Row). column row 2 ≢ Text (codes "replaced"))) (sym old.listed)
     (none_named (codes "replaced") refl (listed_from 0 (old_schema old.form)) (no_replaced old.form))
 
+journal_free : (view : View) (old : HasOldTrees view) → IsFree (codes "journal") view
+journal_free view old =
+    subst (AllByRecursion (λ (row : Row). column row 2 ≢ Text (codes "journal"))) (sym old.listed)
+    (none_named (codes "journal") refl (listed_from 0 (old_schema old.form)) (no_journal old.form))
+
 -- in the first there is room for details,
 pub room_for_details : (object : Object) → wanted_of object ≡ detail_table → (view : View)
     → HasOldTrees view → form_by (view.shape 10) ≡ First → IsFreeFor view 10 object
@@ -245,12 +258,17 @@ details_made object is before now creates old first =
           ∙ old.none tree (let few = few_tables old.form in omega (arith, few, past)) small;
       no_floats = reals_other (codes "detail") detail_text object is 10 before now creates 8
           (λ is. absurd (cc)) ∙ old.no_floats;
+      plain_records = reals_other (codes "detail") detail_text object is 10 before now creates 3
+          (λ is. absurd (cc)) ∙ old.plain_records;
       credit_free = λ within. still_free (codes "detail") detail_text object is 10 before now creates
           (codes "credit") (other_name (codes "credit") refl (Text (codes "detail")) refl)
           (credit_free before old);
       replaced_free = λ within. still_free (codes "detail") detail_text object is 10 before now
           creates (codes "replaced") (other_name (codes "replaced") refl (Text (codes "detail")) refl)
           (replaced_free before old);
+      journal_free = λ within. still_free (codes "detail") detail_text object is 10 before now creates
+          (codes "journal") (other_name (codes "journal") refl (Text (codes "detail")) refl)
+          (journal_free before old);
       trees = λ tree small.
           let below = few tree small in
           rows_other (codes "detail") detail_text object is 10 before now creates tree
@@ -277,8 +295,10 @@ details_there view old second =
       absent = λ tree past small.
           old.none tree (let few = few_tables old.form in omega (arith, few, past)) small;
       no_floats = old.no_floats;
+      plain_records = old.plain_records;
       credit_free = λ within. credit_free view old;
       replaced_free = λ within. replaced_free view old;
+      journal_free = λ within. journal_free view old;
       trees = λ tree small. refl;
       empty = λ tree past small.
           let eleven : 11 ≤ tree = subst (λ (form : OlderForm). table_count form ≤ tree) form past in
@@ -288,58 +308,113 @@ details_there view old second =
       broken = refl;
     }
 
--- ---- the choices, the credits and the tariffs that were replaced
+-- ---- the choices, the records, the credits, the tariffs that were replaced, and the journal
 
--- the choices may be listed with their column
+-- A table that is listed anew, under its name.
+module _ (name sql : List ℕ) (object : Object) (is : wanted_of object ≡ table_object name sql)
+    (tree : ℕ)
+  where
+    -- it may be listed so where none of its columns becomes a float,
+    may_list : (form : OlderForm) (before view : View) → HasGrown 11 form before view → tree < 11
+        → view.reals tree ≡ 0 → MayRelist view (tree, object)
+    may_list form before view grown below plain = record {
+      low = omega (arith, below);
+      shaped = grown.shapes tree below ∙ sym (shape_is name sql object is);
+      present = λ absent. absurd (let there = shape_is name sql object is in cc);
+      thawed = ap is_frozen (shape_is name sql object is);
+      typed = λ c differs. absurd (differs (ap (λ (n : ℕ). bit_at n c)
+          (plain ∙ sym (reals_is name sql object is))));
+    }
+
+    module _ (old new : View) (lists : Relists old new ((tree, object) ∷ [])) where
+      list_then : new.trees catalog_tree
+          ≡ put_row (object_row tree object) (old.trees catalog_tree)
+      list_then =
+          ap (λ (v : View). v.trees catalog_tree) lists.is
+          ∙ ap (λ b. if b then put_row (object_row tree object) (old.trees catalog_tree)
+          else old.trees catalog_tree) (same catalog_tree)
+
+      rows_then : (one : ℕ) → one < tree_count → new.trees one ≡ old.trees one
+      rows_then one small =
+          ap (λ (v : View). v.trees one) lists.is
+          ∙ ap (λ b. if b then put_row (object_row tree object) (old.trees catalog_tree)
+          else old.trees one) (low one small)
+
+      free_then : (other : List ℕ) → Text name ≢ Text other → IsFree other old → IsFree other new
+      free_then other differs free =
+          subst (AllByRecursion (λ (row : Row). column row 2 ≢ Text other)) (sym list_then)
+          (all_put (λ (row : Row). column row 2 ≢ Text other) (object_row tree object)
+          (old.trees catalog_tree)
+          (λ called. differs (sym (name_is name sql object is) ∙ called)) free)
+
+      -- and all is as it was
+      grown_then : (old.reals 8 ≡ 0 → new.reals 8 ≡ 0) → (old.reals 3 ≡ 0 → new.reals 3 ≡ 0)
+          → Text name ≢ Text (codes "credit") → Text name ≢ Text (codes "replaced")
+          → Text name ≢ Text (codes "journal") → GrowsOn 11 11 old new
+      grown_then choices records credit replaced journal form before grown =
+          let shape : new.shape ≡ old.shape = ap (λ (v : View). v.shape) lists.is in
+          record {
+            numbered =
+                subst IsTrue (sym (ap (λ (v : View). v.is_numbered) lists.is)) grown.numbered;
+            shapes = λ tree small.
+                ap (λ (s : ℕ → Shape). s tree) shape ∙ grown.shapes tree small;
+            absent = λ tree past small.
+                ap (λ (s : ℕ → Shape). s tree) shape ∙ grown.absent tree past small;
+            no_floats = choices grown.no_floats;
+            plain_records = records grown.plain_records;
+            credit_free = λ within.
+                free_then (codes "credit") credit (grown.credit_free within);
+            replaced_free = λ within.
+                free_then (codes "replaced") replaced (grown.replaced_free within);
+            journal_free = λ within.
+                free_then (codes "journal") journal (grown.journal_free within);
+            trees = λ tree small.
+                rows_then tree (let few = few_tables form in omega (arith, few, small))
+                ∙ grown.trees tree small;
+            empty = λ tree past small.
+                rows_then tree (omega (arith, small)) ∙ grown.empty tree past small;
+            committed = ap (λ (v : View). v.committed) lists.is ∙ grown.committed;
+            is_open = ap (λ (v : View). v.is_open) lists.is ∙ grown.is_open;
+            broken = ap (λ (v : View). v.is_broken) lists.is ∙ grown.broken;
+          }
+
+-- the choices may be listed with their column,
 pub may_list_choices : (object : Object) → wanted_of object ≡ choice_table
     → (form : OlderForm) (before view : View) → HasGrown 11 form before view
     → MayRelist view (8, object)
-may_list_choices object is form before view grown = record {
-  low = omega arith;
-  shaped = grown.shapes 8 (omega arith) ∙ sym (shape_is (codes "choice") choice_text object is);
-  present = λ absent. absurd (let there = shape_is (codes "choice") choice_text object is in cc);
-  thawed = ap is_frozen (shape_is (codes "choice") choice_text object is);
-  typed = λ c differs. absurd (differs (ap (λ (n : ℕ). bit_at n c)
-      (grown.no_floats ∙ sym (reals_is (codes "choice") choice_text object is))));
-}
+may_list_choices object is form before view grown =
+    may_list (codes "choice") choice_text object is 8 form before view grown (omega arith)
+    grown.no_floats
 
--- and all is as it was
 pub choices_listed : (object : Object) → wanted_of object ≡ choice_table → (old new : View)
     → Relists old new ((8, object) ∷ []) → GrowsOn 11 11 old new
-choices_listed object is old new lists form before grown =
-    let list : new.trees catalog_tree ≡ put_row (object_row 8 object) (old.trees catalog_tree) =
-    ap (λ (v : View). v.trees catalog_tree) lists.is
-    ∙ ap (λ b. if b then put_row (object_row 8 object) (old.trees catalog_tree)
-    else old.trees catalog_tree) (same catalog_tree) in
-    let rows : (tree : ℕ) → tree < tree_count → new.trees tree ≡ old.trees tree =
-    λ tree small. ap (λ (v : View). v.trees tree) lists.is
-    ∙ ap (λ b. if b then put_row (object_row 8 object) (old.trees catalog_tree)
-    else old.trees tree) (low tree small) in
-    let free : (name : List ℕ) → Text (codes "choice") ≢ Text name → IsFree name old → IsFree name new =
-    λ name differs free. subst (AllByRecursion (λ (row : Row). column row 2 ≢ Text name)) (sym list)
-    (all_put (λ (row : Row). column row 2 ≢ Text name) (object_row 8 object)
-    (old.trees catalog_tree)
-    (λ called. differs (sym (name_is (codes "choice") choice_text object is) ∙ called)) free) in
-    let shape : new.shape ≡ old.shape = ap (λ (v : View). v.shape) lists.is in
-    record {
-      numbered = subst IsTrue (sym (ap (λ (v : View). v.is_numbered) lists.is)) grown.numbered;
-      shapes = λ tree small. ap (λ (s : ℕ → Shape). s tree) shape ∙ grown.shapes tree small;
-      absent = λ tree past small.
-          ap (λ (s : ℕ → Shape). s tree) shape ∙ grown.absent tree past small;
-      no_floats = ap (λ (v : View). v.reals 8) lists.is
-          ∙ reals_is (codes "choice") choice_text object is;
-      credit_free = λ within. free (codes "credit")
-          (other_name (codes "credit") refl (Text (codes "choice")) refl) (grown.credit_free within);
-      replaced_free = λ within. free (codes "replaced")
-          (other_name (codes "replaced") refl (Text (codes "choice")) refl)
-          (grown.replaced_free within);
-      trees = λ tree small.
-          rows tree (let few = few_tables form in omega (arith, few, small)) ∙ grown.trees tree small;
-      empty = λ tree past small. rows tree (omega (arith, small)) ∙ grown.empty tree past small;
-      committed = ap (λ (v : View). v.committed) lists.is ∙ grown.committed;
-      is_open = ap (λ (v : View). v.is_open) lists.is ∙ grown.is_open;
-      broken = ap (λ (v : View). v.is_broken) lists.is ∙ grown.broken;
-    }
+choices_listed object is old new lists =
+    grown_then (codes "choice") choice_text object is 8 old new lists
+    (λ plain. ap (λ (v : View). v.reals 8) lists.is
+    ∙ reals_is (codes "choice") choice_text object is)
+    (λ plain. ap (λ (v : View). v.reals 3) lists.is ∙ plain)
+    (other_name (codes "credit") refl (Text (codes "choice")) refl)
+    (other_name (codes "replaced") refl (Text (codes "choice")) refl)
+    (other_name (codes "journal") refl (Text (codes "choice")) refl)
+
+-- and the records with theirs
+pub may_list_records : (object : Object) → wanted_of object ≡ record_table
+    → (form : OlderForm) (before view : View) → HasGrown 11 form before view
+    → MayRelist view (3, object)
+may_list_records object is form before view grown =
+    may_list (codes "record") record_text object is 3 form before view grown (omega arith)
+    grown.plain_records
+
+pub records_listed : (object : Object) → wanted_of object ≡ record_table → (old new : View)
+    → Relists old new ((3, object) ∷ []) → GrowsOn 11 11 old new
+records_listed object is old new lists =
+    grown_then (codes "record") record_text object is 3 old new lists
+    (λ plain. ap (λ (v : View). v.reals 8) lists.is ∙ plain)
+    (λ plain. ap (λ (v : View). v.reals 3) lists.is
+    ∙ reals_is (codes "record") record_text object is)
+    (other_name (codes "credit") refl (Text (codes "record")) refl)
+    (other_name (codes "replaced") refl (Text (codes "record")) refl)
+    (other_name (codes "journal") refl (Text (codes "record")) refl)
 
 -- One more tree behind those that there are.
 module _ (name sql : List ℕ) (object : Object) (is : wanted_of object ≡ table_object name sql)
@@ -347,8 +422,9 @@ module _ (name sql : List ℕ) (object : Object) (is : wanted_of object ≡ tabl
     (creates : Creates old new count object)
   where
     pub grown_more : (suc count ≤ 11 → IsFree (codes "credit") new)
-        → (suc count ≤ 12 → IsFree (codes "replaced") new) → GrowsOn count (suc count) old new
-    grown_more credit replaced form before grown = record {
+        → (suc count ≤ 12 → IsFree (codes "replaced") new)
+        → (suc count ≤ 13 → IsFree (codes "journal") new) → GrowsOn count (suc count) old new
+    grown_more credit replaced journal form before grown = record {
       numbered = subst IsTrue (sym (ap (λ (v : View). v.is_numbered) creates.is)) grown.numbered;
       shapes = λ tree within. elim (cases_Bool (tree == count)) [
         | inl last ↦
@@ -366,8 +442,11 @@ module _ (name sql : List ℕ) (object : Object) (is : wanted_of object ≡ tabl
           ∙ grown.absent tree (omega (arith, past)) low;
       no_floats = reals_other name sql object is count old new creates 8
           (λ is. absurd (omega (arith, few, is))) ∙ grown.no_floats;
+      plain_records = reals_other name sql object is count old new creates 3
+          (λ is. absurd (omega (arith, few, is))) ∙ grown.plain_records;
       credit_free = credit;
       replaced_free = replaced;
+      journal_free = journal;
       trees = λ tree within.
           let most = few_tables form in
           rows_other name sql object is count old new creates tree
@@ -403,9 +482,12 @@ credits_made object is old new creates form before grown =
     (λ within. absurd (omega (arith, within)))
     (λ within. still_free (codes "credit") credit_text object is 11 old new creates
     (codes "replaced") (other_name (codes "replaced") refl (Text (codes "credit")) refl)
-    (grown.replaced_free (omega arith))) form before grown
+    (grown.replaced_free (omega arith)))
+    (λ within. still_free (codes "credit") credit_text object is 11 old new creates
+    (codes "journal") (other_name (codes "journal") refl (Text (codes "credit")) refl)
+    (grown.journal_free (omega arith))) form before grown
 
--- and the tariffs that were replaced
+-- the tariffs that were replaced,
 pub room_for_replaced : (object : Object) → wanted_of object ≡ replaced_table → (view : View)
     → HasGrownTo 12 view → IsFreeFor view 12 object
 room_for_replaced object is view grown =
@@ -414,15 +496,32 @@ room_for_replaced object is view grown =
 
 pub replaced_made : (object : Object) → wanted_of object ≡ replaced_table → (old new : View)
     → Creates old new 12 object → GrowsOn 12 13 old new
-replaced_made object is old new creates =
+replaced_made object is old new creates form before grown =
     grown_more (codes "replaced") replaced_text object is 12 (omega arith) (omega arith) old new
     creates (λ within. absurd (omega (arith, within))) (λ within. absurd (omega (arith, within)))
+    (λ within. still_free (codes "replaced") replaced_text object is 12 old new creates
+    (codes "journal") (other_name (codes "journal") refl (Text (codes "replaced")) refl)
+    (grown.journal_free (omega arith))) form before grown
+
+-- and the journal
+pub room_for_journal : (object : Object) → wanted_of object ≡ journal_table → (view : View)
+    → HasGrownTo 13 view → IsFreeFor view 13 object
+room_for_journal object is view grown =
+    room_for (codes "journal") journal_text object is 13 view (omega arith) grown.2.numbered
+    (grown.2.absent 13 (omega arith) (omega arith)) (grown.2.journal_free (omega arith))
+
+pub journal_made : (object : Object) → wanted_of object ≡ journal_table → (old new : View)
+    → Creates old new 13 object → GrowsOn 13 14 old new
+journal_made object is old new creates =
+    grown_more (codes "journal") journal_text object is 13 (omega arith) (omega arith) old new
+    creates (λ within. absurd (omega (arith, within))) (λ within. absurd (omega (arith, within)))
+    (λ within. absurd (omega (arith, within)))
 
 -- with which there are all
-pub adds_tables : (form : OlderForm) (before mid now : View) → HasGrown 12 form before mid
-    → mid.is_broken ≡ false → HasGrown 13 form before now → AddsTables form before now
-adds_tables form before mid now twelve sound grown =
-    let was : before.is_broken ≡ false = sym twelve.broken ∙ sound in
+pub adds_tables : (form : OlderForm) (before mid now : View) → HasGrown 13 form before mid
+    → mid.is_broken ≡ false → HasGrown 14 form before now → AddsTables form before now
+adds_tables form before mid now thirteen sound grown =
+    let was : before.is_broken ≡ false = sym thirteen.broken ∙ sound in
     record {
       shapes = grown.shapes;
       trees = grown.trees;

@@ -45,7 +45,9 @@ book_tree (suc (suc (suc (suc (suc (suc (suc (suc (suc (suc (suc zero)))))))))))
     is_tree refl refl
 book_tree (suc (suc (suc (suc (suc (suc (suc (suc (suc (suc (suc (suc zero)))))))))))) small =
     is_tree refl refl
-book_tree (suc (suc (suc (suc (suc (suc (suc (suc (suc (suc (suc (suc (suc tree))))))))))))) small =
+book_tree (suc (suc (suc (suc (suc (suc (suc (suc (suc (suc (suc (suc (suc zero))))))))))))) small =
+    is_tree refl refl
+book_tree (suc (suc (suc (suc (suc (suc (suc (suc (suc (suc (suc (suc (suc (suc tree)))))))))))))) small =
     absurd (omega arith)
 
 -- each tree of the schema of books is an index
@@ -131,6 +133,7 @@ has_trees store schema unaltered =
       details = sorted 10 (omega arith);
       credits = sorted 11 (omega arith);
       replaced = sorted 12 (omega arith);
+      journal = sorted 13 (omega arith);
       committed = ap all_shapes kept;
     }
 
@@ -150,7 +153,8 @@ first_only (suc (suc (suc (suc (suc (suc (suc (suc (suc zero))))))))) past small
 first_only (suc (suc (suc (suc (suc (suc (suc (suc (suc (suc zero)))))))))) past small = refl
 first_only (suc (suc (suc (suc (suc (suc (suc (suc (suc (suc (suc zero))))))))))) past small = refl
 first_only (suc (suc (suc (suc (suc (suc (suc (suc (suc (suc (suc (suc zero)))))))))))) past small = refl
-first_only (suc (suc (suc (suc (suc (suc (suc (suc (suc (suc (suc (suc (suc tree))))))))))))) past small =
+first_only (suc (suc (suc (suc (suc (suc (suc (suc (suc (suc (suc (suc (suc zero))))))))))))) past small = refl
+first_only (suc (suc (suc (suc (suc (suc (suc (suc (suc (suc (suc (suc (suc (suc tree)))))))))))))) past small =
     absurd (omega arith)
 
 second_only : (tree : ℕ) → 11 ≤ tree → tree < tree_count
@@ -169,7 +173,8 @@ second_only (suc (suc (suc (suc (suc (suc (suc (suc (suc zero))))))))) past smal
 second_only (suc (suc (suc (suc (suc (suc (suc (suc (suc (suc zero)))))))))) past small = absurd (omega arith)
 second_only (suc (suc (suc (suc (suc (suc (suc (suc (suc (suc (suc zero))))))))))) past small = refl
 second_only (suc (suc (suc (suc (suc (suc (suc (suc (suc (suc (suc (suc zero)))))))))))) past small = refl
-second_only (suc (suc (suc (suc (suc (suc (suc (suc (suc (suc (suc (suc (suc tree))))))))))))) past small =
+second_only (suc (suc (suc (suc (suc (suc (suc (suc (suc (suc (suc (suc (suc zero))))))))))))) past small = refl
+second_only (suc (suc (suc (suc (suc (suc (suc (suc (suc (suc (suc (suc (suc (suc tree)))))))))))))) past small =
     absurd (omega arith)
 
 pub old_only : (form : OlderForm) (tree : ℕ) → table_count form ≤ tree → tree < tree_count
@@ -182,6 +187,12 @@ old_plain : (form : OlderForm) → all_reals (old_schema form) 8 ≡ 0
 unfolding all_reals old_schema
 old_plain First = refl
 old_plain Second = refl
+
+-- and none of the records does
+old_records : (form : OlderForm) → all_reals (old_schema form) 3 ≡ 0
+unfolding all_reals old_schema
+old_records First = refl
+old_records Second = refl
 
 -- a store of that schema that was not changed in its transaction shows them
 pub has_old_trees : {D : Type 0} {g : Ghosts D} (form : OlderForm) (store : FileStore D g)
@@ -200,5 +211,6 @@ has_old_trees form store schema unaltered numbered clean =
       shapes = λ tree small. ap (λ s. all_shapes s tree) schema ∙ (old_tree form tree small).shape;
       none = λ tree past small. ap (λ s. all_shapes s tree) schema ∙ old_only form tree past small;
       no_floats = ap (λ s. all_reals s 8) schema ∙ old_plain form;
+      plain_records = ap (λ s. all_reals s 3) schema ∙ old_records form;
       settled = ap all_shapes kept;
     }

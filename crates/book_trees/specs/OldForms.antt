@@ -113,6 +113,7 @@ pub record HasOldTrees (view : View) : Type 0 where
   pub shapes : (tree : ℕ) → tree < table_count form → view.shape tree ≡ Index plain
   pub none : (tree : ℕ) → table_count form ≤ tree → tree < tree_count → view.shape tree ≡ Absent
   pub no_floats : view.reals 8 ≡ 0
+  pub plain_records : view.reals 3 ≡ 0
   pub settled : view.committed_shape ≡ view.shape
 
 -- A store of books of an older form is open.
@@ -142,8 +143,10 @@ pub record HasGrown (count : ℕ) (form : OlderForm) (before now : View) : Type 
   pub shapes : (tree : ℕ) → tree < count → now.shape tree ≡ Index plain
   pub absent : (tree : ℕ) → count ≤ tree → tree < tree_count → now.shape tree ≡ Absent
   pub no_floats : now.reals 8 ≡ 0
+  pub plain_records : now.reals 3 ≡ 0
   pub credit_free : count ≤ 11 → IsFree (codes "credit") now
   pub replaced_free : count ≤ 12 → IsFree (codes "replaced") now
+  pub journal_free : count ≤ 13 → IsFree (codes "journal") now
   pub trees : (tree : ℕ) → tree < table_count form → now.trees tree ≡ before.trees tree
   pub empty : (tree : ℕ) → table_count form ≤ tree → tree < count → now.trees tree ≡ []
   pub committed : now.committed ≡ before.committed

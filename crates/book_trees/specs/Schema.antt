@@ -7,7 +7,8 @@ use Rattle.sqlite_value.specs.declared.value.Value.TheVariants.{Text}
 use Rattle.book_trees.specs.Texts.{book_text, tariff_text, closed_text, record_text}
 use Rattle.book_trees.specs.Texts.{day_sum_text, line_text, record_ident_text}
 use Rattle.book_trees.specs.Texts.{record_charged_text, choice_text, choice_name_text, detail_text}
-use Rattle.book_trees.specs.Texts.{credit_text, old_choice_text, replaced_text}
+use Rattle.book_trees.specs.Texts.{credit_text, journal_text, old_choice_text, old_record_text}
+use Rattle.book_trees.specs.Texts.{replaced_text}
 use Rattle.book_trees.specs.declared.schema.OlderForm.{OlderForm}
 use Rattle.book_trees.specs.declared.schema.OlderForm.TheVariants.{First, Second}
 
@@ -41,6 +42,10 @@ closed_table = table_object (codes "closed") closed_text
 -- the records
 abbrev pub record_table : Wanted
 record_table = table_object (codes "record") record_text
+
+-- the records of older forms
+abbrev pub old_record_table : Wanted
+old_record_table = table_object (codes "record") old_record_text
 
 -- the charge rows
 abbrev pub day_sum_table : Wanted
@@ -78,13 +83,17 @@ credit_table = table_object (codes "credit") credit_text
 abbrev pub replaced_table : Wanted
 replaced_table = table_object (codes "replaced") replaced_text
 
--- The tables and indexes of books, with this table of choices. The first is tree 0.
-abbrev pub tables_with : Wanted → List Wanted
-tables_with choices =
+-- the journal
+abbrev pub journal_table : Wanted
+journal_table = table_object (codes "journal") journal_text
+
+-- The tables and indexes of books, with these tables of records and choices. The first is tree 0.
+abbrev pub tables_with : Wanted → Wanted → List Wanted
+tables_with records choices =
     first_table
     ∷ tariff_table
     ∷ closed_table
-    ∷ record_table
+    ∷ records
     ∷ day_sum_table
     ∷ line_table
     ∷ identity_index
@@ -94,18 +103,19 @@ tables_with choices =
     ∷ detail_table
     ∷ credit_table
     ∷ replaced_table
+    ∷ journal_table
     ∷ []
 
 -- how many of them books of an older form have: in the first there are no details, and in the second
--- no credits and no tariffs that were replaced
+-- no credits, no tariffs that were replaced and no journal
 abbrev pub table_count : OlderForm → ℕ
 table_count First = 10
 table_count Second = 11
 
 -- the tables and indexes of books of an older form
 unfoldable pub old_schema : OlderForm → List Wanted
-old_schema form = take (table_count form) (tables_with old_choice_table)
+old_schema form = take (table_count form) (tables_with old_record_table old_choice_table)
 
 -- and those of books of this form
 unfoldable pub books_schema : List Wanted
-books_schema = tables_with choice_table
+books_schema = tables_with record_table choice_table

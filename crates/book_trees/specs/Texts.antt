@@ -26,6 +26,14 @@ record_text =
     codes "CREATE TABLE record (name BLOB NOT NULL PRIMARY KEY, ident BLOB NOT NULL, "
     ++ codes "data BLOB NOT NULL, day INT NOT NULL, shift TEXT NOT NULL, centre TEXT NOT NULL, "
     ++ codes "cpu INT NOT NULL, blocks INT NOT NULL, amount INT NOT NULL, charged INT NOT NULL, "
+    ++ codes "posted INT NOT NULL, came INT NOT NULL DEFAULT 0) STRICT, WITHOUT ROWID"
+
+-- the same in older forms, where no record says by which entry it came
+abbrev pub old_record_text : List ℕ
+old_record_text =
+    codes "CREATE TABLE record (name BLOB NOT NULL PRIMARY KEY, ident BLOB NOT NULL, "
+    ++ codes "data BLOB NOT NULL, day INT NOT NULL, shift TEXT NOT NULL, centre TEXT NOT NULL, "
+    ++ codes "cpu INT NOT NULL, blocks INT NOT NULL, amount INT NOT NULL, charged INT NOT NULL, "
     ++ codes "posted INT NOT NULL) STRICT, WITHOUT ROWID"
 
 -- the sums for each day, cost centre and shift, in each period
@@ -88,3 +96,12 @@ abbrev pub replaced_text : List ℕ
 replaced_text =
     codes "CREATE TABLE replaced (number INT NOT NULL PRIMARY KEY, day INT NOT NULL, "
     ++ codes "period INT NOT NULL, body TEXT NOT NULL) STRICT, WITHOUT ROWID"
+
+-- the entries of the journal, by their numbers
+abbrev pub journal_text : List ℕ
+journal_text =
+    codes "CREATE TABLE journal (number INT NOT NULL PRIMARY KEY, time INT NOT NULL, "
+    ++ codes "person TEXT NOT NULL, remark TEXT NOT NULL, file TEXT NOT NULL, act TEXT NOT NULL, "
+    ++ codes "place INT, digest BLOB, length INT, kept INT, known INT, unpriced INT, other INT, "
+    ++ codes "headers INT, trailers INT, lost INT, continued INT, damaged INT, stop TEXT, "
+    ++ codes "fault INT) STRICT, WITHOUT ROWID"

@@ -9,7 +9,7 @@ ghost use Rattle.book_trees.specs.Listing.{unlisted_fault};
 ghost use Rattle.book_trees.specs.Schema.{first_table};
 
 use crate::faults::OpenFault;
-use crate::schema::{OlderForm, book_object, books_objects, old_objects, with_old_choices};
+use crate::schema::{OlderForm, book_object, books_objects, old_objects, with_old_columns};
 use sqlite_trees::schema::Object;
 use sqlite_value::order::compare;
 use sqlite_value::row::Row;
@@ -106,7 +106,7 @@ pub(crate) fn lists_books(rows: &[Row]) -> bool
 pub(crate) fn lists_old_books(rows: &[Row], form: OlderForm) -> bool
     ensures { result ≡ lists_old_books form rows.now }
 {
-    lists_exactly(rows, old_objects(&with_old_choices(), form))
+    lists_exactly(rows, old_objects(&with_old_columns(), form))
 }
 
 /// Whether they list those of books of any older form.

@@ -15,7 +15,7 @@ ghost use Rattle.book_trees.specs.LedgerFiles.{HoldsOldBooks, HoldsTables, old_t
 ghost use Rattle.book_trees.specs.LedgerFiles.{trees_held};
 ghost use Rattle.book_trees.specs.Schema.{books_schema};
 
-use crate::schema::{OlderForm, books_objects, old_objects, with_old_choices};
+use crate::schema::{OlderForm, books_objects, old_objects, with_old_columns};
 use crate::unopened::size_of_a_page;
 use sqlite_disk::{Disk, Files};
 use sqlite_store::FileStore;
@@ -102,7 +102,7 @@ pub fn close_old<D: Disk>(store: FileStore<D>, form: OlderForm) -> Closed<D>
     ensures rows { LeavesRows D.Disk store result.files }
     ensures log { LeavesLog D.Disk store result.files result.log }
 {
-    close_moved(store, old_objects(&with_old_choices(), form))
+    close_moved(store, old_objects(&with_old_columns(), form))
 }
 
 /// The same of a store of these tables and indexes.

@@ -5,7 +5,8 @@ ghost use Rattle.sqlite_store.specs.Catalog.{wanted_of};
 ghost use Rattle.book_trees.specs.Schema.{books_schema, charged_index, choice_name_index};
 ghost use Rattle.book_trees.specs.Schema.{choice_table, closed_table, credit_table, day_sum_table};
 ghost use Rattle.book_trees.specs.Schema.{detail_table, first_table, identity_index, index_object};
-ghost use Rattle.book_trees.specs.Schema.{line_table, old_choice_table, old_schema, record_table};
+ghost use Rattle.book_trees.specs.Schema.{journal_table, line_table, old_choice_table, old_schema};
+ghost use Rattle.book_trees.specs.Schema.{old_record_table, record_table};
 ghost use Rattle.book_trees.specs.Schema.{replaced_table, table_count, table_object, tables_with};
 ghost use Rattle.book_trees.specs.Schema.{tariff_table};
 
@@ -18,8 +19,8 @@ use sqlite_value::keys::Order;
 pub enum OlderForm {
     /// There are no details.
     First,
-    /// There are no credits and no tariffs that were replaced, and each record that was named by a
-    /// choice counts.
+    /// There are no credits, no tariffs that were replaced and no journal, and each record that was
+    /// named by a choice counts.
     Second,
 }
 
@@ -64,8 +65,21 @@ pub(crate) fn book_object() -> Object<'static>
 }
 
 /// The table of records.
-fn record_object() -> Object<'static>
+pub(crate) fn record_object() -> Object<'static>
     ensures { wanted_of result ≡ record_table }
+{
+    table(
+        "record",
+        "CREATE TABLE record (name BLOB NOT NULL PRIMARY KEY, ident BLOB NOT NULL, \
+         data BLOB NOT NULL, day INT NOT NULL, shift TEXT NOT NULL, centre TEXT NOT NULL, \
+         cpu INT NOT NULL, blocks INT NOT NULL, amount INT NOT NULL, charged INT NOT NULL, \
+         posted INT NOT NULL, came INT NOT NULL DEFAULT 0) STRICT, WITHOUT ROWID",
+    )
+}
+
+/// The table of records of older forms, where no record says by which entry it came.
+fn old_record_object() -> Object<'static>
+    ensures { wanted_of result ≡ old_record_table }
 {
     table(
         "record",
@@ -131,6 +145,20 @@ pub(crate) fn replaced_object() -> Object<'static>
         "replaced",
         "CREATE TABLE replaced (number INT NOT NULL PRIMARY KEY, day INT NOT NULL, \
          period INT NOT NULL, body TEXT NOT NULL) STRICT, WITHOUT ROWID",
+    )
+}
+
+/// The table of the journal, which books of older forms do not have.
+pub(crate) fn journal_object() -> Object<'static>
+    ensures { wanted_of result ≡ journal_table }
+{
+    table(
+        "journal",
+        "CREATE TABLE journal (number INT NOT NULL PRIMARY KEY, time INT NOT NULL, \
+         person TEXT NOT NULL, remark TEXT NOT NULL, file TEXT NOT NULL, act TEXT NOT NULL, \
+         place INT, digest BLOB, length INT, kept INT, known INT, unpriced INT, other INT, \
+         headers INT, trailers INT, lost INT, continued INT, damaged INT, stop TEXT, \
+         fault INT) STRICT, WITHOUT ROWID",
     )
 }
 
@@ -214,16 +242,17 @@ fn choice_name_object() -> Object<'static>
     )
 }
 
-/// What a file of books lists, with this table of choices. The tables are numbered in this order,
-/// from 0.
-fn objects_with(choices: Object<'static>) -> [Object<'static>; 13]
-    ensures { map wanted_of result ≡ tables_with (wanted_of choices.entry) }
+/// What a file of books lists, with these tables of records and choices. The tables are numbered in
+/// this order, from 0.
+fn objects_with(records: Object<'static>, choices: Object<'static>) -> [Object<'static>; 14]
+    ensures { map wanted_of result
+        ≡ tables_with (wanted_of records.entry) (wanted_of choices.entry) }
 {
     [
         book_object(),
         tariff_object(),
         closed_object(),
-        record_object(),
+        records,
         day_sum_object(),
         line_object(),
         identity_object(),
@@ -233,21 +262,22 @@ fn objects_with(choices: Object<'static>) -> [Object<'static>; 13]
         detail_object(),
         credit_object(),
         replaced_object(),
+        journal_object(),
     ]
 }
 
 /// What a file of books lists.
-pub(crate) fn books_objects() -> [Object<'static>; 13]
+pub(crate) fn books_objects() -> [Object<'static>; 14]
     ensures { map wanted_of result ≡ books_schema }
 {
-    objects_with(choice_object())
+    objects_with(record_object(), choice_object())
 }
 
-/// The same with the choices of older forms.
-pub(crate) fn with_old_choices() -> [Object<'static>; 13]
-    ensures { map wanted_of result ≡ tables_with old_choice_table }
+/// The same with the records and the choices of older forms.
+pub(crate) fn with_old_columns() -> [Object<'static>; 14]
+    ensures { map wanted_of result ≡ tables_with old_record_table old_choice_table }
 {
-    objects_with(old_choice_object())
+    objects_with(old_record_object(), old_choice_object())
 }
 
 /// How many of them books of an older form have: the first ones.
@@ -265,7 +295,7 @@ pub(crate) fn old_objects<'a>(
     objects: &'a [Object<'static>],
     form: OlderForm,
 ) -> &'a [Object<'static>]
-    requires { map wanted_of objects.now ≡ tables_with old_choice_table }
+    requires { map wanted_of objects.now ≡ tables_with old_record_table old_choice_table }
     ensures { map wanted_of result.now ≡ old_schema form }
 {
     let count = table_count(form);

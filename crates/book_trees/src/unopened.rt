@@ -7,7 +7,7 @@ ghost use Rattle.sqlite_wal.specs.PageSize.{bytes_of};
 ghost use Rattle.book_trees.specs.LedgerFiles.{page_size};
 ghost use Rattle.book_trees.specs.Schema.{books_schema, old_schema};
 
-use crate::schema::{OlderForm, books_objects, old_objects, with_old_choices};
+use crate::schema::{OlderForm, books_objects, old_objects, with_old_columns};
 use sqlite_disk::{Disk, Files};
 use sqlite_pager::{Options, Pager};
 use sqlite_store::Unopened;
@@ -77,6 +77,6 @@ pub(crate) fn unopened_old<D: Disk>(
         alloc,
         files,
         options,
-        old_objects(&with_old_choices(), form),
+        old_objects(&with_old_columns(), form),
     )
 }

@@ -12,7 +12,3 @@ returns-clause-done g c =
     on_ok c.create.result c.create.ensures.ok (λ creates clean.
     replaced_made c.replaced_object.result c.replaced_object.ensures
     (g.S.Store.view c.args.store.now) (g.S.Store.view c.create.new.self) (creates clean))
-
-pub returns-clause-sound : goal.returns-clause-sound
-returns-clause-sound g c =
-    on_ok c.create.result c.create.ensures.ok (λ creates clean. (creates clean).sound)

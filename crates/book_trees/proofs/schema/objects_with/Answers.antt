@@ -8,7 +8,7 @@ returns c = λ i.
     c.book_object.ensures i
     ∷ c.tariff_object.ensures i
     ∷ c.closed_object.ensures i
-    ∷ c.record_object.ensures i
+    ∷ wanted_of c.args.records
     ∷ c.day_sum_object.ensures i
     ∷ c.line_object.ensures i
     ∷ c.identity_object.ensures i
@@ -18,4 +18,5 @@ returns c = λ i.
     ∷ c.detail_object.ensures i
     ∷ c.credit_object.ensures i
     ∷ c.replaced_object.ensures i
+    ∷ c.journal_object.ensures i
     ∷ []

@@ -8,7 +8,7 @@ use Rattle.book_trees.proofs.schema.old_objects.Goals as goal
 -- there are more
 pub slice_bounds-result-end : goal.slice_bounds-result-end
 slice_bounds-result-end c =
-    let many : length c.args.objects.now ≡ 13 =
+    let many : length c.args.objects.now ≡ 14 =
     sym (length-map c.args.objects.now wanted_of) ∙ ap length c.requires in
     let few : c.table_count-count.result ≤ 11 =
     subst (λ (n : ℕ). n ≤ 11) (sym c.table_count-count.ensures) (few_tables c.args.form) in
