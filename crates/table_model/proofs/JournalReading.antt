@@ -162,14 +162,14 @@ module _ (naming : Naming) (book : Book) (sound : IsSound naming book) where
     came = came_with (tables_of naming book).records (tables_of naming book).came
 
     -- the entry of a place kept what is held
-    kept_among : (newer : List Entry) (entry : Entry) (older : List Entry)
+    pub kept_among : (newer : List Entry) (entry : Entry) (older : List Entry)
         → AreEntries book.held (newer ++ entry ∷ older) → AreAmong (kept_by entry.act) book.held
     kept_among [] entry older are = first-among book.held entry older are
     kept_among (new ∷ newer) entry older are =
         kept_among newer entry older (rest-are book.held new (newer ++ entry ∷ older) are)
 
     -- what came by an entry is what it kept
-    came_is : (newer : List Entry) (entry : Entry) (older : List Entry) (number : ℕ)
+    pub came_is : (newer : List Entry) (entry : Entry) (older : List Entry) (number : ℕ)
         → book.journal ≡ newer ++ entry ∷ older → number ≡ length older + 1
         → came number ≡ kept_by entry.act
     came_is newer entry older number is its =
