@@ -52,7 +52,7 @@ module _ {K V : Type 0} {R : K → K → Ordering} (total : IsTotalOrder R) (exa
     )
 
     -- so what holds of all that is found in a map holds of its entries
-    each_entry : (P : K × V → Type 0) (m : FinMap R V)
+    pub each_entry : (P : K × V → Type 0) (m : FinMap R V)
         → ((key : K) (value : V) → get m key ≡ Some value → P (key, value))
         → AllByRecursion P (entries m)
     each_entry P m each =

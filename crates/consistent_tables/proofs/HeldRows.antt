@@ -138,7 +138,7 @@ pub lines_exact : IsAntisymmetric (by_period by_bytes)
 lines_exact = by_period_exact by_bytes exact_bytes
 
 -- the row that has a record
-record_named : (bytes : List ℕ) (found : Option RecordRow)
+pub record_named : (bytes : List ℕ) (found : Option RecordRow)
     → option_map_or (is bytes) (option_map row_record found) false ≡ true
     → (row : RecordRow) × (found ≡ Some row) × (bytes ≡ row_record row)
 record_named bytes None one = absurd (true≢false (sym one))

@@ -13,7 +13,8 @@ use Rattle.book_model.specs.Words.{members, most_cost, most_held, open_by, price
 use Rattle.table_model.specs.BookIn.{book_in, close_after, row_record}
 use Rattle.table_model.specs.DisputesRead.{NamedRow}
 use Rattle.table_model.specs.PeriodLists.{AreFramed, HasLines, IsApart}
-use Rattle.table_model.specs.Readable.{IsCredited, IsReplaced, IsTimely, IsWithinLimits}
+use Rattle.table_model.specs.Readable.{IsCredited, IsReadable, IsReplaced, IsTimely}
+use Rattle.table_model.specs.Readable.{IsWithinLimits}
 use Rattle.table_model.specs.Tables.{RecordRow, Tables}
 use Rattle.table_model.specs.TablesOf.{tables_of}
 use Rattle.table_model.proofs.HeldPeriods.{period_apart}
@@ -23,6 +24,7 @@ use Rattle.table_model.proofs.RowsWhere.{members_held}
 use Rattle.consistent_tables.specs.Consistent.{AreConsistent, IsOwnCredit, IsOwnReplaced, ruled}
 use Rattle.consistent_tables.specs.Laws.{ConsistentAreReadable}
 use Rattle.consistent_tables.proofs.ChargedSets.{days}
+use Rattle.consistent_tables.proofs.JournalTable.{journaled}
 use Rattle.consistent_tables.proofs.HeldRows.{held, row_of}
 use Rattle.consistent_tables.proofs.PeriodLinks.{chain, ends}
 use Rattle.consistent_tables.proofs.RecordTable.{records_are}
@@ -118,9 +120,10 @@ module _ (naming : Naming) (tables : Tables) (whole : AreConsistent naming table
       })
       (ruled tables).credits whole.credits_own
 
--- the law
-pub consistent_are_readable : ConsistentAreReadable
-consistent_are_readable naming tables whole = record {
+-- all of it
+can_be_read : (naming : Naming) (tables : Tables) → AreConsistent naming tables
+    → IsReadable naming (book_in tables)
+can_be_read naming tables whole = record {
   sound = sound naming tables whole;
   lines = has_lines naming tables whole;
   usage = are_usage naming tables whole;
@@ -136,3 +139,7 @@ consistent_are_readable naming tables whole = record {
   credited = are_credited naming tables whole;
   limits = within_limits naming tables whole;
 }
+
+-- the law
+pub consistent_are_readable : ConsistentAreReadable
+consistent_are_readable = record { books = can_be_read; journals = journaled }

@@ -9,6 +9,8 @@ use Rattle.book_model.specs.Words.{Book, Credit, IsDay, Naming, Replaced, Ruling
 use Rattle.book_model.specs.Words.{last_period, most_choices, most_credits, most_replaced, open_by}
 use Rattle.book_model.specs.Words.{rows_of, second_rule}
 use Rattle.table_model.specs.DisputesRead.{NamedRow}
+use Rattle.table_model.specs.JournalRows.{journal_rows}
+use Rattle.table_model.specs.Journaled.{IsJournaled}
 use Rattle.table_model.specs.Readable.{IsBegun, IsCredited, IsReadable, IsReplaced, IsTexted}
 use Rattle.table_model.specs.Readable.{IsTimely}
 use Rattle.table_model.specs.Tables.{ChoiceRow, Tables, never_adopted}
@@ -25,6 +27,7 @@ use Rattle.consistent_tables.specs.Laws.{ReadableAreConsistent}
 use Rattle.consistent_tables.proofs.ChainTold.{ruled_back}
 use Rattle.consistent_tables.proofs.CountedRows.{counted_due}
 use Rattle.consistent_tables.proofs.DayTable.{days_due}
+use Rattle.consistent_tables.proofs.JournalOwn.{own_came, own_entries}
 use Rattle.consistent_tables.proofs.ReadableBook.{rows_many}
 use Rattle.consistent_tables.proofs.ReadableRows.{own_lines, own_rows}
 
@@ -43,7 +46,8 @@ rule_own book (Some period) begun =
     let was = begun period refl in
     inr (refl, was.numbered, was.begun)
 
-module _ (naming : Naming) (book : Book) (whole : IsReadable naming book) where
+module _ (naming : Naming) (book : Book) (whole : IsReadable naming book)
+    (journaled : IsJournaled book) where
   abbrev tables : Tables
   tables = tables_of naming book
 
@@ -97,6 +101,10 @@ module _ (naming : Naming) (book : Book) (whole : IsReadable naming book) where
               said = own.said;
             })
             book.rulings.credits whole.credited);
+        entered = entries-numbers (journal_rows book.journal)
+            ∙ ap (under_numbers 1) (sym (values-numbers (journal_rows book.journal)));
+        kept = own_entries naming book whole.sound whole.lines journaled;
+        came = own_came naming book whole.sound whole.lines journaled;
         records = own_rows naming book whole;
         lines = own_lines naming book whole;
         days = days_due naming book whole
@@ -119,4 +127,4 @@ module _ (naming : Naming) (book : Book) (whole : IsReadable naming book) where
 
 -- the law
 pub readable_are_consistent : ReadableAreConsistent
-readable_are_consistent naming book whole = consistent naming book whole
+readable_are_consistent naming book whole journaled = consistent naming book whole journaled

@@ -13,6 +13,7 @@ use Rattle.consistent_tables.specs.Consistent.{AreConsistent, charged_back, coun
 use Rattle.consistent_tables.specs.Consistent.{is_counted_row, periods_after}
 use Rattle.consistent_tables.specs.DueRows.{due_entry, period_from}
 use Rattle.consistent_tables.specs.Laws.{ConsistentAreTables}
+use Rattle.consistent_tables.proofs.JournalTable.{came_are, journal_are}
 use Rattle.consistent_tables.proofs.LineTable.{lines_are}
 use Rattle.consistent_tables.proofs.ReadableBook.{as_many, consistent_are_readable, cost_is}
 use Rattle.consistent_tables.proofs.ReadableTables.{readable_are_consistent}
@@ -78,7 +79,8 @@ module _ (naming : Naming) (tables : Tables) (whole : AreConsistent naming table
       let records = records_are naming tables whole in
       let lines = lines_are naming tables whole in
       let also = readable_are_consistent naming (book_in tables)
-      (consistent_are_readable naming tables whole) in
+      (consistent_are_readable.books naming tables whole)
+      (consistent_are_readable.journals naming tables whole) in
       let days = same_days tables made closes records lines naming whole also in
       let counted = same_names tables made closes records lines naming whole also in
       λ i. record {
@@ -92,6 +94,8 @@ module _ (naming : Naming) (tables : Tables) (whole : AreConsistent naming table
         days = days i;
         lines = lines i;
         counted = counted i;
+        journal = journal_are naming tables whole i;
+        came = came_are naming tables whole i;
       }
 
 -- the law

@@ -10,11 +10,12 @@ use Rattle.std.specs.Ordering.{int_cmp}
 use Rattle.book_model.specs.Words.{IsDay, IsPriced, IsUsageRecord, Naming, Rulings, first_rule}
 use Rattle.book_model.specs.Words.{Credit, IsCreditOf, Replaced, identity_by, last_period}
 use Rattle.book_model.specs.Words.{most_choices, most_cost, most_credits, most_held, most_replaced}
-use Rattle.book_model.specs.Words.{name_of}
+use Rattle.book_model.specs.Words.{Records, has, members, name_of}
 use Rattle.book_model.specs.Words.{open_by, price_in, rows_of, second_rule}
-use Rattle.table_model.specs.BookIn.{row_record, rulings_of_tables}
+use Rattle.table_model.specs.BookIn.{came_with, row_record, rulings_of_tables}
 use Rattle.table_model.specs.Readable.{IsTexted}
-use Rattle.table_model.specs.Tables.{BookRow, ChoiceRow, RecordRow, Tables, never_adopted}
+use Rattle.table_model.specs.Tables.{BookRow, ChoiceRow, ImportRow, JournalRow, RecordRow}
+use Rattle.table_model.specs.Tables.{RowAct, RulingRow, Tables, never_adopted}
 use Rattle.table_model.specs.TablesOf.{close_entries, replaced_row, tariff_entries, under_numbers}
 use Rattle.table_model.specs.Views.{is_due_in}
 use Rattle.consistent_tables.specs.DueRows.{due_entry, period_from}
@@ -97,13 +98,27 @@ pub record IsOwnReplaced (last : ℕ) (replaced : Replaced) : Type 0 where
   pub begun : (0 < replaced.period) × (replaced.period ≤ last)
   pub texted : IsTexted replaced.tariff
 
+-- what a row of the journal says of the records that came by it: an import kept so many, and by a
+-- ruling came none
+abbrev pub IsKeptBy : Records → RowAct → Type 0
+IsKeptBy records (RulingRow place) = (bytes : List ℕ) → has records bytes ≡ false
+IsKeptBy records (ImportRow reading ending kept) = kept ≡ length (members records)
+
+-- what came by an entry is a record that is held, and the entry is one of the journal
+pub record IsOwnCame (tables : Tables) (name : List ℕ) (number : ℕ) : Type 0 where
+  pub row : RecordRow
+  pub held : get tables.records name ≡ Some row
+  pub numbered : 0 < number
+  pub there : number ≤ length (values tables.journal)
+
 -- the rows of the records that charge rows count, by name
 abbrev pub counted_entries : Tables → List (List ℕ × RecordRow)
 counted_entries tables = filter (is_counted_row tables) (entries tables.records)
 
 -- All of it: tariffs, closes, choices, replaced tariffs and credits are rulings that could be
 -- made, each record and each line is right by them, and what is kept beside the records is what
--- follows from these.
+-- follows from these. The entries of the journal have numbers without gaps, and each says how many
+-- records came by it.
 pub record AreConsistent (naming : Naming) (tables : Tables) : Type 0 where
   pub texts : All IsTexted (ruled tables).tariffs
   pub tariffs : tariff_entries (ruled tables).tariffs ≡ entries tables.tariffs
@@ -121,6 +136,13 @@ pub record AreConsistent (naming : Naming) (tables : Tables) : Type 0 where
   pub replaced_own : All (IsOwnReplaced (open_by (ruled tables))) (ruled tables).replaced
   pub credits : entries tables.credits ≡ under_numbers 1 (ruled tables).credits
   pub credits_own : All (IsOwnCredit (open_by (ruled tables))) (ruled tables).credits
+  pub entered : entries tables.journal ≡ under_numbers 1 (values tables.journal)
+  pub kept :
+      (number : ℕ) (row : JournalRow) → get tables.journal number ≡ Some row
+      → IsKeptBy (came_with tables.records tables.came number) row.act
+  pub came :
+      (name : List ℕ) (number : ℕ) → get tables.came name ≡ Some number
+      → IsOwnCame tables name number
   pub records :
       (name : List ℕ) (row : RecordRow) → get tables.records name ≡ Some row
       → IsOwnRow naming tables name row
