@@ -85,6 +85,9 @@ act_stored (stored.Ruling place) = RulingRow (place_shown place)
 act_stored (stored.Import reading ending kept) =
     ImportRow (reading_shown reading) (option_map ending_shown ending) kept
 
--- an entry, as code has it
+-- an entry that is to be written, and one that was read
+abbrev pub entry_given : Note → StoredAct → JournalRow
+entry_given note act = record { note = note; act = act_stored act }
+
 abbrev pub entry_stored : StoredEntry → JournalRow
-entry_stored entry = record { note = note_shown entry.note; act = act_stored entry.act }
+entry_stored entry = entry_given (note_shown entry.note) entry.act

@@ -6,7 +6,7 @@ ghost use Rattle.sqlite_value.specs.declared.value.Value.TheVariants.{Int, Text}
 ghost use Rattle.book_model.specs.Words.{ending_shown, note_shown, place_shown, reading_shown};
 ghost use Rattle.tree_tables.specs.EntriesRead.{SaysAct, SaysEntry, SaysNote, SaysReading};
 ghost use Rattle.tree_tables.specs.JournalColumns as spec;
-ghost use Rattle.tree_tables.specs.JournalColumns.{act_columns, act_stored, entry_stored};
+ghost use Rattle.tree_tables.specs.JournalColumns.{act_columns, act_stored, entry_given};
 ghost use Rattle.tree_tables.specs.JournalColumns.{journal_columns, note_columns};
 ghost use Rattle.tree_tables.specs.JournalColumns.{reading_columns};
 
@@ -173,12 +173,13 @@ fn push_act(row: &mut Row, act: &StoredAct) -> Result<(), StoreError>
 }
 
 /// Makes the row of an entry.
-fn entry_row(row: &mut Row, number: u64, entry: &StoredEntry) -> Result<(), StoreError>
-    ensures { OnOk result (row.new ≡ journal_columns (number, entry_stored entry.now)) }
+fn entry_row(row: &mut Row, number: u64, note: &Note, act: &StoredAct) -> Result<(), StoreError>
+    ensures { OnOk result (row.new
+        ≡ journal_columns (number, entry_given (note_shown note.now) act.now)) }
 {
     entry_key(row, number)?;
-    push_note(row, &entry.note)?;
-    push_act(row, &entry.act)
+    push_note(row, note)?;
+    push_act(row, act)
 }
 
 /// What the row of an entry says of its note.
@@ -313,21 +314,22 @@ pub fn read_entry(row: &Row, alloc: Global) -> Result<StoredEntry, StoreError>
 }
 
 impl<S: Store> TreeTables<S> {
-    ghost use Rattle.std.specs.Prelude.{◌≡◌};
+    ghost use Rattle.std.specs.Prelude.{◌≡◌, ◌<◌, ◌^◌, IfOk};
+    ghost use Rattle.book_model.specs.Words.{note_shown};
     ghost use Rattle.table_model.specs.Steps as step;
     ghost use Rattle.tree_tables.specs.Answers.{last_number};
     ghost use Rattle.tree_tables.specs.EntriesRead.{FindsEntry};
-    ghost use Rattle.tree_tables.specs.JournalColumns.{entry_stored};
+    ghost use Rattle.tree_tables.specs.JournalColumns.{entry_given};
     ghost use Rattle.tree_tables.specs.States.{state_of};
     ghost use Rattle.tree_tables.specs.Steps.{Always, Does, Looks};
 
     /// An entry is kept under its number, in the place of the one that is there.
-    pub fn put_entry(&mut self, number: u64, entry: &StoredEntry) -> Result<(), StoreError>
+    pub fn put_entry(&mut self, number: u64, note: &Note, act: &StoredAct) -> Result<(), StoreError>
         ensures does { Does result (state_of self.old) (state_of self.new) Always
-            (step.put_journal_row number (entry_stored entry.now)) }
+            (step.put_journal_row number (entry_given (note_shown note.now) act.now)) }
     {
         entry_key(&mut self.key, number)?;
-        entry_row(&mut self.row, number, entry)?;
+        entry_row(&mut self.row, number, note, act)?;
         put_row(
             &mut self.store,
             JOURNAL,
@@ -357,6 +359,7 @@ impl<S: Store> TreeTables<S> {
     pub fn last_entry(&mut self) -> Result<u64, StoreError>
         ensures looks { Looks result (state_of self.old) (state_of self.new)
             (λ tables number. number ≡ last_number tables.journal) }
+        ensures small { IfOk result (λ number. number < 2 ^ 63) }
     {
         if !last_row(&mut self.store, JOURNAL, &mut self.row)? {
             return Ok(0);
