@@ -42,6 +42,7 @@ pub mod Laws
 pub mod Answers
 pub mod Faults
 pub mod Notes
+pub mod ListedEntries
 pub mod JournalLaws
 pub mod Words
 pub mod Std

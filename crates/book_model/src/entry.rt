@@ -1,3 +1,6 @@
+use crate::listed_ruling::ListedRuling;
+use crate::note::{Note, Reading};
+
 /// Where a ruling stands among those of the office.
 #[derive(Clone, Copy, PartialEq, Eq)]
 pub enum Place {
@@ -28,4 +31,22 @@ pub enum Ending {
     ReadLimit,
     /// The books refused to go on, or memory ran out.
     Ledger(u8),
+}
+
+/// What an entry of the journal is about, as a list of them shows it.
+#[derive(Drop)]
+pub enum ListedAct {
+    /// A ruling that was done: where it stands, and the ruling itself.
+    Ruling(Place, Option<ListedRuling>),
+    /// An import: what it has read, why it ended, if it did, and how many records it kept.
+    Import(Reading, Option<Ending>, u64),
+}
+
+/// An entry of the journal, as a list of them shows it.
+#[derive(Drop)]
+pub struct ListedEntry {
+    /// Its number, from 1.
+    pub number: u64,
+    pub note: Note,
+    pub act: ListedAct,
 }
