@@ -31,6 +31,12 @@ unfoldable pub reasoned_credit : List ℕ → ℤ → List ℕ → List ℕ
 reasoned_credit centre amount reason =
     centre ++ codes " " ++ credit_text amount ++ codes " " ++ reason
 
+-- the line of a tariff that took the place of another, by the number of that
+unfoldable pub replacing_line : ℤ → List ℕ → ℕ → List ℕ
+replacing_line day text number =
+    codes "TARIFF " ++ day_text_of day ++ codes " " ++ file_columns text ++ codes " REPLACES "
+    ++ decimal number ++ newline
+
 -- the line of a ruling
 unfoldable pub ruling_line : RulingSeen → List ℕ
 ruling_line (TariffSeen day text) =

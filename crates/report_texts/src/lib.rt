@@ -15,6 +15,7 @@ mod dry_runs;
 mod fields;
 mod figures;
 mod focus_tables;
+mod journal_lists;
 mod life_lines;
 mod midnights;
 mod moments;
@@ -58,6 +59,7 @@ pub use fields::{
 };
 pub use figures::{Figures, figures_of, record_count, record_count_from, record_count_under};
 pub use focus_tables::{FocusHead, focus_table};
+pub use journal_lists::{push_came_line, push_entry_lines, push_journal_head};
 pub use life_lines::is_charge;
 pub use moments::push_time;
 pub use period_lists::period_list_text;

@@ -20,7 +20,7 @@ fn two_digits(alloc: Global, number: u32) -> Result<String, AllocError>
 }
 
 /// Appends a number in two digits.
-fn push_two_digits(out: &mut Draft, number: u32)
+pub(crate) fn push_two_digits(out: &mut Draft, number: u32)
     ensures { out.new ≡ out.old ++ spec.in_two_digits number }
 {
     let made = two_digits(out.alloc(), number);

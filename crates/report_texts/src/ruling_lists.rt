@@ -52,6 +52,21 @@ fn push_tariff(out: &mut Draft, day: i32, text: &str)
     out.push('\n');
 }
 
+/// Appends the line of a tariff that took the place of another, by the number of that.
+#[tactic(auto, unfolding(crate::specs::RulingLists::replacing_line))]
+pub(crate) fn push_replacing(out: &mut Draft, day: i32, text: &str, number: u32)
+    requires { IsDay day }
+    ensures { out.new ≡ out.old ++ spec.replacing_line day text.now number }
+{
+    out.push_str("TARIFF ");
+    out.push_day(day);
+    out.push(' ');
+    push_file(out, text);
+    out.push_str(" REPLACES ");
+    out.push_number(u64::from(number));
+    out.push('\n');
+}
+
 /// Appends a close, by its period and its day.
 #[tactic(auto, unfolding(crate::specs::RulingLists::close_words))]
 pub(crate) fn push_close_words(out: &mut Draft, period: u16, through: i32)
@@ -140,7 +155,7 @@ fn push_credit(out: &mut Draft, number: u32, period: u16, centre: Name, amount: 
 
 /// Appends the line of a ruling.
 #[tactic(auto, unfolding(crate::specs::RulingLists::ruling_line))]
-fn push_ruling(out: &mut Draft, ruling: &ListedRuling)
+pub(crate) fn push_ruling(out: &mut Draft, ruling: &ListedRuling)
     requires { HasDays (ruling_shown ruling.now) }
     ensures { out.new ≡ out.old ++ spec.ruling_line (ruling_shown ruling.now) }
 {
