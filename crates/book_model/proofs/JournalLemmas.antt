@@ -158,7 +158,7 @@ imports_are_free before one other ruled between =
 -- ---- each record came by one import
 
 -- of two tests neither holds
-neither : (a b : Bool) → (a || b) ≡ false → (a ≡ false) × (b ≡ false)
+pub neither : (a b : Bool) → (a || b) ≡ false → (a ≡ false) × (b ≡ false)
 neither true b none = absurd (true≢false none)
 neither false b none = (refl, none)
 
@@ -239,11 +239,11 @@ end-kept ending (Importing reading kept) = refl
 end-kept ending (Imported reading before kept) = refl
 
 -- an event that keeps no record
-abbrev KeepsNone : Event → Type 0
+abbrev pub KeepsNone : Event → Type 0
 KeepsNone (RecordKept bytes) = ⊥
 KeepsNone event = Unit {0}
 
-alike_after : (event : Event) (ruled : Rulings) (entries : List Entry) → KeepsNone event
+pub alike_after : (event : Event) (ruled : Rulings) (entries : List Entry) → KeepsNone event
     → Alike (entries_after event ruled entries) entries
 alike_after (RecordKept bytes) ruled entries none = absurd none
 alike_after (PeriodClosed said day) ruled entries none = alike-entry said _ entries
@@ -284,13 +284,13 @@ keep-still new (Ruled place) off = refl
 keep-still new (Importing reading kept) off = absurd (true≢false off)
 keep-still new (Imported reading ending kept) off = refl
 
-still-all : (new : List ℕ) (entries : List Entry) → goes_on_in entries ≡ false
+pub still-all : (new : List ℕ) (entries : List Entry) → goes_on_in entries ≡ false
     → change_newest (keep_in new) entries ≡ entries
 still-all new [] off = refl
 still-all new (entry ∷ older) off =
     ap (λ act. record entry { act = act } ∷ older) (keep-still new entry.act off)
 
-other-times : (new other : List ℕ) (entries : List Entry) → is other new ≡ false
+pub other-times : (new other : List ℕ) (entries : List Entry) → is other new ≡ false
     → times_kept (change_newest (keep_in new) entries) other ≡ times_kept entries other
 other-times new other [] apart = refl
 other-times new other (entry ∷ older) apart =
@@ -310,7 +310,7 @@ pub cond_none : (b : Bool) (rest : ℕ) → cond b 1 0 + rest ≡ 0 → (b ≡ f
 cond_none true rest none = absurd (omega arith)
 cond_none false rest none = (refl, omega arith)
 
-new-times : (new : List ℕ) (entries : List Entry) → goes_on_in entries ≡ true
+pub new-times : (new : List ℕ) (entries : List Entry) → goes_on_in entries ≡ true
     → times_kept entries new ≡ 0 → times_kept (change_newest (keep_in new) entries) new ≡ 1
 new-times new [] on none = absurd (true≢false (sym on))
 new-times new (entry ∷ older) on none =
