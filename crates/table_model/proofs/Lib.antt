@@ -58,6 +58,7 @@ pub mod AdoptChanges
 pub mod DueStays
 pub mod JournalChanges
 pub mod JournalFew
+pub mod JournalStays
 pub mod EventLemmas
 pub mod PeriodReading
 pub mod PeriodPlaces
