@@ -1,14 +1,14 @@
 -- Entries of the journal, as they are read of their rows.
 use Rattle.std.proofs.Common.{◌≡◌, ◌∙◌, ℕ, ℤ, pos, List, [], ◌∷◌, ◌++◌, Option, None, Some, map}
 use Rattle.std.proofs.Common.{Bool, false, true, ap, refl, subst, sym}
-use Rattle.std.specs.Prelude.{if◌then◌else◌, option_map, string_bytes}
+use Rattle.std.specs.Prelude.{option_map, string_bytes}
 use Rattle.std.specs.FinMap.{entries, get}
 use Rattle.sqlite_value.specs.Order.{Row}
 use Rattle.sqlite_value.specs.declared.value.Value.TheVariants.{Int, Text}
 use Rattle.book_model.specs.Journal.{AdoptionOf, AtEnd, AtFrame, AtLedger, AtRead, AtReadLimit}
 use Rattle.book_model.specs.Journal.{ChoiceOf, CloseOf, CreditOf, Ending, Note, Place, Reading}
 use Rattle.book_model.specs.Journal.{ReplacementOf, TariffOf}
-use Rattle.book_model.specs.Words.{ending_shown, note_shown, place_shown, reading_shown, same_bytes}
+use Rattle.book_model.specs.Words.{ending_shown, note_shown, place_shown, reading_shown}
 use Rattle.book_model.specs.declared.entry.Ending.{Ending as StoredEnding}
 use Rattle.book_model.specs.declared.note.Note.{Note as StoredNote}
 use Rattle.book_model.specs.declared.note.Reading.{Reading as StoredReading}
@@ -19,7 +19,7 @@ use Rattle.tree_rows.proofs.Keyed.{row_found}
 use Rattle.tree_tables.specs.EntriesRead.{FindsEntry, SaysAct, SaysEntry, SaysNote, SaysReading}
 use Rattle.tree_tables.specs.JournalColumns.{act_columns, act_stored, ending_number, ending_word}
 use Rattle.tree_tables.specs.JournalColumns.{entry_stored, import_word, journal_columns}
-use Rattle.tree_tables.specs.JournalColumns.{place_number, place_word}
+use Rattle.tree_tables.specs.JournalColumns.{ending_in, place_in, place_number, place_word}
 use Rattle.tree_tables.specs.declared.entry_rows.StoredAct.{StoredAct}
 use Rattle.tree_tables.specs.declared.entry_rows.StoredAct.TheVariants as stored
 use Rattle.tree_tables.specs.declared.entry_rows.StoredEntry.{StoredEntry}
@@ -28,23 +28,7 @@ use Rattle.tree_tables.proofs.RowsRead.{same_blob, same_count, same_int, same_te
 
 -- ---- places and endings are known by their words and numbers
 
-count_of : ℤ → ℕ
-count_of (pos n) = n
-count_of n = 0
-
-abbrev is_word : List ℕ → List ℕ → Bool
-is_word word other = same_bytes word other
-
-place_in : List ℕ → ℤ → Place
-place_in word number =
-    if is_word word (string_bytes "TARIFF") then TariffOf number
-    else if is_word word (string_bytes "CLOSE") then CloseOf (count_of number)
-    else if is_word word (string_bytes "CHOICE") then ChoiceOf (count_of number)
-    else if is_word word (string_bytes "REPLACEMENT") then ReplacementOf (count_of number)
-    else if is_word word (string_bytes "CREDIT") then CreditOf (count_of number)
-    else AdoptionOf
-
-place_back : (place : Place) → place_in (place_word place) (place_number place) ≡ place
+pub place_back : (place : Place) → place_in (place_word place) (place_number place) ≡ place
 place_back (TariffOf day) = refl
 place_back (CloseOf period) = refl
 place_back (ChoiceOf number) = refl
@@ -57,16 +41,7 @@ same_place : (one other : Place) → place_word one ≡ place_word other
 same_place one other word number =
     sym (place_back one) ∙ (λ i. place_in (word i) (number i)) ∙ place_back other
 
-ending_in : List ℕ → ℕ → Option Ending
-ending_in word number =
-    if is_word word (string_bytes "END") then Some AtEnd
-    else if is_word word (string_bytes "FRAME") then Some (AtFrame number)
-    else if is_word word (string_bytes "READ") then Some AtRead
-    else if is_word word (string_bytes "READLIMIT") then Some AtReadLimit
-    else if is_word word (string_bytes "LEDGER") then Some (AtLedger number)
-    else None
-
-ending_back : (ending : Option Ending)
+pub ending_back : (ending : Option Ending)
     → ending_in (ending_word ending) (ending_number ending) ≡ ending
 ending_back None = refl
 ending_back (Some AtEnd) = refl

@@ -1,13 +1,13 @@
 -- The rows of the journal: the columns in which entries are kept, those of the key first. The row of
 -- a ruling ends after its place.
 use Rattle.std.specs.Prelude.{ℕ, ℤ, pos, List, [], ◌∷◌, ◌++◌, Option, None, Some}
-use Rattle.std.specs.Prelude.{option_map, string_bytes}
+use Rattle.std.specs.Prelude.{if◌then◌else◌, option_map, string_bytes}
 use Rattle.sqlite_value.specs.Order.{Row}
 use Rattle.sqlite_value.specs.declared.value.Value.TheVariants.{Blob, Int, Null, Text}
 use Rattle.book_model.specs.Journal.{AdoptionOf, AtEnd, AtFrame, AtLedger, AtRead, AtReadLimit}
 use Rattle.book_model.specs.Journal.{ChoiceOf, CloseOf, CreditOf, Ending, Note, Place, Reading}
 use Rattle.book_model.specs.Journal.{ReplacementOf, TariffOf}
-use Rattle.book_model.specs.Words.{ending_shown, note_shown, place_shown, reading_shown}
+use Rattle.book_model.specs.Words.{ending_shown, note_shown, place_shown, reading_shown, same_bytes}
 use Rattle.table_model.specs.Tables.{ImportRow, JournalRow, RowAct, RulingRow}
 use Rattle.tree_tables.specs.declared.entry_rows.StoredAct.{StoredAct}
 use Rattle.tree_tables.specs.declared.entry_rows.StoredAct.TheVariants as stored
@@ -49,6 +49,31 @@ abbrev pub ending_number : Option Ending → ℕ
 ending_number (Some (AtFrame number)) = number
 ending_number (Some (AtLedger number)) = number
 ending_number ending = 0
+
+-- a number that is not below 0
+abbrev pub count_of : ℤ → ℕ
+count_of (pos n) = n
+count_of n = 0
+
+-- the place that a word and a number stand for
+abbrev pub place_in : List ℕ → ℤ → Place
+place_in word number =
+    if same_bytes word (string_bytes "TARIFF") then TariffOf number
+    else if same_bytes word (string_bytes "CLOSE") then CloseOf (count_of number)
+    else if same_bytes word (string_bytes "CHOICE") then ChoiceOf (count_of number)
+    else if same_bytes word (string_bytes "REPLACEMENT") then ReplacementOf (count_of number)
+    else if same_bytes word (string_bytes "CREDIT") then CreditOf (count_of number)
+    else AdoptionOf
+
+-- the end of an import that they stand for
+abbrev pub ending_in : List ℕ → ℕ → Option Ending
+ending_in word number =
+    if same_bytes word (string_bytes "END") then Some AtEnd
+    else if same_bytes word (string_bytes "FRAME") then Some (AtFrame number)
+    else if same_bytes word (string_bytes "READ") then Some AtRead
+    else if same_bytes word (string_bytes "READLIMIT") then Some AtReadLimit
+    else if same_bytes word (string_bytes "LEDGER") then Some (AtLedger number)
+    else None
 
 -- the columns of a note
 abbrev pub note_columns : Note → Row
