@@ -60,7 +60,7 @@ times-behind (one ∷ newer) entry bytes =
     omega (arith, first, rest, own)
 
 -- the names of the records by the numbers of their entries, where so many entries came before
-came_from : Naming → ℕ → List Entry → List (List ℕ × ℕ)
+abbrev came_from : Naming → ℕ → List Entry → List (List ℕ × ℕ)
 came_from naming base [] = []
 came_from naming base (entry ∷ older) =
     under_names naming (length older + base + 1) (kept_by entry.act) ++ came_from naming base older
