@@ -6,6 +6,7 @@ use Rattle.book_model.proofs.Std.{AllZip, cons_option, entries, All-cons}
 use Rattle.book_model.specs.Words.{no_rulings, IsDay, Book, Naming, Rulings, AcceptedTerms}
 use Rattle.book_model.specs.Words.{second_rule}
 use Rattle.book_core.specs.Words.{IsOpenAt, ruled_in}
+use Rattle.table_model.specs.Journaled.{IsJournaled}
 use Rattle.table_model.specs.Words.{BookRow, Tables, tables_of, adopted_read, tariff_read}
 use Rattle.table_model.specs.Words.{IsReadable}
 use Rattle.table_model.proofs.BookLemmas.{rulings_back}
@@ -123,17 +124,17 @@ remembered naming book summary whole recalls =
 -- books that were read are open
 pub read_open : (naming : Naming) (old new : State) (summary : Summary) (book : Book)
     → LeavesTheLast new.view new.may_leave → Reads (Ok summary) old new → HasCleanDisk new
-    → IsReadable naming book → Stores old.view (tables_of naming book)
+    → IsReadable naming book → IsJournaled book → Stores old.view (tables_of naming book)
     → IsOpenAt naming book (seen_on (record {
       naming = naming;
       state = new;
       must_reopen = false;
       summary = summary;
     }))
-read_open naming old new summary book last reads clean readable keeping =
+read_open naming old new summary book last reads clean readable journaled keeping =
     let read = reads.read clean in
     let tables = tables_of naming book in
-    opened naming new summary book last clean readable
+    opened naming new summary book last clean readable journaled
     (record {
       holds = holds_on old.view new.view tables read.same keeping.holds;
       rest = rest_on old.view new.view read.same keeping.rest;

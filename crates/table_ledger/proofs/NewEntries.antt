@@ -68,6 +68,7 @@ pub still_free : (period : ℕ) (effects : Effects) (tables : Tables) (name : Li
 still_free period effects tables name free = record {
   none = new_still effects.unmark tables.records name free.none;
   uncounted = still_uncounted effects tables.counted name free.uncounted;
+  came = free.came;
 }
 
 -- a record that was written under a free name is not counted yet

@@ -4,6 +4,7 @@ use Rattle.book_model.specs.Words.{Book, new_book, Naming, no_rulings}
 use Rattle.book_core.specs.Words.{IsOpenAt, ruled_in}
 use Rattle.table_model.specs.Words.{new_tables, Tables, tables_of, IsReadable}
 use Rattle.table_model.proofs.EventLemmas.{new_follow}
+use Rattle.table_model.specs.Journaled.{IsJournaled}
 use Rattle.table_model.proofs.CallsLemmas.{calls_stay}
 use Rattle.table_model.proofs.ReadableLemmas.{calls_read}
 use Rattle.table_ledger.proofs.Words.{State, HasCleanDisk, Stores, IsStoredIn, IsReadyAt, Remembers}
@@ -13,6 +14,7 @@ use Rattle.table_ledger.specs.declared.summary.Summary.{Summary}
 -- the ledger is open at the book
 pub opened : (naming : Naming) (state : State) (summary : Summary) (book : Book)
     → LeavesTheLast state.view state.may_leave → HasCleanDisk state → IsReadable naming book
+    → IsJournaled book
     → Stores state.view (tables_of naming book) → Remembers summary book
     → IsOpenAt naming book (seen_on (record {
       naming = naming;
@@ -20,10 +22,10 @@ pub opened : (naming : Naming) (state : State) (summary : Summary) (book : Book)
       must_reopen = false;
       summary = summary;
     }))
-opened naming state summary book last clean readable keeping remembers =
+opened naming state summary book last clean readable journaled keeping remembers =
     let rest = keeping.rest in
     let kept : IsStoredIn naming book state.view.trees =
-    record { readable = readable; holds = keeping.holds } in
+    record { readable = readable; journaled = journaled; holds = keeping.holds } in
     let ready : IsReadyAt naming summary state.view book = record {
       rest = rest;
       kept = kept;
@@ -58,6 +60,7 @@ pub created : (naming : Naming) (state : State) (summary : Summary)
 created naming state summary last clean keeping none choices replaced credits held total =
     opened naming state summary new_book last clean
     (calls_read.books naming new_book (calls_stay.start naming))
+    (calls_read.journals naming new_book (calls_stay.start naming))
     (subst (Stores state.view) (new_follow naming) keeping)
     (record {
       rulings = none;

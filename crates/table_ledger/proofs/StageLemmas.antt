@@ -13,6 +13,7 @@ use Rattle.table_ledger.proofs.Words.{only_both, Saw, Remembers, IsAtAs, LeavesO
 use Rattle.table_ledger.proofs.Words.{StagesAs, StagesBy}
 use Rattle.table_ledger.specs.Ready.{IsStoredAs}
 use Rattle.table_ledger.specs.declared.summary.Summary.{Summary}
+use Rattle.table_model.proofs.JournalStays.{journaled_stays}
 use Rattle.table_model.proofs.ReadableStays.{readable_stays}
 use Rattle.table_ledger.proofs.Remembered.{remembers_as}
 use Rattle.table_ledger.proofs.SurvivalLemmas.{clean_before, survives_then}
@@ -163,7 +164,8 @@ stage_steps {naming = naming} {first = first} {middle = middle} {last = last} {w
       let changes = does.done clean in
       let whole = at.kept.readable in
       let follows =
-      event_follows naming book event.event whole.sound whole.usage event.answered whole.rising in
+      event_follows naming book event.event whole.sound whole.usage at.kept.journaled event.answered
+      whole.rising in
       record {
         events = event.event ∷ [];
         made = (event.answer, ap listed (sym event.is));
@@ -171,6 +173,7 @@ stage_steps {naming = naming} {first = first} {middle = middle} {last = last} {w
         only = only_both first.view (only_looks first.view seen.same) changes.only;
         kept = record {
           readable = readable_stays naming book event.event whole event.submitted event.answered;
+          journaled = journaled_stays naming book event.event at.kept.journaled event.answered;
           holds = subst (Holds last.view.trees) (event.changes ∙ ap written (sym follows))
               (changes.made tables
               (holds_on first.view middle.view tables seen.same at.kept.holds) event.when);

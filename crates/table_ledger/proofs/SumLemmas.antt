@@ -25,6 +25,7 @@ pub sums_remembered : {naming : Naming} {was : Summary} {view : View} {book : Bo
 sums_remembered {naming = naming} {view = view} at = record {
   kept = record {
     readable = at.kept.readable;
+    journaled = at.kept.journaled;
     holds = subst (Holds view.trees) (sums_there naming at.remembers) at.kept.holds;
   };
   remembers = at.remembers;
@@ -37,6 +38,7 @@ pub sums_written : {naming : Naming} {is : Summary} {middle new : View} {book : 
 sums_written {naming = naming} {new = new} {book = book} held amount changes at = record {
   kept = record {
     readable = at.kept.readable;
+    journaled = at.kept.journaled;
     holds = subst (Holds new.trees) (sym (sums_there naming at.remembers))
         (changes.made (set_sums held amount (tables_of naming book)) at.kept.holds
         (record { held_is = refl; amount_is = refl }));

@@ -12,6 +12,7 @@ use Rattle.book_core.specs.Words.{IsOpenAt, Seen, ruled_in}
 use Rattle.book_core.specs.declared.listed_rulings.RulingCounts.{RulingCounts}
 use Rattle.table_model.specs.Words.{Tables, never_adopted, tables_of, tariff_read, IsReadable}
 use Rattle.table_model.specs.BookIn.{rulings_of_tables}
+use Rattle.table_model.specs.Journaled.{IsJournaled}
 use Rattle.tree_tables.specs.Answers.{last_number}
 use Rattle.tree_tables.specs.Holds.{Holds}
 use Rattle.tree_tables.specs.Steps.{Sees}
@@ -105,7 +106,8 @@ ReadsByRow there (Err fault) = fault ≡ NotBooks → there ≡ false
 -- A book that can be read back, and that the store held, is open now, where the disk is clean.
 abbrev pub OpensStored : Naming → View → State → Seen → Type 0
 OpensStored naming old new seen =
-    HasCleanDisk new → (book : Book) → IsReadable naming book → Stores old (tables_of naming book)
+    HasCleanDisk new → (book : Book) → IsReadable naming book → IsJournaled book
+    → Stores old (tables_of naming book)
     → IsOpenAt naming book seen
 
 -- Books are looked for in a store, and nothing is committed.

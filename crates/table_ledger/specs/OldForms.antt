@@ -8,6 +8,7 @@ use Rattle.book_model.specs.Std.{empty, entries}
 use Rattle.book_model.specs.Words.{Book, Naming, by_bytes, set_of}
 use Rattle.table_model.specs.Words.{charged_before_lines, first_line, count_row, IsReadable}
 use Rattle.table_model.specs.Words.{RecordRow, Tables, tables_of}
+use Rattle.table_model.specs.Journaled.{IsJournaled}
 use Rattle.tree_tables.specs.OldChoices.{HoldsOld}
 use Rattle.table_ledger.specs.declared.upgrading.Counted.{Counted}
 
@@ -19,6 +20,7 @@ uncounted tables = record tables { counted = empty }
 pub record IsStoredOld (written : Tables → Tables) (naming : Naming) (book : Book) (trees : Trees)
     : Type 0 where
   pub readable : IsReadable naming book
+  pub journaled : IsJournaled book
   pub holds : HoldsOld trees (written (tables_of naming book))
 
 -- the open period, by the closes

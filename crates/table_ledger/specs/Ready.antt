@@ -5,6 +5,7 @@ use Rattle.sqlite_trees.specs.Tree.{Trees}
 use Rattle.sqlite_trees.specs.View.{View}
 use Rattle.book_model.specs.Words.{total_of, Book, Naming, Rulings, members, no_rulings}
 use Rattle.table_model.specs.Words.{tables_of, IsReadable, Tables}
+use Rattle.table_model.specs.Journaled.{IsJournaled}
 use Rattle.tree_tables.specs.Holds.{Holds}
 use Rattle.table_ledger.specs.Commits.{IsAtRest}
 use Rattle.book_core.specs.Words.{ruled_in}
@@ -28,11 +29,12 @@ pub record Remembers (summary : Summary) (book : Book) : Type 0 where
   pub held : summary.held ≡ length (members book.held)
   pub total : summary.total ≡ total_of book.rulings book.held
 
--- the trees hold the tables of the book, which can be read back, as they are when only so much of
--- them is written
+-- the trees hold the tables of the book, which can be read back, its journal too, as they are when
+-- only so much of them is written
 pub record IsStoredAs (written : Tables → Tables) (naming : Naming) (book : Book) (trees : Trees)
     : Type 0 where
   pub readable : IsReadable naming book
+  pub journaled : IsJournaled book
   pub holds : Holds trees (written (tables_of naming book))
 
 -- all of them

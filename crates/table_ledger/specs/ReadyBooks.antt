@@ -6,26 +6,33 @@ use Rattle.sqlite_trees.specs.View.{View, IsClean}
 use Rattle.book_model.specs.Std.{empty, values}
 use Rattle.book_model.specs.Words.{Book, Naming, Period, Records}
 use Rattle.book_core.specs.Ledgers.{StopIsHarmless}
+use Rattle.table_model.specs.Tables.{CameTable}
 use Rattle.table_model.specs.Words.{CountedTable, Tables, tables_of, book_in, charged_before}
 use Rattle.table_model.specs.Words.{close_after, past_in, period_in, records_of_rows}
 use Rattle.table_model.proofs.BookLemmas.{book_follows}
 use Rattle.table_ledger.specs.Ready.{IsReadyAt, IsStoredIn}
 use Rattle.table_ledger.specs.LedgerState.{book_of_trees, AreBooks, seen_of}
-use Rattle.table_ledger.specs.TablesRead.{tables_read}
+use Rattle.table_ledger.proofs.CameNames.{among_all}
+use Rattle.table_ledger.specs.TablesRead.{came_among, tables_read}
 use Rattle.table_ledger.specs.declared.summary.Summary.{Summary}
 
--- the book that tables determine does not depend on which names are counted
-past_alike : (counted : CountedTable) (tables : Tables) (k : ℕ) (charged : Records)
-    → past_in k charged (record tables { counted = counted }) ≡ past_in k charged tables
-past_alike counted tables zero charged = refl
-past_alike counted tables (suc k) charged =
+-- the book that tables determine does not depend on which names are counted; and but for its journal
+-- on by which entries records came
+past_alike : (counted : CountedTable) (came : CameTable) (tables : Tables) (k : ℕ)
+    (charged : Records)
+    → past_in k charged (record tables { counted = counted; came = came })
+    ≡ past_in k charged (record tables { came = came })
+past_alike counted came tables zero charged = refl
+past_alike counted came tables (suc k) charged =
     let period : Period = period_in (suc k) (close_after k (values tables.closes)) charged tables in
-    ap (λ past. past ++ period ∷ []) (past_alike counted tables k (charged_before period charged))
+    ap (λ past. past ++ period ∷ [])
+    (past_alike counted came tables k (charged_before period charged))
 
-book_alike : (counted : CountedTable) (tables : Tables)
-    → book_in (record tables { counted = counted }) ≡ book_in tables
-book_alike counted tables = λ i. record (book_in tables) {
-  past = past_alike counted tables (length (values tables.closes))
+book_alike : (counted : CountedTable) (came : CameTable) (tables : Tables)
+    → book_in (record tables { counted = counted; came = came })
+    ≡ book_in (record tables { came = came })
+book_alike counted came tables = λ i. record (book_in (record tables { came = came })) {
+  past = past_alike counted came tables (length (values tables.closes))
       (records_of_rows (λ row. row.posted) tables.records) i;
 }
 
@@ -34,7 +41,10 @@ pub book_of_stored : {naming : Naming} {book : Book} {trees : Trees} → IsStore
     → book_of_trees trees ≡ book
 book_of_stored {naming} {book} {trees} kept =
     ap book_in (tables_read trees (tables_of naming book) kept.holds)
-    ∙ book_alike empty (tables_of naming book) ∙ book_follows naming book kept.readable
+    ∙ book_alike empty (came_among (tables_of naming book)) (tables_of naming book)
+    ∙ ap (λ came. book_in (record (tables_of naming book) { came = came }))
+    (among_all naming book kept.readable.sound kept.readable.lines kept.journaled)
+    ∙ book_follows naming book kept.readable kept.journaled
 
 -- what a ledger that is ready shows determines its book
 pub book_of_ready : {naming : Naming} {summary : Summary} {view : View} {book : Book}

@@ -1,7 +1,7 @@
 -- The tables that trees determine, whatever they hold. Which records are counted is not read back: it
 -- follows from the book.
 use Rattle.std.specs.Prelude.{ℕ, ℤ, pos, negsuc, Bool, List, [], ◌∷◌, map, ◌==◌, not, Option, Some}
-use Rattle.std.specs.Prelude.{None}
+use Rattle.std.specs.Prelude.{None, filter_map, if◌then◌else◌, option_map}
 use Rattle.std.specs.FinMap.{empty, from_entries}
 use Rattle.sqlite_trees.specs.Tree.{Trees}
 use Rattle.sqlite_value.specs.Order.{Row, column, bytes}
@@ -9,8 +9,11 @@ use Rattle.sqlite_value.specs.declared.value.Value.{Value}
 use Rattle.sqlite_value.specs.declared.value.Value.TheVariants.{Int, Text}
 use Rattle.book_model.specs.declared.row.ChargeRow.{ChargeRow}
 use Rattle.book_model.specs.declared.row.RowKey.{RowKey}
-use Rattle.book_model.specs.Words.{Credit}
-use Rattle.table_model.specs.Tables.{BookRow, ChoiceRow, RecordRow, ReplacedRow, Tables}
+use Rattle.book_model.specs.Words.{Credit, Note, Reading, same_bytes}
+use Rattle.table_model.specs.Tables.{BookRow, ChoiceRow, ImportRow, JournalRow, RecordRow}
+use Rattle.table_model.specs.Tables.{ReplacedRow, RowAct, RulingRow, Tables}
+use Rattle.tree_tables.proofs.EntryRows.{ending_in, place_in}
+use Rattle.tree_tables.specs.JournalColumns.{import_word}
 
 -- the number that a value is
 abbrev pub int_value : Value → ℤ
@@ -106,6 +109,51 @@ replaced_row_in row = (
   },
 )
 
+-- the note of an entry
+abbrev pub note_in : Row → Note
+note_in row = record {
+  time = count_in row 1;
+  person = bytes (column row 2);
+  remark = bytes (column row 3);
+  file = bytes (column row 4);
+}
+
+-- what an import has read, by the row of its entry
+abbrev pub reading_in : Row → Reading
+reading_in row = record {
+  digest = bytes (column row 7);
+  length = count_in row 8;
+  known = count_in row 10;
+  unpriced = count_in row 11;
+  other = count_in row 12;
+  headers = count_in row 13;
+  trailers = count_in row 14;
+  lost = count_in row 15;
+  continued = count_in row 16;
+  damaged = count_in row 17;
+}
+
+-- what an entry is about: an import, if its word is that of one
+abbrev pub act_in : Row → RowAct
+act_in row =
+    if same_bytes (bytes (column row 5)) import_word
+    then ImportRow (reading_in row) (ending_in (bytes (column row 18)) (count_in row 19))
+    (count_in row 9)
+    else RulingRow (place_in (bytes (column row 5)) (int_value (column row 6)))
+
+abbrev pub entry_in : Row → ℕ × JournalRow
+entry_in row = (count_in row 0, record { note = note_in row; act = act_in row })
+
+-- the number of the entry by which the record of a row came, if it came by one
+abbrev pub number_value : Value → Option ℕ
+number_value (Int n) = Some (count_value n)
+number_value value = None
+
+abbrev pub came_in : Row → Option (List ℕ × ℕ)
+came_in row =
+    option_map {U = List ℕ × ℕ} (λ number. (bytes (column row 0), number))
+    (number_value (column row 11))
+
 -- the row of the book, by the first row of its tree
 abbrev pub book_row_in : List Row → BookRow
 book_row_in [] = record { rule = 0; adopted = 0; held = 0; amount = 0 }
@@ -129,4 +177,6 @@ tables_in trees = record {
   days = from_entries (map day_in (trees 4));
   lines = from_entries (map line_in (trees 5));
   counted = empty;
+  journal = from_entries (map entry_in (trees 13));
+  came = from_entries (filter_map came_in (trees 3));
 }
