@@ -94,7 +94,7 @@ module _ (trees : Trees) (numbers : Numbers) (sound : AreSound trees numbers) wh
   its = consistent_are_tables sha_names tables are_consistent
 
   can_be_read : IsReadable sha_names (book_in tables)
-  can_be_read = consistent_are_readable sha_names tables are_consistent
+  can_be_read = consistent_are_readable.books sha_names tables are_consistent
 
   are_counts : AreCountsOf (book_in tables) numbers
   are_counts = record {
