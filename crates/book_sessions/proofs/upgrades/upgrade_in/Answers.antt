@@ -17,6 +17,6 @@ returns-in-Err-write_tables-clause-left g c = λ book stands clean trees left.
     let at = rests_still (c.in-Ok.ensures.same looked) (stands first) in
     elim (written.crash clean trees left) [
       | inl was ↦ inl (subst (IsLeftInOld file_names book)
-            (at.rest.settled ∙ sym (g.met.S.Store.settled mid trees at.rest.is_open was)) at.kept)
+          (at.rest.settled ∙ sym (g.met.S.Store.settled mid trees at.rest.is_open was)) at.kept)
       | inr brings ↦ inr (brings book at)
     ]
