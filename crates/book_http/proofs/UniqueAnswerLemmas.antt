@@ -7,7 +7,7 @@ use Rattle.book_model.specs.declared.fault.LedgerFault.TheVariants.{NoSuchPeriod
 use Rattle.book_model.specs.declared.fault.LedgerFault.TheVariants.{NoSuchTariff}
 use Rattle.book_model.specs.declared.fault.LedgerFault.TheVariants.{TariffRefused}
 use Rattle.book_core.specs.Words.{Calls, Transition}
-use Rattle.book_import.specs.declared.receipt.Stop.TheVariants.{End, Frame, Read, ReadLimit, Ledger}
+use Rattle.book_model.specs.declared.note.Stop.TheVariants.{End, Frame, Read, ReadLimit, Ledger}
 use Rattle.book_import.specs.Handled.{Imported, Answering, answers_of, handle, handle_all}
 use Rattle.book_import.specs.Handled.{continue_with, nothing_imported}
 use Rattle.book_import.specs.Imports.{GivesReceipt, whole, out_of_memory, store_failed}

@@ -3,7 +3,7 @@ use Rattle.std.specs.Prelude.{◌≡◌, ◌≢◌, ℕ, Bool, false, List, ◌+
 use Rattle.book_model.specs.Words.{Naming, Book, Event, after_all, book_after, book_of, IsMadeByCalls}
 use Rattle.book_model.specs.declared.fault.LedgerFault.TheVariants.{DigestClash}
 use Rattle.book_import.specs.declared.receipt.Receipt.{Receipt}
-use Rattle.book_import.specs.declared.receipt.Stop.TheVariants.{Ledger}
+use Rattle.book_model.specs.declared.note.Stop.TheVariants.{Ledger}
 use Rattle.book_import.specs.Repeats as imports
 use Rattle.book_http.specs.declared.status.Status.TheVariants.{Unavailable}
 use Rattle.book_http.specs.Answer.{Answers}

@@ -12,8 +12,8 @@ use Rattle.book_core.specs.Calls.{listed}
 use Rattle.book_core.proofs.FollowLemmas.{accept_event-answered, made_more}
 use Rattle.book_core.specs.Follow.{MakesAnswered}
 use Rattle.book_import.specs.declared.receipt.Receipt.{Receipt}
-use Rattle.book_import.specs.declared.receipt.Stop.{Stop}
-use Rattle.book_import.specs.declared.receipt.Stop.TheVariants.{Ledger}
+use Rattle.book_model.specs.declared.note.Stop.{Stop}
+use Rattle.book_model.specs.declared.note.Stop.TheVariants.{Ledger}
 use Rattle.book_import.specs.Handled.{Imported, answers_of, after_answer, handle_by, handle, continue_with}
 use Rattle.book_import.specs.Handled.{handle_all, nothing_imported}
 use Rattle.book_import.specs.Imports.{Handles, whole, out_of_memory, store_failed}

@@ -11,8 +11,8 @@ use Rattle.book_model.specs.declared.fault.LedgerFault.{LedgerFault}
 use Rattle.book_model.specs.declared.fault.LedgerFault.TheVariants.{Memory, Store}
 use Rattle.book_core.specs.Calls.{listed}
 use Rattle.book_import.specs.declared.receipt.Receipt.{Receipt}
-use Rattle.book_import.specs.declared.receipt.Stop.{Stop}
-use Rattle.book_import.specs.declared.receipt.Stop.TheVariants.{Ledger}
+use Rattle.book_model.specs.declared.note.Stop.{Stop}
+use Rattle.book_model.specs.declared.note.Stop.TheVariants.{Ledger}
 use Rattle.book_import.specs.Handled.{Imported, answers_of, after_answer, handle_by, handle, continue_with}
 use Rattle.book_import.specs.Handled.{handle_all, nothing_imported}
 use Rattle.book_import.specs.Imports.{Handles, whole, out_of_memory, store_failed}

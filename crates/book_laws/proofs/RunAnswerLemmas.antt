@@ -5,7 +5,7 @@ use Rattle.book_model.proofs.Std.{All-head, All-tail}
 use Rattle.book_model.specs.Words.{front, Book, Event, after_all, Naming, Outcome}
 use Rattle.book_core.specs.Words.{Calls, Seen, IsOpenAt, IsTransition}
 use Rattle.book_import.specs.declared.receipt.Receipt.{Receipt}
-use Rattle.book_import.specs.declared.receipt.Stop.{Stop}
+use Rattle.book_model.specs.declared.note.Stop.{Stop}
 use Rattle.book_import.specs.Dumps.{stop_after}
 use Rattle.book_import.specs.Imports.{Handles, whole, out_of_memory, store_failed}
 use Rattle.office.specs.declared.request.Asked.{Asked}

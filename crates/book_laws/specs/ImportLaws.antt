@@ -3,7 +3,7 @@ use Rattle.std.specs.Prelude.{◌≡◌, ℕ, ◌+◌, List, length, Ok}
 use Rattle.book_model.specs.Words.{Naming, Book, after_all, members}
 use Rattle.book_core.specs.Words.{Books, Seen, IsOpenAt, books, IsTransition}
 use Rattle.book_import.specs.declared.receipt.Receipt.{Receipt}
-use Rattle.book_import.specs.declared.receipt.Stop.{Stop}
+use Rattle.book_model.specs.declared.note.Stop.{Stop}
 use Rattle.book_import.specs.Receipts.{counted}
 use Rattle.book_import.specs.Imports.{Imports}
 use Rattle.book_import.specs.Laws.{book_after_import, import_of_records, IsUnrefused}

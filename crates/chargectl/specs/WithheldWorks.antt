@@ -10,8 +10,8 @@ use Rattle.book_core.specs.Words.{Transition}
 use Rattle.book_import.specs.DumpNames.{AreNamed}
 use Rattle.book_import.specs.ReadLimits.{most_reads}
 use Rattle.book_import.specs.declared.names_in_dumps.DumpNames.{DumpNames}
-use Rattle.book_import.specs.declared.receipt.Stop.{Stop}
-use Rattle.book_import.specs.declared.receipt.Stop.TheVariants.{Ledger}
+use Rattle.book_model.specs.declared.note.Stop.{Stop}
+use Rattle.book_model.specs.declared.note.Stop.TheVariants.{Ledger}
 use Rattle.book_reports.specs.ReceiptLines.{withheld_line_text}
 use Rattle.named_books.specs.declared.repository.RepositoryFault.{RepositoryFault}
 use Rattle.named_books.specs.Shelves.{Shelf, IsOpened, IsThere, IsUntouched}

@@ -5,8 +5,8 @@ use Rattle.book_model.specs.declared.fault.LedgerFault.{LedgerFault}
 use Rattle.book_model.specs.declared.fault.LedgerFault.TheVariants.{Memory, Store}
 use Rattle.book_model.specs.Words.{front, Book, Event, Outcome, rule_outcome, Naming}
 use Rattle.book_core.specs.Calls.{listed}
-use Rattle.book_import.specs.declared.receipt.Stop.{Stop}
-use Rattle.book_import.specs.declared.receipt.Stop.TheVariants.{Ledger}
+use Rattle.book_model.specs.declared.note.Stop.{Stop}
+use Rattle.book_model.specs.declared.note.Stop.TheVariants.{Ledger}
 use Rattle.book_import.specs.Dumps.{stop_after}
 use Rattle.book_import.specs.Laws.{import_of_records}
 use Rattle.book_reports.specs.BookTexts.{report_outcome}

@@ -14,7 +14,7 @@ use Rattle.book_core.specs.Calls.{Calls}
 use Rattle.book_core.specs.Transition.{Transition, IsTransition}
 use Rattle.book_core.specs.Ledgers.{Books}
 use Rattle.book_import.specs.declared.receipt.Receipt as receipt
-use Rattle.book_import.specs.declared.receipt.Stop.{Stop}
+use Rattle.book_model.specs.declared.note.Stop.{Stop}
 use Rattle.book_import.specs.Imports.{Imports}
 use Rattle.book_import.specs.Reach.{IsReadFor}
 use Rattle.book_import.specs.ReadLimits.{cut_by, most_reads, read_length}
