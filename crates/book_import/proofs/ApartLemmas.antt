@@ -108,12 +108,26 @@ module _ (answers : Answering) (none : ReadNone answers) where
       (one_apart bytes (class_of bytes) one other same)
 
   -- from its start
+  pub from_alike : (stop : Stop) (records : List (List ℕ)) (one other : Book)
+      → unjournaled one ≡ unjournaled other
+      → AreApart (handle_all answers stop records (nothing_imported one))
+      (handle_all answers stop records (nothing_imported other))
+  from_alike stop records one other same =
+      all_apart stop records (nothing_imported one) (nothing_imported other)
+      (record { receipt = refl; events = refl; book = same })
+
   pub from_apart : (stop : Stop) (records : List (List ℕ)) (before : Book)
       → AreApart (handle_all answers stop records (nothing_imported before))
       (handle_all answers stop records (nothing_imported (unjournaled before)))
-  from_apart stop records before =
-      all_apart stop records (nothing_imported before) (nothing_imported (unjournaled before))
-      (record { receipt = refl; events = refl; book = refl })
+  from_apart stop records before = from_alike stop records before (unjournaled before) refl
+
+  gives_alike : (stop : Stop) (records : List (List ℕ)) (one other : Book) (told : Receipt)
+      (events : List Event) → unjournaled one ≡ unjournaled other
+      → GivesReceipt (handle_all answers stop records (nothing_imported other)) told events
+      → GivesReceipt (handle_all answers stop records (nothing_imported one)) told events
+  gives_alike stop records one other told events same gives =
+      let alike = from_alike stop records one other same in
+      record { receipt = alike.receipt ∙ gives.receipt; events = alike.events ∙ gives.events }
 
   pub gives_apart : (stop : Stop) (records : List (List ℕ)) (before : Book) (told : Receipt)
       (events : List Event)
@@ -121,27 +135,37 @@ module _ (answers : Answering) (none : ReadNone answers) where
       events
       → GivesReceipt (handle_all answers stop records (nothing_imported before)) told events
   gives_apart stop records before told events gives =
-      let same = from_apart stop records before in
-      record { receipt = same.receipt ∙ gives.receipt; events = same.events ∙ gives.events }
+      gives_alike stop records before (unjournaled before) told events refl gives
 
--- so records were handled by the books as by those without a journal
+-- so records were handled by books as by others that differ in their journals alone,
+pub handles_alike : (naming : Naming) (stop : Stop) (records : List (List ℕ)) (told : Receipt)
+    (was : Bool) (one other : Book) (events : List Event) (is : Bool)
+    → unjournaled one ≡ unjournaled other
+    → Handles naming stop records told was other events is
+    → Handles naming stop records told was one events is
+handles_alike naming stop records told was one other events is alike (whole same gives) =
+    whole same
+    (gives_alike (answers_of was naming) (reads_none was naming) stop records one other told events
+    alike gives)
+handles_alike naming stop records told was one other events is alike
+    (out_of_memory count same gives) =
+    out_of_memory count same
+    (gives_alike (answers_of was naming) (reads_none was naming) (Ledger Memory) (take count records)
+    one other told events alike gives)
+handles_alike naming stop records told was one other events is alike
+    (store_failed count kept open_before reopen within either stopped so made) =
+    let answers = accept_outcome naming in
+    let first = from_alike answers (reads_none false naming) (Ledger Store) (take count records) one
+    other alike in
+    let all = from_alike answers (reads_none false naming) (Ledger Store) (take kept records) one other
+    alike in
+    store_failed count kept open_before reopen within either stopped (first.receipt ∙ so)
+    (all.events ∙ made)
+
+-- and by those without a journal
 pub handles_apart : (naming : Naming) (stop : Stop) (records : List (List ℕ)) (told : Receipt)
     (was : Bool) (before : Book) (events : List Event) (is : Bool)
     → Handles naming stop records told was (unjournaled before) events is
     → Handles naming stop records told was before events is
-handles_apart naming stop records told was before events is (whole same gives) =
-    whole same
-    (gives_apart (answers_of was naming) (reads_none was naming) stop records before told events gives)
-handles_apart naming stop records told was before events is (out_of_memory count same gives) =
-    out_of_memory count same
-    (gives_apart (answers_of was naming) (reads_none was naming) (Ledger Memory) (take count records)
-    before told events gives)
-handles_apart naming stop records told was before events is
-    (store_failed count kept open_before reopen within either stopped so made) =
-    let answers = accept_outcome naming in
-    let first = from_apart answers (reads_none false naming) (Ledger Store) (take count records)
-    before in
-    let all = from_apart answers (reads_none false naming) (Ledger Store) (take kept records)
-    before in
-    store_failed count kept open_before reopen within either stopped (first.receipt ∙ so)
-    (all.events ∙ made)
+handles_apart naming stop records told was before events is handled =
+    handles_alike naming stop records told was before (unjournaled before) events is refl handled

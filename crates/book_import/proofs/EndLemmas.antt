@@ -159,7 +159,7 @@ at_longer stop entry naming layout bytes piece before made says =
 
 -- ---- books that keep nothing have no entry
 
-none_told : (portions : List Portion) → kept_in portions ≡ [] → is_some (told_so_far portions) ≡ false
+pub none_told : (portions : List Portion) → kept_in portions ≡ [] → is_some (told_so_far portions) ≡ false
 none_told [] none = refl
 none_told (portion ∷ earlier) none =
     by_kept portion.kept none
@@ -471,3 +471,24 @@ pub ends_counted : (import : Option Note) (read told : Receipt) → EndsAs impor
 ends_counted None read told so = ap counted so
 ends_counted (Some note) read told (inl so) = ap counted so
 ends_counted (Some note) read told (inr refused) = ap counted refused.1
+
+-- ---- the books are told
+
+pub stays_so : (seen : Seen) (entry : ImportEntry) (receipt : Receipt) (stop : Stop)
+    (told : Receipt) → is_to_end entry stop ≡ false → told ≡ record receipt { stop = stop }
+    → IsTransition seen seen (Ends entry receipt stop told)
+stays_so seen entry receipt stop told off so =
+    subst (λ to_end. IsTransition seen seen (ends_by to_end receipt stop told)) (sym off)
+    (work_as seen seen NoEvent (ends_by false receipt stop told)
+    (λ was before events is none. (none, so)) (no_work seen))
+
+pub is_ended : (old new : Seen) (entry : ImportEntry) (receipt : Receipt) (stop : Stop)
+    (told : Receipt) (answer : Result (Unit {0}) LedgerFault) → is_to_end entry stop ≡ true
+    → told ≡ record receipt { stop = stop_by stop answer }
+    → IsTransition old new (Calls (λ (done : Unit {0}). done) (ended_outcome stop) answer)
+    → IsTransition old new (Ends entry receipt stop told)
+is_ended old new entry receipt stop told answer on so work =
+    subst (λ to_end. IsTransition old new (ends_by to_end receipt stop told)) (sym on)
+    (work_as old new (Calls (λ (done : Unit {0}). done) (ended_outcome stop) answer)
+    (ends_by true receipt stop told)
+    (λ was before events is called. (answer, called, so)) work)

@@ -1,5 +1,6 @@
 -- What an import has said of itself, change by change.
 use Rattle.std.proofs.Common.{◌≡◌, ◌∙◌, ℕ, Bool, true, false, List, [], ◌∷◌, ◌++◌, refl, sym, ap}
+use Rattle.std.proofs.Common.{◌+◌, ◌<◌, add-one, drop, drop-cons, get_or}
 use Rattle.std.proofs.Common.{subst, Option, Some, None, append_assoc, map, is_some}
 use Rattle.std.proofs.Common.{true≢false, ◌||◌, ◌==◌, length, Ok, Result}
 use Rattle.std.specs.Prelude.{if◌then◌else◌}
@@ -249,3 +250,16 @@ pub says_nothing : (import : Option Note) (naming : Naming) (layout : Layout) (b
 says_nothing None naming layout bytes before = refl
 says_nothing (Some note) naming layout bytes before =
     record { portions = []; each = tt; entry = refl; none = λ none. refl; events = refl }
+
+-- ---- answers, one after another
+
+pub kept_step : (answers : List Accepted) (i : ℕ) (d : Accepted) → i < length answers
+    → keeps_one (drop i answers) ≡ (is_kept (get_or answers i d) || keeps_one (drop (i + 1) answers))
+kept_step answers i d within =
+    ap keeps_one (drop-cons answers i d within)
+    ∙ ap (λ n. is_kept (get_or answers i d) || keeps_one (drop n answers)) (sym (add-one i))
+
+pub kept_not : (answer : Accepted) → (answer ≡ Kept → ⊥) → is_kept answer ≡ false
+kept_not Kept other = absurd (other refl)
+kept_not Known other = refl
+kept_not Unpriced other = refl

@@ -1,7 +1,7 @@
 -- Where the work on the records of a group stands, before each of them.
 use Rattle.std.proofs.Common.{◌≡◌, ◌∙◌, ℕ, ◌+◌, ◌<◌, ◌≤◌, ◌==◌, Bool, true, false, true≢false, List}
 use Rattle.std.proofs.Common.{[], ◌∷◌, ◌++◌, length, take, drop, get_or, refl, sym, ap, subst, arith}
-use Rattle.std.proofs.Common.{Ok, Err, Option, Some, None, append_assoc, add-one, drop-cons}
+use Rattle.std.proofs.Common.{Ok, Err, Option, Some, None, append_assoc}
 use Rattle.std.proofs.Common.{Vec, Global, is_some, length-drop}
 use Rattle.std.proofs.lemmas.Bool.{eqb-true}
 use Rattle.std.proofs.lemmas.List.{drop-map, length-map}
@@ -29,7 +29,7 @@ use Rattle.book_import.specs.EntryWork.{AreRead, HasRead, hears, if_whole, keeps
 use Rattle.book_import.specs.EntryWork.{says_next}
 use Rattle.book_import.specs.Groups.{usage_of, AsksOf, Gathers, HandlesGroup, IsAfter, IsGroup}
 use Rattle.book_import.proofs.AskLemmas.{IsAsked, heard_note, next_note}
-use Rattle.book_import.proofs.GatheringLemmas.{usage_one, usage_other}
+use Rattle.book_import.proofs.GatheringLemmas.{ahead_step, usage_one, usage_other}
 use Rattle.book_import.proofs.GroupLemmas.{count_answer}
 use Rattle.book_import.proofs.GroupWork.{DoneAfter, IsAhead, group_other, group_refused}
 use Rattle.book_import.proofs.GroupWork.{group_usage, next_in}
@@ -214,11 +214,8 @@ module _ {begins : Seen} {before : Receipt} {group : Group} {entry : ImportEntry
   ahead_next : ahead ≡ count_ahead (drop (i + 1) group.classes.items) (count_class class receipt)
   ahead_next =
       let classes = group.classes.items in
-      stands.ahead_is
-      ∙ ap (λ classes. count_ahead classes receipt)
-      (drop-cons classes i d within
-      ∙ ap (λ n. get_or classes i d ∷ drop n classes) (sym (add-one i)))
-      ∙ ap (λ class. count_ahead (class ∷ drop (i + 1) classes) receipt) (sym here)
+      stands.ahead_is ∙ ahead_step classes i d receipt within
+      ∙ ap (λ class. count_ahead (drop (i + 1) classes) (count_class class receipt)) (sym here)
 
   -- a record of another class
   pub stands_other : {next : Receipt} → (class ≡ Usage → ⊥) → next ≡ count_class class receipt

@@ -29,3 +29,4 @@ pub mod LawLemmas
 pub mod OnceLemmas
 pub mod RepeatLemmas
 pub mod RetryLemmas
+pub mod EntryLawLemmas

@@ -153,17 +153,19 @@ impl ImportEntry {
         ensures { self.new ≡ spec.says_next self.old counts.now ending }
     {
         let reading = reading_with(&self.bytes, counts);
-        self.share = share_with(self.share.take(), self.begun, reading, ending);
+        let share = self.share.take();
+        self.share = share_with(share, self.begun, reading, ending);
     }
 
     /// What the books answered to them, with the end that was said, if they took all.
     pub(crate) fn hear(&mut self, answers: &[Accepted], ending: Option<Stop>)
         ensures { self.new ≡ spec.hears answers.now ending self.old }
     {
-        if keeps_one(answers) {
-            self.begun = true;
-            self.ended = ending;
+        if !keeps_one(answers) {
+            return;
         }
+        self.begun = true;
+        self.ended = ending;
     }
 
     /// At this stop its entry is to be ended. After a fault of the store the books take no word.
