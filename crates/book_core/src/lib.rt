@@ -18,9 +18,9 @@ mod rulings;
 mod withheld;
 
 pub use book_model::{
-    Accepted, ChargeRow, Credit, Deed, Detail, Dispute, LedgerFault, Line, ListedRuling,
-    NamedChoice, Naming, Note, Reading, RowKey, Ruled, Ruling, ShaNames, Share, Stop, Trail, Turn,
-    Variant,
+    Accepted, Arrival, ChargeRow, Credit, Deed, Detail, Dispute, LedgerFault, Line, ListedEntry,
+    ListedRuling, NamedChoice, Naming, Note, Reading, RowKey, Ruled, Ruling, ShaNames, Share, Stop,
+    Trail, Turn, Variant,
 };
 // What a ledger of another crate needs to keep the same books.
 pub use acceptance::{is_full, name_of};
