@@ -13,6 +13,7 @@ mod ledger;
 mod limits;
 mod lines;
 mod listed_rulings;
+mod notes;
 mod pricing;
 mod rulings;
 mod withheld;
@@ -40,6 +41,7 @@ pub use limits::{
 };
 pub use lines::{line_with, sort_lines};
 pub use listed_rulings::{ListedAt, RulingCounts};
+pub use notes::{copied_if_noted, copied_note};
 pub use pricing::{is_last_begun, price_in, reckon_in};
 pub use rulings::{Rulings, is_done};
 pub use smf_text::Name;
