@@ -93,7 +93,7 @@ comes_alone answers none stop records before told events gives =
     record { receipt = sym same.receipt ∙ gives.receipt; events = sym same.events ∙ gives.events }
 
 -- so is what becomes of them
-handled_alone : (naming : Naming) (stop : Stop) (records : List (List ℕ)) (told : Receipt)
+pub handled_alone : (naming : Naming) (stop : Stop) (records : List (List ℕ)) (told : Receipt)
     (was : Bool) (before : Book) (events : List Event) (is : Bool)
     → Handles naming stop records told was before events is
     → Handles naming stop records told was (unjournaled before) events is
@@ -116,6 +116,24 @@ handled_alone naming stop records told was before events is
     store_failed count kept open_before reopen within either stopped (sym first.receipt ∙ so)
     (sym all.events ∙ made)
 
+-- the books that two parts of events leave, but for their journal
+pub both_apart : (before : Book) (first second : List Event)
+    → unjournaled (after_all (second ++ first) before)
+    ≡ after_all (without_notes second ++ without_notes first) (unjournaled before)
+both_apart before first second =
+    journal_stands_apart before (second ++ first)
+    ∙ ap (λ events. after_all events (unjournaled before)) (notes-append second first)
+
+-- records are handled after events as by books without a journal
+pub next_alone : (naming : Naming) (stop : Stop) (records : List (List ℕ)) (told : Receipt)
+    (was : Bool) (before : Book) (first events : List Event) (is : Bool)
+    → Handles naming stop records told was (unjournaled (after_all first before)) events is
+    → Handles naming stop records told was (after_all (without_notes first) (unjournaled before))
+    events is
+next_alone naming stop records told was before first events is handled =
+    subst (λ book. Handles naming stop records told was book events is)
+    (journal_stands_apart before first) handled
+
 -- the second of two imports leaves the books of the first, but for what they say of themselves
 second_leads : (said : Option GivenNote) (naming : Naming) (layout : Layout) (bytes : List ℕ)
     (once twice : Receipt) (before : Book) (first second : List Event) (between is : Bool)
@@ -137,19 +155,15 @@ second_leads (Some note) naming layout bytes once twice before first second betw
     let dump = front layout bytes in
     let stop = stop_after None dump in
     let plain : Book = unjournaled before in
-    let left : unjournaled (after_all first before) ≡ after_all (without_notes first) plain =
-    journal_stands_apart before first in
-    let next = subst (λ book. Handles naming stop dump.records twice between book
-    (without_notes second) is) left
+    let next = next_alone naming stop dump.records twice between before first
+    (without_notes second) is
     (handled_alone naming stop dump.records twice between (after_all first before)
     (without_notes second) is again.booked) in
     let once_is = twice_is_once naming plain stop stop dump.records once twice (without_notes first)
     (without_notes second) between is
     (handled_alone naming stop dump.records once false before (without_notes first) between
     imports.booked) unhindered next in
-    journal_stands_apart before (second ++ first)
-    ∙ ap (λ events. after_all events plain) (notes-append second first)
-    ∙ once_is ∙ sym left
+    both_apart before first second ∙ once_is ∙ sym (journal_stands_apart before first)
 
 -- the law of the same import twice in a row
 pub run_twice_is_once : RunTwiceIsOnce
