@@ -324,7 +324,7 @@ module _ (naming : Naming) (layout : Layout) (cut : Option Stop) (bytes : List �
       → told ≡ record receipt { stop = stop_by stop answer }
       → events ≡ late ++ early
       → ImportsOf (note_of entry) naming layout cut bytes told was before events is
-  ended_by note (Ok done) was between is before early late events is_note begun open other says booked
+  ended_by note (Ok done) was between is before early late events is_note begun going other says booked
       called so all =
       let same : is ≡ between =
       called.reopens.store ∙ ap (λ b. b || false) (sym called.reopens.reopen)
@@ -336,11 +336,11 @@ module _ (naming : Naming) (layout : Layout) (cut : Option Stop) (bytes : List �
         says = record {
           begun = true;
           ended = Some stop;
-          says = with_words note before early events (Some stop) is_note begun open says made;
+          says = with_words note before early events (Some stop) is_note begun going says made;
           over = λ some begun free. ap (λ (one : Receipt). Some one.stop) (sym so);
         };
       }
-  ended_by note (Err Memory) was between is before early late events is_note begun open other says
+  ended_by note (Err Memory) was between is before early late events is_note begun going other says
       booked called so all =
       let same : is ≡ between =
       called.reopens.store ∙ ap (λ b. b || false) (sym called.reopens.reopen)
@@ -361,12 +361,12 @@ module _ (naming : Naming) (layout : Layout) (cut : Option Stop) (bytes : List �
         says = record {
           begun = true;
           ended = None;
-          says = with_words note before early events None is_note begun open says made;
+          says = with_words note before early events None is_note begun going says made;
           over = λ some begun free.
               absurd (free.memory (ap (λ (one : Receipt). one.stop) so));
         };
       }
-  ended_by note (Err Store) was between is before early late events is_note begun open other says
+  ended_by note (Err Store) was between is before early late events is_note begun going other says
       booked called so all =
       let opened : between ≡ false = sym called.reopens.reopen in
       let shut : is ≡ true =
@@ -375,7 +375,7 @@ module _ (naming : Naming) (layout : Layout) (cut : Option Stop) (bytes : List �
       let store = store_too naming (stop_after cut dump) dump.records read was (unjournaled before)
       (without_notes early) between is booked other opened shut in
       let failed = λ (ended : Option Stop) (made : events ≡ with_end ended early).
-      failed_end note was is before early events ended is_note begun open says made so
+      failed_end note was is before early events ended is_note begun going says made so
       (subst (λ told. Imports naming layout cut bytes told was (unjournaled before)
       (without_notes early) is) (sym so) store) in
       elim called.makes [
@@ -389,7 +389,7 @@ module _ (naming : Naming) (layout : Layout) (cut : Option Stop) (bytes : List �
           → events ≡ with_end ended early → told ≡ record receipt { stop = Ledger Store }
           → Imports naming layout cut bytes told was (unjournaled before) (without_notes early) is
           → ImportsOf (note_of entry) naming layout cut bytes told was before events is
-      failed_end note was is before early events ended is_note begun open says made so booked =
+      failed_end note was is before early events ended is_note begun going says made so booked =
           let dump = front layout bytes in
           record {
             booked = handles_apart naming (stop_after cut dump) dump.records told was before
@@ -399,16 +399,16 @@ module _ (naming : Naming) (layout : Layout) (cut : Option Stop) (bytes : List �
             says = record {
               begun = true;
               ended = ended;
-              says = with_words note before early events ended is_note begun open says made;
+              says = with_words note before early events ended is_note begun going says made;
               over = λ some begun free.
                   absurd (free.store (ap (λ (one : Receipt). one.stop) so));
             };
           }
-  ended_by note (Err Reopen) was between is before early late events is_note begun open other says
+  ended_by note (Err Reopen) was between is before early late events is_note begun going other says
       booked called so all =
       absurd (never_closed note was between before early is_note begun other
       (sym called.reopens.reopen) says booked)
-  ended_by note (Err fault) was between is before early late events is_note begun open other says
+  ended_by note (Err fault) was between is before early late events is_note begun going other says
       booked called so all =
       absurd (let no = called.makes.0 in cc)
 

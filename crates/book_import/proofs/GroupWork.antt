@@ -212,7 +212,7 @@ module _ (begins : Seen) (layout : Layout) (text piece : List ℕ) (entry : Impo
                 ∙ ap (λ those. those ++ more) (take-append-drop i records)))
                 (stopped.records stop more);
             said = stopped.said;
-          })
+          }))
           (work_then begins now then_now (Follows Begun Behind) Asked work
           (subst (λ naming. IsTransition now then_now
           (AsksOf naming so counts ending (usage_of those) pending (Err fault) left))

@@ -204,7 +204,7 @@ module _ (begins now : Seen) (entry : ImportEntry) (receipt : Receipt) {layout :
       → (bytes ++ piece) ++ more ≡ all → length piece ≤ read_length
       → length (front layout bytes).records ≤ counted receipt
       → counted receipt ≤ counted further → BooksInPieces (note_of after) layout all begins last told
-  stopped_in_pieces next last piece more all after further told stop handled said ends as parts few
+  stopped_in_pieces next last piece more all after further told stop handled said ends told_as parts few
       counts here =
       record {
         before = bytes;
@@ -213,7 +213,7 @@ module _ (begins now : Seen) (entry : ImportEntry) (receipt : Receipt) {layout :
         parts = sym parts;
         piece = few;
         counts = still_counted (note_of after) (length (front layout bytes).records) receipt
-            (record further { stop = stop }) told counts here as;
+            (record further { stop = stop }) told counts here told_as;
         booked = joins_stopped next last piece after further told stop handled said ends None;
       }
 

@@ -41,7 +41,7 @@ pub(crate) fn group_end(joiner: &Joiner, group: &Group, is_last: bool) -> Option
     ensures broken { IfSome group.now.broken (λ fault. result ≡ Some (Stop.Frame fault)) }
     ensures last { group.now.broken ≡ None → IfSome result (λ stop. (text : List ℕ)
         → HasTaken text joiner.now → stop ≡ frame_stop (front joiner.now.layout text).fault) }
-    ensures open { is_last ≡ false → group.now.broken ≡ None → result ≡ None }
+    ensures unknown { is_last ≡ false → group.now.broken ≡ None → result ≡ None }
 {
     match group.broken {
         Some(fault) => Some(Stop::Frame(fault)),

@@ -64,16 +64,16 @@ end_next : (entry : ImportEntry) (later : List ℕ) (is_last : Bool) (end : Stop
     → is_last ≡ (length later == 0) → (is_last ≡ false → entry.ended ≡ None)
     → IfSome entry.ended (λ said. said ≡ end)
     → IfSome entry.ended (λ said. (later ≡ []) × (said ≡ end))
-end_next entry later true end is open said =
+end_next entry later true end is fresh said =
     by_ended entry.ended said
   where
     by_ended : (ended : Option Stop) → IfSome ended (λ said. said ≡ end)
         → IfSome ended (λ said. (later ≡ []) × (said ≡ end))
     by_ended None said = tt
     by_ended (Some stop) said = (none_left later (sym is), said)
-end_next entry later false end is open said =
+end_next entry later false end is fresh said =
     subst (λ (ended : Option Stop). IfSome ended (λ said. (later ≡ []) × (said ≡ end)))
-    (sym (open refl)) tt
+    (sym (fresh refl)) tt
 
 pub returns-in_default-clause-booked : goal.returns-in_default-clause-booked
 returns-in_default-clause-booked g c =
@@ -224,7 +224,7 @@ loop-rest-preserved g c =
         omega (arith, joins.6, more.length, length-append joins.0 piece),
         end_next after later c.is_empty-is_last.result
             (frame_stop (front c.args.layout (joins.0 ++ piece)).fault) c.is_empty-is_last.ensures
-            (λ open. more.goes_on open refl)
+            (λ fresh. more.goes_on fresh refl)
             (holds_here joins.3 (λ l text. SaidEnd l (text ++ piece) None after) more.ended),
       );
     }

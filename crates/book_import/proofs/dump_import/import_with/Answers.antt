@@ -40,7 +40,7 @@ loop-init g c =
           (lit≤ tt);
       short = omega (arith, c.new-entry.ensures.length);
       note = c.new-entry.ensures.note;
-      open = c.new-entry.ensures.ended;
+      fresh = c.new-entry.ensures.ended;
       joins = (
         [],
         Consumes-nil _,
@@ -78,7 +78,7 @@ returns-in_default-read_into-clause-booked g c =
     (Consumes-trans _ _ _ joins.0 [] joins.1 ended.taken)))
     (joins_ended seen (g.L.Ledger.seen c.loop.ledger) c.loop.entry c.loop.receipt joins.2 joins.5 last
     told stop cut c.reading_end.ensures.stop c.reading_end.ensures.other
-    (none_stop c.loop.entry stop c.loop.invariant.open) c.end_import.ensures.ends)
+    (none_stop c.loop.entry stop c.loop.invariant.fresh) c.end_import.ensures.ends)
 
 pub returns-clause-booked : goal.returns-clause-booked
 returns-clause-booked g c =
@@ -100,7 +100,7 @@ returns-clause-booked g c =
     joins.1)
     (joins_ended seen (g.L.Ledger.seen c.loop.ledger) c.loop.entry c.loop.receipt joins.2 joins.5 last
     told stop cut c.reading_end-2.ensures.stop c.reading_end-2.ensures.other
-    (none_stop c.loop.entry stop c.loop.invariant.open) c.end_import-2.ensures.ends)
+    (none_stop c.loop.entry stop c.loop.invariant.fresh) c.end_import-2.ensures.ends)
 
 pub returns-in-Some-import_piece-clause-booked : goal.returns-in-Some-import_piece-clause-booked
 returns-in-Some-import_piece-clause-booked g c =
@@ -182,7 +182,7 @@ loop-preserved g c =
         length-take-le c.in-Some.count c.read_into.new.piece c.in-Some.ensures.came.1,
       );
       note = more.note ∙ c.loop.invariant.note;
-      open = more.goes_on refl refl;
+      fresh = more.goes_on refl refl;
       joins = (
         joins.0 ++ part,
         Consumes-trans _ _ _ joins.0 part joins.1 c.in-Some.ensures.taken,

@@ -21,7 +21,7 @@ invariant-loop g l = record {
   few : counted l.receipt ≤ l.counter * read_length;
   short : l.entry.bytes.length ≤ l.counter * read_length;
   note : note_of l.entry ≡ note_given l.fn.note;
-  open : l.entry.ended ≡ None;
+  fresh : l.entry.ended ≡ None;
   joins : (bytes : List ℕ)
       × Consumes (g.R.Read.remaining (reader_of l.initial.source))
       (g.R.Read.remaining (reader_of l.source)) bytes

@@ -134,9 +134,9 @@ handle_group-requires-clause-fresh g c =
     ap (λ (entry : ImportEntry). entry.ended) c.in-Ok-read.ensures.rest ∙ c.requires.fresh
 
 pub returns-in-None-clause-goes_on : goal.returns-in-None-clause-goes_on
-returns-in-None-clause-goes_on g c = λ open none.
+returns-in-None-clause-goes_on g c = λ other none.
     none_said c.group_end-ending.result c.handle_group.new.entry.ended
-    c.in_default-handle_group.ensures.ended (c.group_end-ending.ensures.open open c.in-None.is)
+    c.in_default-handle_group.ensures.ended (c.group_end-ending.ensures.unknown other c.in-None.is)
 
 pub returns-in_default-clause-ended : goal.returns-in_default-clause-ended
 returns-in_default-clause-ended g c = λ text stood.
