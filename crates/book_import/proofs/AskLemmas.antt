@@ -219,7 +219,7 @@ pub record IsAsked (layout : Layout) (bytes : List ℕ) (started records : List 
 module _ (naming : Naming) (layout : Layout) (bytes : List ℕ) (started records : List (List ℕ))
     (receipt counts : Receipt) (entry : ImportEntry) (ending : Option Stop) where
   -- what a change says of the records that it took
-  takes_says : (answers : List Accepted) (was between is : Bool) (before : Book)
+  takes_says : (answers : List Accepted) (between is : Bool) (before : Book)
       (early late events : List Event)
       → IsAsked layout bytes started records receipt counts entry
       → SaysSo entry naming layout bytes before early
@@ -231,7 +231,7 @@ module _ (naming : Naming) (layout : Layout) (bytes : List ℕ) (started records
       → Says (note_of entry) (entry.begun || keeps_one answers)
       (end_said (keeps_one answers) (length answers == length (usage_of records)) ending) naming
       layout bytes before events
-  takes_says answers was between is before early late events asked says of all ahead =
+  takes_says answers between is before early late events asked says of all ahead =
       let said = said_here naming layout bytes started records answers receipt counts before
       (without_notes events) is asked.found asked.counted ahead in
       subst (λ made. Says (note_of entry) (entry.begun || keeps_one answers)
@@ -291,7 +291,7 @@ module _ (naming : Naming) (layout : Layout) (bytes : List ℕ) (started records
           let is_asked = asked refl in
           let opened = open_ahead naming started (usage_of records) answer left receipt was
           (unjournaled before) (without_notes events) is ahead in
-          let says = takes_says answers was both.between is before both.early both.late events
+          let says = takes_says answers both.between is before both.early both.late events
           is_asked both.first.said both.next both.all
           (subst (λ was. Ahead naming started (usage_of records) answers receipt was
           (unjournaled before) (without_notes events) is) opened ahead) in

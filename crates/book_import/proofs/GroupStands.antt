@@ -303,7 +303,8 @@ module _ {begins : Seen} {before : Receipt} {group : Group} {entry : ImportEntry
         ahead_is = value_ahead
             ∙ count_answer (drop (i + 1) group.classes.items) answer ahead receipt
             (ahead_next ∙ ap (λ class. count_ahead (drop (i + 1) group.classes.items)
-            (count_class class receipt)) usage);
+            (count_class class receipt)) usage)
+            ∙ ap (count_ahead (drop (i + 1) group.classes.items)) (sym value);
         waits = λ records is.
             let one = next_in records i class d is within here in
             sym (rest_wait waiting one.bytes (usage_of (drop (i + 1) records))
