@@ -7,6 +7,7 @@ pub mod ImportLemmas
 pub mod StopLemmas
 pub mod ApartLemmas
 pub mod SayingLemmas
+pub mod ReadingLemmas
 pub mod EntryLemmas
 pub mod PieceLemmas
 pub mod FeedLemmas

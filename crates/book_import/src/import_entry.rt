@@ -141,9 +141,10 @@ impl ImportEntry {
         ensures longer { self.new.bytes.length ≤ self.old.bytes.length + length piece.now }
         ensures rest { self.new ≡ record self.old { bytes = self.new.bytes } }
     {
-        if self.share.is_some() {
-            self.bytes.add(piece)?;
+        if self.share.is_none() {
+            return Ok(());
         }
+        self.bytes.add(piece)?;
         Ok(())
     }
 
