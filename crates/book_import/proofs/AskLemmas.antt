@@ -1,4 +1,5 @@
--- What an import says with the records that it asks the books about, and with those that they refuse.
+-- What an import says with the records that it asks the books about, and with those that they
+-- refuse.
 use Rattle.std.proofs.Common.{◌≡◌, ◌∙◌, ℕ, Bool, true, false, List, [], ◌∷◌, ◌++◌, refl, sym, ap}
 use Rattle.std.proofs.Common.{subst, Ok, Err, Option, Some, None, append_assoc, append-nil}
 use Rattle.std.proofs.Common.{◌||◌, ◌==◌, length, map}
@@ -207,8 +208,8 @@ open_leads naming started waiting receipt was is before events shut ahead =
 
 -- ---- the books are asked
 
--- Records wait behind those that were counted, and the import has read all of them. It counted ahead
--- of the books' answers, and has said no end yet.
+-- Records wait behind those that were counted, and the import has read all of them. It counted
+-- ahead of the books' answers, and has said no end yet.
 pub record IsAsked (layout : Layout) (bytes : List ℕ) (started records : List (List ℕ))
     (receipt counts : Receipt) (entry : ImportEntry) : Type 0 where
   pub found : started ++ records ≡ (front layout bytes).records

@@ -148,8 +148,8 @@ impl ImportEntry {
         Ok(())
     }
 
-    /// What it says with its next records: what was counted of all that it has read, and its end, if
-    /// they are its last.
+    /// What it says with its next records: what was counted of all that it has read, and its end,
+    /// if they are its last.
     pub(crate) fn say(&mut self, counts: &Receipt, ending: Option<Stop>)
         ensures { self.new ≡ spec.says_next self.old counts.now ending }
     {

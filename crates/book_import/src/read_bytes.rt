@@ -27,7 +27,8 @@ impl ReadBytes {
         }
     }
 
-    /// Some more. The digest is that of all of them, by now: those that follow go on with the hasher.
+    /// Some more. The digest is that of all of them, by now: those that follow go on with the
+    /// hasher.
     pub(crate) fn add(&mut self, piece: &[u8]) -> Result<(), AllocError>
         requires { self.old.length + length piece.now < 2 ^ 63 }
         ensures more { OnOk result ((bytes : List ℕ) → AreRead bytes self.old

@@ -29,8 +29,8 @@ fn end_if_whole(answers: &[Accepted], waiting: &[Vec<u8>], ending: Option<Stop>)
     }
 }
 
-/// Submits records together, with what their import says of itself: what was counted so far, and its
-/// end, if they are its last.
+/// Submits records together, with what their import says of itself: what was counted so far, and
+/// its end, if they are its last.
 fn submit<L: Ledger>(
     ledger: &mut L,
     waiting: &[Vec<u8>],
