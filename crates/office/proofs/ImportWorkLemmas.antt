@@ -43,7 +43,8 @@ pub import_withheld : {old mid new : Seen} (said : Option Note) (entry : ℕ) (n
     → IsTransition mid new (WithholdsSo said mid.naming names told.counts told.refusal)
     → IsTransition old new (WithholdsImport said old.naming entry (Ok told))
 import_withheld {old} {mid} {new} said entry names told found made =
-    let First = Calls (λ (names : List (List ℕ)). names) (names_outcome entry old.naming) (Ok names) in
+    let First = Calls (λ (names : List (List ℕ)). names) (names_outcome entry old.naming)
+    (Ok names) in
     let Next = WithholdsSo said old.naming names told.counts told.refusal in
     let made_so = subst (λ naming. IsTransition mid new
     (WithholdsSo said naming names told.counts told.refusal)) found.naming made in
@@ -63,5 +64,6 @@ import_answered said naming entry (Ok told) book was events is found =
     (Ok found.names) (λ book. tt))
     (so_answered said naming found.names told.counts told.refusal) book was events is found.made
 import_answered said naming entry (Err fault) =
-    calls_answered naming (λ (names : List (List ℕ)). names) (names_outcome entry naming) (Err fault)
+    calls_answered naming (λ (names : List (List ℕ)). names) (names_outcome entry naming)
+    (Err fault)
     (λ book. tt)
