@@ -188,38 +188,38 @@ module _ (naming : Naming) where
       → AsksWithoutReader naming asked (Err fault) was book events is → was ≡ false
       → is_hindered (Err fault) ≡ false → TellsDry naming asked book (Err fault)
   refused_tells (asks.Rule (owned.Tariff text) said) ruling fault was book events is named called
-  fresh free =
+      fresh free =
       ap (shown_by Text) (refused_by (tariff_outcome (note_given said) (string_bytes text)) fault
       (tried.Tariff named.0.effective) was book events is called fresh free
       ∙ sym (ap (λ read. tariff_tried naming (note_given said) (string_bytes text) read book)
       named.1))
   refused_tells (asks.Rule (owned.Close period through) said) ruling fault was book events is named
-  called fresh free =
+      called fresh free =
       ap (shown_by Text) (refused_by (close_outcome (note_given said) period through) fault
       (tried.Close period through) was book events is called fresh free)
   refused_tells (asks.Rule (owned.Choose name) said) ruling fault was book events is named called
-  fresh free =
+      fresh free =
       ap (shown_by Text) (refused_by (choose_outcome naming (note_given said) name) fault
       (tried.Choose name) was book
       events is called fresh free)
   refused_tells (asks.Rule (owned.Adopt rule) said) ruling fault was book events is named called
-  fresh free =
+      fresh free =
       ap (shown_by Text) (refused_by (adopt_outcome (note_given said) rule) fault tried.Adopt was
       book events is called
       fresh free)
   refused_tells (asks.Rule (owned.Replace text) said) ruling fault was book events is named called
-  fresh free =
+      fresh free =
       ap (shown_by Text) (refused_by (replace_outcome (note_given said) (string_bytes text)) fault
       (tried.Replace named.0.effective) was book events is called fresh free
       ∙ sym (ap (λ read. replacement_tried naming (note_given said) (string_bytes text) read book)
       named.1))
   refused_tells (asks.Rule (owned.Withhold name) said) ruling fault was book events is named called
-  fresh free =
+      fresh free =
       ap (shown_by Text) (refused_by (withhold_outcome naming (note_given said) name) fault
       (tried.Withhold name) was
       book events is called fresh free)
   refused_tells (asks.Rule (owned.Credit period centre amount reason) said) ruling fault was book
-  events is
+      events is
       named called fresh free =
       ap (shown_by Text) (refused_by (credit_outcome (note_given said) period centre amount
       (string_bytes reason)) fault
@@ -265,7 +265,7 @@ module _ (naming : Naming) where
       ∙ sym (ap (λ read. tariff_tried naming (note_given said) (string_bytes text) read book)
       named.1))
   ruled_tells (asks.Rule (owned.Close period through) said) ruling ruled was book events is named
-  called =
+      called =
       ap (λ ruling. Ok (Text (dry_run_of naming ruling ruled book (after_all events book)))) named
       ∙ ap (shown_by Text) (ruled_by (close_outcome (note_given said) period through) ruled
       (tried.Close period through) was book events is called)
@@ -290,7 +290,7 @@ module _ (naming : Naming) where
       (tried.Withhold name) was book
       events is called)
   ruled_tells (asks.Rule (owned.Credit period centre amount reason) said) ruling ruled was book
-  events is
+      events is
       named called =
       ap (λ ruling. Ok (Text (dry_run_of naming ruling ruled book (after_all events book)))) named
       ∙ ap (shown_by Text) (ruled_by (credit_outcome (note_given said) period centre amount
@@ -346,11 +346,11 @@ ruled_then : {naming : Naming} {asked : Asked} (answer : Answer) {V A : Type 0} 
     → IsRuled naming asked was before events
 ruled_then {naming = naming} {asked = asked} answer {was = was} {before = before} none both =
     record {
-  answer = Ok answer;
-  left = both.between;
-  made = subst (λ events. AsksWithoutReader naming asked (Ok answer) was before events both.between)
-      (sym (both.all ∙ ap (λ late. late ++ both.early) (none_made none both.next))) both.first;
-}
+      answer = Ok answer;
+      left = both.between;
+      made = subst (λ events. AsksWithoutReader naming asked (Ok answer) was before events both.between)
+          (sym (both.all ∙ ap (λ late. late ++ both.early) (none_made none both.next))) both.first;
+    }
 
 -- a hindrance that is told is none of those that are not
 not_hindered : {fault : LedgerFault} → fault ≡ Memory → is_hindered (Err fault) ≡ false → ⊥
