@@ -18,6 +18,7 @@ mod OneCall
 mod RuledCalls
 mod WithheldStages
 mod LastNumbers
+mod EnteredRulings
 mod TariffTries
 mod ReplaceTries
 mod CloseTries

@@ -29,7 +29,7 @@ use crate::withheld_together::try_withhold_many;
 use crate::withholding::try_withhold;
 use book_core::{
     Accepted, ChargeRow, Credit, Detail, Dispute, Ledger, LedgerFault, Line, ListedRuling, Name,
-    Naming, Ruled, Ruling, Trail, Withheld,
+    Naming, Note, Ruled, Ruling, Share, Stop, Trail, Withheld,
 };
 use sqlite_trees::store::Store;
 use std::alloc::Global;
@@ -87,7 +87,7 @@ impl<S: Store, N: Naming + Drop> Ledger for TableLedger<S, N> {
 
     ghost seen = { seen_in N.name_of };
 
-    fn rule(&mut self, ruling: Ruling<'_>) -> Result<Ruled, LedgerFault> {
+    fn rule(&mut self, ruling: Ruling<'_>, note: &Option<Note>) -> Result<Ruled, LedgerFault> {
         if self.must_reopen {
             return Err(LedgerFault::Reopen);
         }
@@ -95,14 +95,14 @@ impl<S: Store, N: Naming + Drop> Ledger for TableLedger<S, N> {
         let summary = &mut self.summary;
         let alloc = self.alloc;
         let tried = match ruling {
-            Ruling::Tariff(text) => try_tariff(tables, summary, alloc, text),
+            Ruling::Tariff(text) => try_tariff(tables, summary, alloc, text, note),
             Ruling::Close { period, through } => {
-                try_close(tables, alloc, summary, &Close { period, through })
+                try_close(tables, alloc, summary, &Close { period, through }, note)
             }
-            Ruling::Choose(name) => try_choose(tables, alloc, summary, name),
-            Ruling::Adopt(rule) => try_adopt(tables, alloc, summary, rule),
-            Ruling::Replace(text) => try_replace(tables, summary, alloc, text),
-            Ruling::Withhold(name) => try_withhold(tables, alloc, summary, name),
+            Ruling::Choose(name) => try_choose(tables, alloc, summary, name, note),
+            Ruling::Adopt(rule) => try_adopt(tables, alloc, summary, rule, note),
+            Ruling::Replace(text) => try_replace(tables, summary, alloc, text, note),
+            Ruling::Withhold(name) => try_withhold(tables, alloc, summary, name, note),
             Ruling::Credit {
                 period,
                 centre,
@@ -115,18 +115,28 @@ impl<S: Store, N: Naming + Drop> Ledger for TableLedger<S, N> {
                     amount,
                     reason,
                 };
-                try_credit(tables, alloc, summary, &credit)
+                try_credit(tables, alloc, summary, &credit, note)
             }
         };
         finish(&mut self.tables, &mut self.must_reopen, tried)
     }
 
-    fn withhold_many(&mut self, names: &[[u8; 32]]) -> Result<Withheld, LedgerFault> {
+    fn withhold_many(
+        &mut self,
+        names: &[[u8; 32]],
+        note: &Option<Note>,
+    ) -> Result<Withheld, LedgerFault> {
         if self.must_reopen {
             return Err(LedgerFault::Reopen);
         }
         let first = first_names(names);
-        let tried = try_withhold_many(&mut self.tables, self.alloc, &mut self.summary, first);
+        let tried = try_withhold_many(
+            &mut self.tables,
+            self.alloc,
+            &mut self.summary,
+            first,
+            note,
+        );
         finish(&mut self.tables, &mut self.must_reopen, tried)
     }
 
