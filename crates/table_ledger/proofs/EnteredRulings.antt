@@ -18,9 +18,9 @@ pub does_ruling : {T U : Type 0} {first middle last : State} {When : Tables → 
     → DoesRuling result first last When change noted place
 does_ruling {middle = middle} {last = last} {When = When} {change = change} {noted = noted} result early
     same enters =
-        does_then {When = λ tables. When tables × NumbersEntries (change tables)} result early
-        (subst (λ place. Does result middle last NumbersEntries (enter_row noted place)) same enters)
-        (λ tables known. known)
+    does_then {When = λ tables. When tables × NumbersEntries (change tables)} result early
+    (subst (λ place. Does result middle last NumbersEntries (enter_row noted place)) same enters)
+    (λ tables known. known)
 
 module _ (naming : Naming) (book : Book) (noted : Option Note) (ruling : Ruling)
     (whole : IsReadable naming book) (answered : IsAnswered naming (RulingGiven noted ruling) book)

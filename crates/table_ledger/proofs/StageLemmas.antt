@@ -156,28 +156,28 @@ event_staged : {V A T : Type 0} {view : V → A} {naming : Naming} {was : Summar
     last.view book
 event_staged {naming = naming} {first = first} {middle = middle} {last = last} {written = written} saw
     does clean book at is_event =
-        let tables = written (tables_of naming book) in
-        let seen = saw.seen (clean_before does.survives clean) in
-        let event = is_event (seen.known tables at.kept.holds) in
-        let changes = does.done clean in
-        let whole = at.kept.readable in
-        let follows =
-        event_follows naming book event.event whole.sound whole.usage at.kept.journaled event.answered
-        whole.rising in
-        record {
-          events = event.event ∷ [];
-          made = (event.answer, ap listed (sym event.is));
-          leaves = inr (ap listed (sym event.is));
-          only = only_both first.view (only_looks first.view seen.same) changes.only;
-          kept = record {
-            readable = readable_stays naming book event.event whole event.submitted event.answered;
-            journaled = journaled_stays naming book event.event at.kept.journaled event.answered;
-            holds = subst (Holds last.view.trees) (event.changes ∙ ap written (sym follows))
-                (changes.made tables
-                (holds_on first.view middle.view tables seen.same at.kept.holds) event.when);
-          };
-          remembers = event.remembers follows;
-        }
+    let tables = written (tables_of naming book) in
+    let seen = saw.seen (clean_before does.survives clean) in
+    let event = is_event (seen.known tables at.kept.holds) in
+    let changes = does.done clean in
+    let whole = at.kept.readable in
+    let follows =
+    event_follows naming book event.event whole.sound whole.usage at.kept.journaled event.answered
+    whole.rising in
+    record {
+      events = event.event ∷ [];
+      made = (event.answer, ap listed (sym event.is));
+      leaves = inr (ap listed (sym event.is));
+      only = only_both first.view (only_looks first.view seen.same) changes.only;
+      kept = record {
+        readable = readable_stays naming book event.event whole event.submitted event.answered;
+        journaled = journaled_stays naming book event.event at.kept.journaled event.answered;
+        holds = subst (Holds last.view.trees) (event.changes ∙ ap written (sym follows))
+            (changes.made tables
+            (holds_on first.view middle.view tables seen.same at.kept.holds) event.when);
+      };
+      remembers = event.remembers follows;
+    }
 
 -- The steps of a call are staged after its looks.
 pub stage_steps : {V A T : Type 0} {view : V → A} {naming : Naming} {was : Summary}

@@ -130,13 +130,7 @@ impl<S: Store, N: Naming + Drop> Ledger for TableLedger<S, N> {
             return Err(LedgerFault::Reopen);
         }
         let first = first_names(names);
-        let tried = try_withhold_many(
-            &mut self.tables,
-            self.alloc,
-            &mut self.summary,
-            first,
-            note,
-        );
+        let tried = try_withhold_many(&mut self.tables, self.alloc, &mut self.summary, first, note);
         finish(&mut self.tables, &mut self.must_reopen, tried)
     }
 

@@ -127,7 +127,7 @@ all-same change changed same [] = tt
 all-same change changed same (entry ∷ older) = same entry.act
 
 -- what the newest entry kept is held
-newest-kept : (entry : Entry) (older : List Entry) (bytes : List ℕ)
+pub newest-kept : (entry : Entry) (older : List Entry) (bytes : List ℕ)
     → times_kept (entry ∷ older) bytes ≡ 0 → has (kept_by entry.act) bytes ≡ false
 newest-kept entry older bytes none =
     (cond_none (has (kept_by entry.act) bytes) (times_kept older bytes)
@@ -211,7 +211,7 @@ came-more naming number bytes kept rest unnamed =
     (sym (find-both by_bytes q (under_names naming number kept) rest)))
 
 -- whether an import goes on is seen in its row
-row-goes : (act : Act) → row_goes_on (act_row act) ≡ goes_on act
+pub row-goes : (act : Act) → row_goes_on (act_row act) ≡ goes_on act
 row-goes (Ruled place) = refl
 row-goes (Importing reading kept) = refl
 row-goes (Imported reading ending kept) = refl
