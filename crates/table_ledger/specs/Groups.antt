@@ -5,7 +5,8 @@ use Rattle.std.specs.Prelude.{if◌then◌else◌, not, option_map}
 use Rattle.std.specs.FinMap.{get}
 use Rattle.book_model.specs.declared.answer.Accepted.{Accepted}
 use Rattle.book_model.specs.declared.note.Share.{Share}
-use Rattle.book_model.specs.Words.{Entry, Event, ImportBegun, Importing, Note, Reading, Records}
+use Rattle.book_model.specs.Words.{Ending, Entry, Event, ImportBegun, Importing, Note, Reading}
+use Rattle.book_model.specs.Words.{Records}
 use Rattle.book_model.specs.Words.{goes_on, members, note_shown, nothing_read, read_with}
 use Rattle.book_model.specs.Words.{reading_shown, stop_shown}
 use Rattle.table_model.specs.JournalRows.{row_goes_on}
@@ -95,6 +96,14 @@ renewed (Some joined) import whole answers more tables =
     else put_journal_row joined.number (record {
       note = note_shown joined.note.now;
       act = act_renewed joined import whole answers more;
+    }) tables
+
+-- the tables with its end
+abbrev pub end_step : Joined → Ending → Tables → Tables
+end_step joined ending tables =
+    put_journal_row joined.number (record {
+      note = note_shown joined.note.now;
+      act = ImportRow (reading_shown joined.reading) (Some ending) joined.kept;
     }) tables
 
 -- ---- the entry as the journal has it

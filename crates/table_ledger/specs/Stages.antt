@@ -1,5 +1,5 @@
 -- Calls that are staged inside a transaction, and work that one commit makes of them.
-use Rattle.std.specs.Prelude.{◌≡◌, false, List, [], Result, Ok, Err, ◌⊎◌, ℕ, IfOk, Vec, Option}
+use Rattle.std.specs.Prelude.{◌≡◌, Bool, false, true, List, [], Result, Ok, Err, ◌⊎◌, ℕ, IfOk, Vec, Option}
 use Rattle.std.specs.Prelude.{◌==◌, length}
 use Rattle.std.specs.Global.{Global}
 use Rattle.sqlite_trees.specs.Tree.{Trees}
@@ -7,11 +7,12 @@ use Rattle.sqlite_trees.specs.View.{View, OnlyWrites}
 use Rattle.sqlite_trees.specs.declared.error.StoreError.{StoreError}
 use Rattle.book_model.specs.declared.answer.Accepted.{Accepted}
 use Rattle.book_model.specs.declared.fault.LedgerFault.{LedgerFault}
+use Rattle.book_model.specs.declared.fault.LedgerFault.TheVariants.{Store}
 use Rattle.book_model.specs.declared.note.Share.{Share}
 use Rattle.book_model.specs.Words.{Priced, Book, Event, after_all, accept_outcome, Outcome, Naming}
 use Rattle.book_model.specs.Words.{Rulings, told_by}
 use Rattle.book_core.specs.Words.{Calls, LeavesOpen, Makes, is_store, is_reopen, listed, ruled_in}
-use Rattle.book_core.specs.Words.{Accepts, Takes, first_of}
+use Rattle.book_core.specs.Words.{Accepts, Takes, Transition, first_of}
 use Rattle.table_model.specs.Steps.{put_came}
 use Rattle.table_model.specs.Tables.{JournalTable}
 use Rattle.table_model.specs.Words.{kept_at, Tables}
@@ -179,12 +180,35 @@ most_in_commit = 8000
 
 -- The first of some records were accepted, of so many in all; and with those that were kept comes what
 -- their import says of itself.
-pub record AcceptsGroup (naming : Naming) (import : Option Share) (count : ℕ)
-    (records : List (List ℕ)) (answers : List Accepted) (book : Book) (events : List Event)
-    : Type 0 where
+pub record AcceptsFew (naming : Naming) (import : Option Share) (count : ℕ)
+    (records : List (List ℕ)) (answers : List Accepted) (was : Bool) (before : Book)
+    (events : List Event) (is : Bool) : Type 0 where
   pub kept : List Event
-  pub accepts : Accepts naming records answers false book kept false
+  pub accepts : Accepts naming records answers was before kept is
   pub told : events ≡ told_by import (length answers == count) answers kept
+
+-- the store of open books failed: all of that change was made, or none of it
+pub record KeepsFew (naming : Naming) (import : Option Share) (count : ℕ) (records : List (List ℕ))
+    (was : Bool) (before : Book) (events : List Event) (is : Bool) : Type 0 where
+  pub was_open : was ≡ false
+  pub closed : is ≡ true
+  pub answers : List Accepted
+  pub kept : AcceptsFew naming import count records answers false before events false
+
+-- The change took the first of these records, or none; so many are submitted in all.
+abbrev pub TakesFew : Naming → Option Share → ℕ → List (List ℕ)
+    → Result (Vec Accepted Global) LedgerFault → Transition
+TakesFew naming import count records (Ok answers) =
+    AcceptsFew naming import count records answers.items
+TakesFew naming import count records (Err Store) = KeepsFew naming import count records
+TakesFew naming import count records (Err fault) =
+    Calls (λ (accepted : Accepted). accepted) (accept_outcome naming (first_of records)) (Err fault)
+
+-- of open books
+abbrev pub AcceptsGroup : Naming → Option Share → ℕ → List (List ℕ) → List Accepted → Book
+    → List Event → Type 0
+AcceptsGroup naming import count records answers book events =
+    AcceptsFew naming import count records answers false book events false
 
 -- so each was answered in turn; and if none was, this is why
 pub record AnswersGroup (naming : Naming) (import : Option Share) (count : ℕ)

@@ -15,6 +15,7 @@ use crate::close::try_close;
 use crate::credits::try_credit;
 use crate::details::try_next_detail;
 use crate::disputes::{try_dispute, try_disputes};
+use crate::ends::try_end;
 use crate::finish::finish;
 use crate::given_credits::try_credit_given;
 use crate::listed_rulings::try_ruling;
@@ -80,10 +81,11 @@ impl<S: Store, N: Naming + Drop> Ledger for TableLedger<S, N> {
     ghost use Rattle.std.specs.Prelude.{All, IfOk};
     ghost use Rattle.book_model.specs.Words.{IsUsageRecord};
     ghost use Rattle.book_core.specs.Calls.{Reopens};
-    ghost use Rattle.book_core.specs.Submissions.{Takes, records_in};
+    ghost use Rattle.book_core.specs.Submissions.{TakesOf, records_in};
     ghost use Rattle.book_core.specs.Transition.{IsTransition};
     ghost use Rattle.table_ledger.specs.LedgerState.{seen_in};
     ghost use Rattle.table_ledger.specs.ReadyBooks.{settled_on};
+    ghost use Rattle.table_ledger.specs.Stages.{TakesFew};
 
     ghost seen = { seen_in N.name_of };
 
@@ -139,23 +141,27 @@ impl<S: Store, N: Naming + Drop> Ledger for TableLedger<S, N> {
             return Err(LedgerFault::Reopen);
         }
         let records = alone(self.alloc, bytes)?;
-        let answers = self.accept_many(&records)?;
+        let answers = self.accept_many(&records, &None)?;
         Ok(first_answer(answers))
     }
 
-    fn accept_many(&mut self, records: &[Vec<u8>]) -> Result<Vec<Accepted>, LedgerFault>
+    fn accept_many(
+        &mut self,
+        records: &[Vec<u8>],
+        import: &Option<Share>,
+    ) -> Result<Vec<Accepted>, LedgerFault>
         requires some { 0 < length records.now }
         requires usage { All (λ one. IsUsageRecord one.items) records.now }
         ensures takes { IsTransition (seen_in N.name_of self.old) (seen_in N.name_of self.new)
-            (Takes (N.name_of self.old.naming) (records_in records.now) result) }
+            (TakesOf (N.name_of self.old.naming) import.now (records_in records.now) result) }
         ensures some { IfOk result (λ answers. 0 < length answers.items) }
         ensures reopens { Reopens result (seen_in N.name_of self.old).must_reopen
             (seen_in N.name_of self.new).must_reopen }
 
         // It is one commit, which takes no more records than this, also where a stop comes within.
         ensures few { IsTransition (seen_in N.name_of self.old) (seen_in N.name_of self.new)
-            (Takes (N.name_of self.old.naming) (records_in (take most_in_commit records.now))
-            result) }
+            (TakesFew (N.name_of self.old.naming) import.now (length records.now)
+            (records_in (take most_in_commit records.now)) result) }
     {
         if self.must_reopen {
             return Err(LedgerFault::Reopen);
@@ -166,8 +172,18 @@ impl<S: Store, N: Naming + Drop> Ledger for TableLedger<S, N> {
             self.alloc,
             &self.naming,
             &mut self.summary,
+            import,
+            records.len(),
             first,
         );
+        finish(&mut self.tables, &mut self.must_reopen, tried)
+    }
+
+    fn end_import(&mut self, stop: Stop) -> Result<(), LedgerFault> {
+        if self.must_reopen {
+            return Err(LedgerFault::Reopen);
+        }
+        let tried = try_end(&mut self.tables, &self.summary, self.alloc, stop);
         finish(&mut self.tables, &mut self.must_reopen, tried)
     }
 

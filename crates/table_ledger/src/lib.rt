@@ -18,6 +18,7 @@ mod detail_prices;
 mod details;
 mod disputes;
 mod effects;
+mod ends;
 mod entries;
 mod finish;
 mod given_credits;

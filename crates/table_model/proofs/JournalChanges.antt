@@ -168,7 +168,7 @@ abbrev pub came_table : Naming → List Entry → CameTable
 came_table naming entries = from_entries (came_entries naming entries)
 
 -- an entry that kept none adds none
-came-none : (naming : Naming) (entry : Entry) (older : List Entry) → kept_by entry.act ≡ fin.empty
+pub came-none : (naming : Naming) (entry : Entry) (older : List Entry) → kept_by entry.act ≡ fin.empty
     → came_table naming (entry ∷ older) ≡ came_table naming older
 came-none naming entry older none =
     let at : List (List ℕ) → List (List ℕ × ℕ) =
@@ -183,7 +183,7 @@ came-entry naming None place entries = refl
 came-entry naming (Some note) place entries =
     came-none naming (record { note = note; act = Ruled place }) entries refl
 
-came-changed : (naming : Naming) (change : Act → Act)
+pub came-changed : (naming : Naming) (change : Act → Act)
     → ((act : Act) → kept_by (change act) ≡ kept_by act) → (entries : List Entry)
     → came_table naming (change_newest change entries) ≡ came_table naming entries
 came-changed naming change same [] = refl
