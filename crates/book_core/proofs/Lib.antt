@@ -7,6 +7,7 @@ pub mod ThenLemmas
 pub mod InTurnLemmas
 pub mod OpenLemmas
 pub mod NamedLemmas
+pub mod ArrivalLemmas
 pub mod SubmissionLemmas
 pub mod WithholdingLemmas
 pub mod FollowLemmas

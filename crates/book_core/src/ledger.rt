@@ -11,6 +11,7 @@ ghost use Rattle.book_model.specs.Words.{ShowsDetail, ended_outcome, next_detail
 ghost use Rattle.book_model.specs.Words.{IsTrail, note_given, trail_outcome, trail_shown};
 ghost use Rattle.book_model.specs.Words.{IsUsage, record_outcome};
 ghost use Rattle.book_model.specs.Words.{credit_given_outcome, credit_shown};
+ghost use Rattle.book_model.specs.Words.{ShowsEntryDays, arrival_outcome, entry_outcome, entry_shown};
 ghost use Rattle.book_core.specs.Ledgers.{StopIsHarmless, Seen};
 ghost use Rattle.book_core.specs.Calls.{IsCall};
 ghost use Rattle.book_core.specs.Submissions.{TakesOf, records_in};
@@ -19,8 +20,8 @@ ghost use Rattle.book_core.specs.Withholdings.{TakesWorks};
 
 use crate::withheld::{Withheld, with_answer, work_answer};
 use book_model::{
-    Accepted, ChargeRow, Credit, Detail, Dispute, LedgerFault, Line, ListedRuling, Note, Ruled,
-    Ruling, Share, Stop, Trail,
+    Accepted, Arrival, ChargeRow, Credit, Detail, Dispute, LedgerFault, Line, ListedEntry,
+    ListedRuling, Note, Ruled, Ruling, Share, Stop, Trail,
 };
 use smf_text::Name;
 use std::alloc::Global;
@@ -269,6 +270,23 @@ pub trait Ledger {
         ensures { IsCall (λ found. option_map credit_shown found)
             (seen self.old) (seen self.new) result
             (credit_given_outcome number) };
+
+    /// The entry of a number, from 0, of the journal, the oldest first: each ruling that was done
+    /// with a note, and each import that kept a record. A ruling is shown as it stands among those
+    /// of the office. `None` where there are no more. Never refused.
+    fn entry(&mut self, number: u64) -> Result<Option<ListedEntry>, LedgerFault>
+        ensures entry { IsCall (λ found. option_map entry_shown found)
+            (seen self.old) (seen self.new) result
+            (entry_outcome (seen self.old).naming number) }
+        ensures shown { IfOk result ShowsEntryDays };
+
+    /// The first of the records that are held whose name is these bytes or comes after them, with
+    /// the entry by which it came; `None` where there are no more. From a name on it is the record
+    /// of that name, if one is held, and from a name with a zero byte behind it the next one: so all
+    /// records are walked over with one name in memory. Never refused.
+    fn arrival_from(&mut self, from: &[u8]) -> Result<Option<Arrival>, LedgerFault>
+        ensures { IsCall (λ found. found) (seen self.old) (seen self.new) result
+            (arrival_outcome (seen self.old).naming from.now) };
 
     /// The record that is held under a name, and nothing else of it: one look where its trail
     /// takes many. Refused: `NoSuchRecord`.

@@ -13,14 +13,15 @@ mod ledger;
 mod limits;
 mod lines;
 mod listed_rulings;
+mod notes;
 mod pricing;
 mod rulings;
 mod withheld;
 
 pub use book_model::{
-    Accepted, ChargeRow, Credit, Deed, Detail, Dispute, LedgerFault, Line, ListedRuling,
-    NamedChoice, Naming, Note, Reading, RowKey, Ruled, Ruling, ShaNames, Share, Stop, Trail, Turn,
-    Variant,
+    Accepted, Arrival, ChargeRow, Credit, Deed, Detail, Dispute, LedgerFault, Line, ListedEntry,
+    ListedRuling, NamedChoice, Naming, Note, Reading, RowKey, Ruled, Ruling, ShaNames, Share, Stop,
+    Trail, Turn, Variant,
 };
 // What a ledger of another crate needs to keep the same books.
 pub use acceptance::{is_full, name_of};
@@ -40,6 +41,7 @@ pub use limits::{
 };
 pub use lines::{line_with, sort_lines};
 pub use listed_rulings::{ListedAt, RulingCounts};
+pub use notes::{copied_if_noted, copied_note};
 pub use pricing::{is_last_begun, price_in, reckon_in};
 pub use rulings::{Rulings, is_done};
 pub use smf_text::Name;

@@ -2,7 +2,9 @@
 use Rattle.std.proofs.Common.{◌≡◌, ◌∙◌, ℕ, Bool, true, false, List, [], ◌++◌, None, not, refl, sym}
 use Rattle.std.proofs.Common.{ap, subst, inl, inr, Option, Result, Ok, Err}
 use Rattle.book_model.specs.Words.{Layout, front, Book, Event, Outcome, after_all, book_after}
-use Rattle.book_model.specs.Words.{Naming, AreMadeOf}
+use Rattle.book_model.specs.JournalLaws.{unjournaled, without_notes}
+use Rattle.book_model.specs.Words.{Naming, Note, AreMadeOf}
+use Rattle.book_model.proofs.JournalLemmas.{journal_stands_apart}
 use Rattle.book_model.proofs.Lemmas.{books_follow_history}
 use Rattle.book_core.specs.Words.{Calls, listed, Seen, IsTransition, Transition, MakesAnswered}
 use Rattle.book_core.proofs.FollowLemmas.{called_events, follows, after_all-book_of}
@@ -12,6 +14,7 @@ use Rattle.book_import.proofs.RepeatLemmas.{twice_is_once}
 use Rattle.book_reports.specs.declared.report.Report.{Report}
 use Rattle.office.specs.Requests.{Dump, Ruling, Count, Receives}
 use Rattle.office.proofs.LawLemmas.{receives_answered}
+use Rattle.office.proofs.RunLemmas.{both_apart, handled_alone, next_alone}
 use Rattle.book_http.proofs.Words.{is_utf8, RequestHead, LedgerFault, Receipt, stop_after}
 use Rattle.book_http.proofs.Words.{DetailReport, WhatIf, report_outcome, detail_text_outcome}
 use Rattle.book_http.proofs.Words.{what_if_report, Response, Text, response_outcome, whole_dump}
@@ -47,7 +50,8 @@ report_none naming asked kind reply was before events is answers =
     text_none kind (report_outcome naming asked) reply was before events is refl answers
 
 -- nor are details
-pub details_none : (naming : Naming) (wanted : DetailReport) (reply : Reply) (was : Bool) (before : Book)
+pub details_none : (naming : Naming) (wanted : DetailReport) (reply : Reply) (was : Bool)
+    (before : Book)
     (events : List Event) (is : Bool) → AnswersDetails naming wanted reply was before events is
     → events ≡ []
 details_none naming wanted reply was before events is answers =
@@ -65,26 +69,36 @@ pub what_if_none : (what_if : WhatIf) (body : List ℕ) (reply : Reply) (was : B
     (events : List Event) (is : Bool) → AnswersWhatIf what_if body reply was before events is
     → events ≡ []
 what_if_none what_if body reply was before events is =
-    unless_none (not (is_utf8 body)) (AnswersOffice (form_kind what_if.form) (Prices what_if body) reply)
+    unless_none (not (is_utf8 body)) (AnswersOffice (form_kind what_if.form)
+    (Prices what_if body) reply)
     reply was before events is
     (text_none _ (what_if_report what_if body) reply was before events is refl)
 
--- an import answers a receipt
-pub record IsCounted (naming : Naming) (dump : Dump) (told : Result Response LedgerFault) (was : Bool)
+-- an import answers a receipt: its records were handled as by books without a journal
+pub record IsCounted (naming : Naming) (dump : Dump) (told : Result Response LedgerFault)
+    (was : Bool)
     (before : Book) (events : List Event) (is : Bool) : Type 0 where
   pub receipt : Receipt
   pub counted : told ≡ Ok (Count receipt)
-  pub imported : Imports naming dump.layout dump.cut dump.bytes receipt was before events is
+  pub imported : Imports naming dump.layout dump.cut dump.bytes receipt was (unjournaled before)
+      (without_notes events) is
 
-pub import_counted : (naming : Naming) (dump : Dump) (told : Result Response LedgerFault) (was : Bool)
-    (before : Book) (events : List Event) (is : Bool)
-    → Receives naming dump told was before events is
+pub import_counted : (said : Option Note) (naming : Naming) (dump : Dump)
+    (told : Result Response LedgerFault) (was : Bool) (before : Book) (events : List Event)
+    (is : Bool)
+    → Receives said naming dump told was before events is
     → IsCounted naming dump told was before events is
-import_counted naming dump (Ok (Count receipt)) was before events is imported =
-    record { receipt = receipt; counted = refl; imported = imported }
-import_counted naming dump (Ok (Ruling ruled)) was before events is never = absurd never
-import_counted naming dump (Ok (Text text)) was before events is never = absurd never
-import_counted naming dump (Err fault) was before events is never = absurd never
+import_counted said naming dump (Ok (Count receipt)) was before events is imports =
+    let found = front dump.layout dump.bytes in
+    record {
+      receipt = receipt;
+      counted = refl;
+      imported = handled_alone naming (stop_after dump.cut found) found.records receipt was before
+          (without_notes events) is imports.booked;
+    }
+import_counted said naming dump (Ok (Ruling ruled)) was before events is never = absurd never
+import_counted said naming dump (Ok (Text text)) was before events is never = absurd never
+import_counted said naming dump (Err fault) was before events is never = absurd never
 
 -- what is answered to a head is the answer to any other at the beginning of the same bytes
 pub asked_alike : (naming : Naming) (bytes : List ℕ) (head other : RequestHead)
@@ -103,29 +117,37 @@ asked_alike naming bytes head other behind rest reply was before events is stand
 module _ (naming : Naming) (once twice : Reply) (before : Book) (first second : List Event)
     (between is : Bool) where
   -- where the second did nothing, the first alone did
-  nothing_more : second ≡ [] → after_all (second ++ first) before ≡ after_all first before
-  nothing_more none = ap (λ (events : List Event). after_all (events ++ first) before) none
+  nothing_more : second ≡ []
+      → unjournaled (after_all (second ++ first) before) ≡ unjournaled (after_all first before)
+  nothing_more none =
+      ap (λ (events : List Event). unjournaled (after_all (events ++ first) before)) none
 
   import_twice : (layout : Layout) (body : List ℕ)
       → AnswersImport naming layout body once false before first between → IsUnhindered once
       → AnswersImport naming layout body twice between (after_all first before) second is
-      → after_all (second ++ first) before ≡ after_all first before
+      → unjournaled (after_all (second ++ first) before) ≡ unjournaled (after_all first before)
   import_twice layout body one unhindered two =
       let dump = whole_dump layout body in
       let found = front layout body in
       let stop = stop_after None found in
-      let a = import_counted naming dump one.told false before first between one.made in
-      let b = import_counted naming dump two.told between (after_all first before) second is two.made
-      in
-      twice_is_once naming before stop stop found.records a.receipt b.receipt first second between is
-      a.imported
-      (unhindered.whole a.receipt (one.replied ∙ ap (office_reply kinds.Text) a.counted)) b.imported
+      let a = import_counted one.said naming dump one.made.told false before first between
+      one.made.made in
+      let b = import_counted two.said naming dump two.made.told between
+      (after_all first before) second
+      is two.made.made in
+      both_apart before first second
+      ∙ twice_is_once naming (unjournaled before) stop stop found.records a.receipt b.receipt
+      (without_notes first) (without_notes second) between is a.imported
+      (unhindered.whole a.receipt (one.made.replied ∙ ap (office_reply kinds.Text) a.counted))
+      (next_alone naming stop found.records b.receipt between before first (without_notes second) is
+      b.imported)
+      ∙ sym (journal_stands_apart before first)
 
   -- whatever is asked
   wanted_twice : (request : RequestSeen)
       → AnswersRequest naming request once false before first between → IsUnhindered once
       → AnswersRequest naming request twice between (after_all first before) second is
-      → after_all (second ++ first) before ≡ after_all first before
+      → unjournaled (after_all (second ++ first) before) ≡ unjournaled (after_all first before)
   wanted_twice (Settles due) one unhindered two = nothing_more two.none.none
   wanted_twice (WantsReport report kind) one unhindered two =
       nothing_more
@@ -141,7 +163,7 @@ module _ (naming : Naming) (once twice : Reply) (before : Book) (first second : 
   head_twice : (bytes : List ℕ) (head : RequestHead) (behind : List ℕ) → HasHead bytes head behind
       → Answers naming bytes once false before first between → IsUnhindered once
       → AnswersAsked naming (asked head) behind twice between (after_all first before) second is
-      → after_all (second ++ first) before ≡ after_all first before
+      → unjournaled (after_all (second ++ first) before) ≡ unjournaled (after_all first before)
   head_twice bytes head behind stands (no_head some never refused) unhindered two =
       absurd (never head behind stands)
   head_twice bytes head behind stands (a_head other rest there (no_memory refused)) unhindered two =
@@ -161,7 +183,8 @@ request_twice_is_once naming before bytes once twice first second between is one
     nothing_more naming once twice before first second between is refused.none.none
 request_twice_is_once naming before bytes once twice first second between is one unhindered
     (a_head head behind stands (done two)) =
-    head_twice naming once twice before first second between is bytes head behind stands one unhindered
+    head_twice naming once twice before first second between is bytes head behind stands one
+    unhindered
     two
 
 -- events that are none are answered
@@ -181,7 +204,8 @@ wanted_answered naming (WantsDetails wanted) reply book was events is made =
 wanted_answered naming (WantsWhatIf what_if body) reply book was events is made =
     none_answered naming book events (what_if_none what_if body reply was book events is made)
 wanted_answered naming (WantsImport layout body) reply book was events is made =
-    receives_answered naming (whole_dump layout body) made.told book was events is made.made
+    receives_answered made.said naming (whole_dump layout body) made.made.told book was events is
+    made.made.made
 
 -- so do the bytes of a request
 pub request_answered : (naming : Naming) (bytes : List ℕ) (reply : Reply)

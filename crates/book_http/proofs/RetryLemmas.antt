@@ -2,9 +2,12 @@
 use Rattle.std.proofs.Common.{◌≡◌, ◌∙◌, ◌⊎◌, inl, inr, ℕ, Bool, false, List, [], ◌++◌, None, sym}
 use Rattle.std.proofs.Common.{ap, subst, append-nil}
 use Rattle.book_model.specs.Words.{Layout, front, Book, Event, after_all, Naming}
+use Rattle.book_model.specs.JournalLaws.{unjournaled, without_notes}
+use Rattle.book_model.proofs.JournalLemmas.{journal_stands_apart}
 use Rattle.book_import.specs.Laws.{book_after_import}
 use Rattle.book_import.proofs.RetryLemmas.{stops_are_mended}
 use Rattle.book_import.proofs.RepeatLemmas.{is_whole}
+use Rattle.office.proofs.RunLemmas.{both_apart, next_alone}
 use Rattle.book_http.proofs.Words.{RequestHead, Receipt, Stop, stop_after, Handles, whole_dump}
 use Rattle.book_http.proofs.Words.{asked, office_reply, AnswersImport, AnswersAsked, Answers, done}
 use Rattle.book_http.proofs.Words.{no_memory, no_head, a_head, HasHead, IsUnhindered, Reply}
@@ -31,10 +34,10 @@ module _ (once twice alone : Reply) (before : Book) (first second all : List Eve
     (between is end : Bool) where
   -- three that did nothing
   none_at_all : first ≡ [] → second ≡ [] → all ≡ []
-      → after_all (second ++ first) before ≡ after_all all before
+      → unjournaled (after_all (second ++ first) before) ≡ unjournaled (after_all all before)
   none_at_all none nothing nil =
-      ap (λ events. after_all (events ++ first) before) nothing
-      ∙ ap (λ events. after_all events before) (none ∙ sym nil)
+      ap (λ events. unjournaled (after_all (events ++ first) before)) nothing
+      ∙ ap (λ events. unjournaled (after_all events before)) (none ∙ sym nil)
 
   -- whatever the first was
   none_once : {Made : Type 0} → (first ≡ []) ⊎ Made → (Made → first ≡ []) → first ≡ []
@@ -45,30 +48,43 @@ module _ (once twice alone : Reply) (before : Book) (first second all : List Eve
       → (first ≡ []) ⊎ AnswersImport naming layout body once false before first between
       → AnswersImport naming layout body twice false (after_all first before) second is
       → IsWhole twice → AnswersImport naming layout body alone false before all end
-      → IsUnhindered alone → after_all (second ++ first) before ≡ after_all all before
+      → IsUnhindered alone
+      → unjournaled (after_all (second ++ first) before) ≡ unjournaled (after_all all before)
   import_mended naming layout body one two whole single unhindered =
       let dump = whole_dump layout body in
       let found = front layout body in
       let stop = stop_after None found in
-      let b = import_counted naming dump two.told false (after_all first before) second is two.made in
-      let c = import_counted naming dump single.told false before all end single.made in
-      let counted = two.replied ∙ ap (office_reply kinds.Text) b.counted in
-      let left : after_all all before ≡ book_after_import naming before stop found.records =
-      import_left naming stop found.records before c.receipt all end c.imported
-      (unhindered.whole c.receipt (single.replied ∙ ap (office_reply kinds.Text) c.counted)) in
+      let b = import_counted two.said naming dump two.made.told false
+      (after_all first before) second
+      is two.made.made in
+      let c = import_counted single.said naming dump single.made.told false before all end
+      single.made.made in
+      let counted = two.made.replied ∙ ap (office_reply kinds.Text) b.counted in
+      let plain : Book = unjournaled before in
+      let more : List Event = without_notes second in
+      let next = next_alone naming stop found.records b.receipt false before first more is
+      b.imported in
+      let left : unjournaled (after_all all before)
+      ≡ book_after_import naming plain stop found.records =
+      journal_stands_apart before all
+      ∙ import_left naming stop found.records plain c.receipt (without_notes all) end c.imported
+      (unhindered.whole c.receipt (single.made.replied ∙ ap (office_reply kinds.Text) c.counted)) in
       elim one [
         | inl none ↦
-            ap (λ events. after_all (second ++ events) before) none
-            ∙ ap (λ events. after_all events before) (append-nil second)
-            ∙ import_left naming stop found.records before b.receipt second is
+            both_apart before first second
+            ∙ ap (λ events. after_all (more ++ without_notes events) plain) none
+            ∙ ap (λ events. after_all events plain) (append-nil more)
+            ∙ import_left naming stop found.records plain b.receipt more is
             (subst (λ events. Handles naming stop found.records b.receipt false
-            (after_all events before) second is) none b.imported)
+            (after_all (without_notes events) plain) more is) none next)
             (whole.unhindered.whole b.receipt counted) ∙ sym left
         | inr made ↦
-            let a = import_counted naming dump made.told false before first between made.made in
-            stops_are_mended naming before stop stop found.records a.receipt b.receipt first second
-            between is a.imported b.imported (whole.unhindered.whole b.receipt counted)
-            (whole.apart b.receipt counted) ∙ sym left
+            let a = import_counted made.said naming dump made.made.told false before first between
+            made.made.made in
+            both_apart before first second
+            ∙ stops_are_mended naming plain stop stop found.records a.receipt b.receipt
+            (without_notes first) more between is a.imported next
+            (whole.unhindered.whole b.receipt counted) (whole.apart b.receipt counted) ∙ sym left
       ]
 
   -- whatever is asked
@@ -76,7 +92,8 @@ module _ (once twice alone : Reply) (before : Book) (first second all : List Eve
       → (first ≡ []) ⊎ AnswersRequest naming request once false before first between
       → AnswersRequest naming request twice false (after_all first before) second is
       → IsWhole twice → AnswersRequest naming request alone false before all end
-      → IsUnhindered alone → after_all (second ++ first) before ≡ after_all all before
+      → IsUnhindered alone
+      → unjournaled (after_all (second ++ first) before) ≡ unjournaled (after_all all before)
   wanted_mended (Settles due) naming one two whole single unhindered =
       none_at_all (none_once one (λ made. made.none.none)) two.none.none single.none.none
   wanted_mended (WantsReport report kind) naming one two whole single unhindered =
@@ -105,7 +122,8 @@ headless naming bytes reply before events is never (a_head head behind stands ma
     absurd (never head behind stands)
 
 -- one with a head does nothing, or what that asks
-with_head : (naming : Naming) (bytes : List ℕ) (head : RequestHead) (behind : List ℕ) (reply : Reply)
+with_head : (naming : Naming) (bytes : List ℕ) (head : RequestHead) (behind : List ℕ)
+    (reply : Reply)
     (before : Book) (events : List Event) (is : Bool) → HasHead bytes head behind
     → Answers naming bytes reply false before events is
     → (events ≡ []) ⊎ AnswersAsked naming (asked head) behind reply false before events is

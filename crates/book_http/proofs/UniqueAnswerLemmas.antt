@@ -6,8 +6,9 @@ use Rattle.book_model.specs.declared.fault.LedgerFault.TheVariants.{Full, NoSuch
 use Rattle.book_model.specs.declared.fault.LedgerFault.TheVariants.{NoSuchPeriod, NoSuchRecord}
 use Rattle.book_model.specs.declared.fault.LedgerFault.TheVariants.{NoSuchTariff}
 use Rattle.book_model.specs.declared.fault.LedgerFault.TheVariants.{TariffRefused}
+use Rattle.book_model.specs.JournalLaws.{unjournaled, without_notes}
 use Rattle.book_core.specs.Words.{Calls, Transition}
-use Rattle.book_import.specs.declared.receipt.Stop.TheVariants.{End, Frame, Read, ReadLimit, Ledger}
+use Rattle.book_model.specs.declared.note.Stop.TheVariants.{End, Frame, Read, ReadLimit, Ledger}
 use Rattle.book_import.specs.Handled.{Imported, Answering, answers_of, handle, handle_all}
 use Rattle.book_import.specs.Handled.{continue_with, nothing_imported}
 use Rattle.book_import.specs.Imports.{GivesReceipt, whole, out_of_memory, store_failed}
@@ -29,7 +30,8 @@ use Rattle.book_http.proofs.LawLemmas.{asked_alike, import_counted, text_none}
 use Rattle.report_rows.specs.declared.report_row.BodyKind.TheVariants as kinds
 
 -- a text that is not unavailable is the definitions' one, or their refusal of it
-reply_tells : (kind : BodyKind) (outcome : Book → Outcome Response) (told : Result Response LedgerFault)
+reply_tells : (kind : BodyKind) (outcome : Book → Outcome Response)
+    (told : Result Response LedgerFault)
     (was : Bool) (before : Book) (events : List Event) (is : Bool)
     → Calls (λ (told : Response). told) outcome told was before events is
     → (office_reply kind told).status ≢ Unavailable → (outcome before).answer ≡ told
@@ -50,7 +52,8 @@ stops_by_books : (answers : Answering) (fault : LedgerFault) (records : List (Li
 stops_by_books answers fault [] so_far = refl
 stops_by_books answers fault (bytes ∷ rest) so_far =
     elim (handle answers bytes so_far) as (λ handled.
-    is_stop_of_books (continue_with (handle_all answers (Ledger fault) rest) so_far handled).receipt.stop
+    is_stop_of_books (continue_with (handle_all answers (Ledger fault) rest) so_far
+    handled).receipt.stop
     ≡ true) [
       | Ok next ↦ stops_by_books answers fault rest next
       | Err refused ↦ refl
@@ -68,7 +71,8 @@ stop_unavailable (Ledger fault) is = refl
 import_tells : (naming : Naming) (stop : Stop) (records : List (List ℕ)) (told : Receipt)
     (was : Bool) (before : Book) (events : List Event) (is : Bool)
     → Handles naming stop records told was before events is → import_status told.stop ≢ Unavailable
-    → GivesReceipt (handle_all (answers_of was naming) stop records (nothing_imported before)) told events
+    → GivesReceipt (handle_all (answers_of was naming) stop records
+    (nothing_imported before)) told events
 import_tells naming stop records told was before events is (whole same so) served = so
 import_tells naming stop records told was before events is (out_of_memory count same so) served =
     absurd (served (stop_unavailable told.stop
@@ -94,13 +98,14 @@ module _ (one other : Reply) (was : Bool) (before : Book) (first second : List E
       → RefusesRequest refused other was before second is_other → IsSame one other first second
   refusals_same refused a b = record {
     reply = a.replied ∙ sym b.replied;
-    events = a.none.none ∙ sym b.none.none;
+    events = ap without_notes (a.none.none ∙ sym b.none.none);
   }
 
   texts_same : (kind : BodyKind) (text : Book → Outcome (List ℕ)) → (text before).event ≡ None
       → AnswersOffice kind (Calls (λ (told : Response). told) (response_outcome Text text)) one was
       before first is_one → one.status ≢ Unavailable
-      → AnswersOffice kind (Calls (λ (told : Response). told) (response_outcome Text text)) other was
+      → AnswersOffice kind (Calls (λ (told : Response). told)
+      (response_outcome Text text)) other was
       before second is_other → other.status ≢ Unavailable → IsSame one other first second
   texts_same kind text no_event a served b served_too =
       let outcome = response_outcome Text text in
@@ -113,8 +118,8 @@ module _ (one other : Reply) (was : Bool) (before : Book) (first second : List E
       record {
         reply = a.replied ∙ ap (office_reply kind) (sym left ∙ right) ∙ sym b.replied;
         events =
-            text_none kind text one was before first is_one no_event a
-            ∙ sym (text_none kind text other was before second is_other no_event b);
+            ap without_notes (text_none kind text one was before first is_one no_event a
+            ∙ sym (text_none kind text other was before second is_other no_event b));
       }
 
   -- where a bad request is refused, and with any other one thing is done, one thing is done
@@ -145,15 +150,19 @@ module _ (one other : Reply) (was : Bool) (before : Book) (first second : List E
       let found = front layout body in
       let stop = stop_after None found in
       let dump = whole_dump layout body in
-      let first_one = import_counted naming dump a.told was before first is_one a.made in
-      let second_one = import_counted naming dump b.told was before second is_other b.made in
-      let reply_one = a.replied ∙ ap (office_reply kinds.Text) first_one.counted in
-      let reply_two = b.replied ∙ ap (office_reply kinds.Text) second_one.counted in
-      let left = import_tells naming stop found.records first_one.receipt was before first is_one
-      first_one.imported (subst (λ (r : Reply). r.status ≢ Unavailable) reply_one served) in
+      let first_one = import_counted a.said naming dump a.made.told was before first is_one
+      a.made.made in
+      let second_one = import_counted b.said naming dump b.made.told was before second is_other
+      b.made.made in
+      let reply_one = a.made.replied ∙ ap (office_reply kinds.Text) first_one.counted in
+      let reply_two = b.made.replied ∙ ap (office_reply kinds.Text) second_one.counted in
+      let left = import_tells naming stop found.records first_one.receipt was (unjournaled before)
+      (without_notes first) is_one first_one.imported
+      (subst (λ (r : Reply). r.status ≢ Unavailable) reply_one served) in
       let right =
-      import_tells naming stop found.records second_one.receipt was before second is_other
-      second_one.imported (subst (λ (r : Reply). r.status ≢ Unavailable) reply_two served_too) in
+      import_tells naming stop found.records second_one.receipt was (unjournaled before)
+      (without_notes second) is_other second_one.imported (subst
+      (λ (r : Reply). r.status ≢ Unavailable) reply_two served_too) in
       record {
         reply = reply_one ∙ ap receipt_reply (sym left.receipt ∙ right.receipt) ∙ sym reply_two;
         events = sym left.events ∙ right.events;
@@ -167,7 +176,8 @@ module _ (one other : Reply) (was : Bool) (before : Book) (first second : List E
   wanted_same (WantsReport report kind) naming a served b served_too =
       texts_same kind (report_outcome naming report) refl a served b served_too
   wanted_same (WantsDetails wanted) naming a served b served_too =
-      texts_same (form_kind wanted.form) (detail_text_outcome wanted naming) refl a served b served_too
+      texts_same (form_kind wanted.form) (detail_text_outcome wanted naming) refl a served b
+      served_too
   wanted_same (WantsWhatIf what_if body) naming a served b served_too =
       what_ifs_same what_if body a served b served_too
   wanted_same (WantsImport layout body) naming a served b served_too =

@@ -23,7 +23,7 @@ pub use Rattle.book_lists.specs.declared.fault.ReportFault.TheVariants.{Ledger, 
 pub use Rattle.book_import.specs.Dumps.{stop_after}
 pub use Rattle.book_import.specs.Imports.{Handles}
 pub use Rattle.book_import.specs.declared.receipt.Receipt.{Receipt}
-pub use Rattle.book_import.specs.declared.receipt.Stop.{Stop}
+pub use Rattle.book_model.specs.declared.note.Stop.{Stop}
 pub use Rattle.book_reports.specs.BookTexts.{report_outcome, shown_by}
 pub use Rattle.book_reports.specs.StreamedDetails.{detail_answer, detail_length_outcome}
 pub use Rattle.book_reports.specs.StreamedDetails.{detail_text_outcome}

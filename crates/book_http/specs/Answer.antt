@@ -1,7 +1,7 @@
 -- What a request is answered, and what it does to the books: by the book before it, and by the
 -- bytes of the request.
 use Rattle.std.specs.Prelude.{◌≡◌, ◌<◌, ℕ, Bool, true, false, not, List, length, take, nat_lt}
-use Rattle.std.specs.Prelude.{if◌then◌else◌, Result, Ok, Err}
+use Rattle.std.specs.Prelude.{if◌then◌else◌, Option, Result, Ok, Err}
 use Rattle.std.specs.Str.{is_utf8}
 use Rattle.httparse.specs.Grammar.{RequestHead}
 use Rattle.book_model.specs.declared.fault.LedgerFault.{LedgerFault}
@@ -9,7 +9,7 @@ use Rattle.book_model.specs.declared.fault.LedgerFault.TheVariants.{Full, NoSuch
 use Rattle.book_model.specs.declared.fault.LedgerFault.TheVariants.{NoSuchPeriod, NoSuchRecord}
 use Rattle.book_model.specs.declared.fault.LedgerFault.TheVariants.{NoSuchTariff}
 use Rattle.book_model.specs.declared.fault.LedgerFault.TheVariants.{TariffRefused}
-use Rattle.book_model.specs.Words.{Layout, Naming, Book, Event}
+use Rattle.book_model.specs.Words.{Layout, Naming, Note, Book, Event}
 use Rattle.book_core.specs.Words.{Calls, Transition, NoEvent}
 use Rattle.book_lists.specs.declared.fault.ReportFault.{ReportFault}
 use Rattle.book_lists.specs.declared.fault.ReportFault.TheVariants.{Write, Memory, Ledger}
@@ -52,7 +52,8 @@ office_reply kind (Err Full) = refusal BadRequest
 office_reply kind told = refusal Unavailable
 
 -- the office was asked, and its answer is the reply
-pub record AnswersOffice (kind : BodyKind) (Making : Result Response LedgerFault → Transition) (reply : Reply)
+pub record AnswersOffice (kind : BodyKind) (Making : Result Response LedgerFault
+    → Transition) (reply : Reply)
     (was : Bool) (before : Book) (events : List Event) (is : Bool) : Type 0 where
   pub told : Result Response LedgerFault
   pub made : Making told was before events is
@@ -83,10 +84,12 @@ abbrev pub AnswersDetails : Naming → DetailReport → Reply → Transition
 AnswersDetails naming wanted reply =
     AnswersOffice (form_kind wanted.form) (ReadsDetails naming wanted) reply
 
--- the import of a body, which is a whole dump
-abbrev pub AnswersImport : Naming → Layout → List ℕ → Reply → Transition
-AnswersImport naming layout body reply =
-    AnswersOffice Text (Receives naming (whole_dump layout body)) reply
+-- the import of a body, which is a whole dump, with what it says of itself
+pub record AnswersImport (naming : Naming) (layout : Layout) (body : List ℕ) (reply : Reply)
+    (was : Bool) (before : Book) (events : List Event) (is : Bool) : Type 0 where
+  pub said : Option Note
+  pub made : AnswersOffice Text (Receives said naming (whole_dump layout body)) reply was before
+      events is
 
 -- nothing is done, and this is the reply
 pub record RefusesRequest (refused reply : Reply) (was : Bool) (before : Book) (events : List Event)

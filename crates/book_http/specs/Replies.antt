@@ -1,8 +1,8 @@
 -- Answers as values, and the bytes that go out for them.
 use Rattle.std.specs.Prelude.{List, ℕ, ◌++◌, length, Option, Some, None}
 use Rattle.book_import.specs.declared.receipt.Receipt.{Receipt}
-use Rattle.book_import.specs.declared.receipt.Stop.{Stop}
-use Rattle.book_import.specs.declared.receipt.Stop.TheVariants.{End, Frame}
+use Rattle.book_model.specs.declared.note.Stop.{Stop}
+use Rattle.book_model.specs.declared.note.Stop.TheVariants.{End, Frame}
 use Rattle.book_reports.specs.ReceiptLines.{receipt_line_text}
 use Rattle.book_http.specs.declared.answer.Answer.{Answer}
 use Rattle.book_http.specs.declared.answer.Answer.TheVariants as answer

@@ -13,7 +13,7 @@ ghost use Rattle.book_http.specs.Served.{AsksOffice, IsGathered, IsRefused, Meas
 use crate::answer::Answer;
 use crate::asked::Asked;
 use crate::status::Status;
-use book_core::{Ledger, LedgerFault, Sink};
+use book_core::{Ledger, LedgerFault, Note, Sink};
 use book_reports::{DetailReport, ReportFault, details_length, write_details};
 use office::{Report, StatementForm, WhatIf, ask_without_reader};
 use report_rows::BodyKind;
@@ -141,24 +141,32 @@ fn answer_what_if<L: Ledger>(alloc: Global, ledger: &mut L, report: WhatIf, body
     answer_of(kind, ask_without_reader(alloc, ledger, &asked))
 }
 
-/// Answers the import of a body, which is a whole dump.
-fn answer_import<L: Ledger>(alloc: Global, ledger: &mut L, layout: Layout, body: Vec<u8>) -> Answer
+/// Answers the import of a body, which is a whole dump, with its note.
+fn answer_import<L: Ledger>(
+    alloc: Global,
+    ledger: &mut L,
+    layout: Layout,
+    body: Vec<u8>,
+    note: Option<Note>,
+) -> Answer
     ensures { IsTransition (L.seen ledger.old) (L.seen ledger.new)
         (AnswersImport (L.seen ledger.old).naming layout body.items (reply_of result)) }
 {
     let asked = office::Asked::ImportBytes {
         layout,
         bytes: body,
+        note,
     };
     answer_of(BodyKind::Text, ask_without_reader(alloc, ledger, &asked))
 }
 
-/// Asks the office once. Details of more bytes than are gathered are only measured, and are to be sent
-/// while they are read.
+/// Asks the office once; an import has the note. Details of more bytes than are gathered are only
+/// measured, and are to be sent while they are read.
 pub fn ask_office<L: Ledger>(
     alloc: Global,
     ledger: &mut L,
     asked: Asked<Vec<u8>>,
+    note: Option<Note>,
 ) -> Result<Answer, (DetailReport, usize)>
     ensures { AsksOffice (L.seen ledger.old) (L.seen ledger.new) asked result }
 {
@@ -170,6 +178,6 @@ pub fn ask_office<L: Ledger>(
             Err(answer) => Ok(answer),
         },
         Asked::WhatIf(what_if, body) => Ok(answer_what_if(alloc, ledger, what_if, body)),
-        Asked::Import(layout, body) => Ok(answer_import(alloc, ledger, layout, body)),
+        Asked::Import(layout, body) => Ok(answer_import(alloc, ledger, layout, body, note)),
     }
 }

@@ -18,15 +18,17 @@ use crate::requested::read_request;
 use crate::routes::Routes;
 use crate::sending::{send, send_details};
 use crate::served::{Served, Unanswered};
-use book_core::{Ledger, Sink, Source};
+use book_core::{Ledger, Note, Sink, Source};
 use std::alloc::Global;
 use streams::{Reader, Writer};
 
-/// Serves what a request asks that was read whole. Long details are sent while they are read.
+/// Serves what a request asks that was read whole; an import has the note. Long details are sent
+/// while they are read.
 fn serve_asked<L: Ledger, W: Writer + Drop>(
     alloc: Global,
     ledger: &mut L,
     asked: Asked<Vec<u8>>,
+    note: Option<Note>,
     sink: &mut Sink<W>,
 ) -> Served
     requires { sinks.has_failed sink.old ≡ false }
@@ -35,7 +37,7 @@ fn serve_asked<L: Ledger, W: Writer + Drop>(
     ensures failed { sinks.has_failed sink.new ≡ is_write_fault result }
     ensures answered { is_unanswered result ≡ false }
 {
-    match ask_office(alloc, ledger, asked) {
+    match ask_office(alloc, ledger, asked, note) {
         Ok(answer) => send(sink, &answer),
         Err(long) => send_details(alloc, ledger, long.0, long.1, sink),
     }
@@ -44,11 +46,13 @@ fn serve_asked<L: Ledger, W: Writer + Drop>(
 /// Serves one request: reads it, does what it asks of the books, and writes the answer. Bytes after
 /// the request are not looked at. What a request did stays done where its answer can't be written.
 /// Details are read twice: to announce how many bytes their text has, and to gather or to send it.
+/// An import has the note.
 pub fn serve_one<R: Reader + Drop, W: Writer + Drop, L: Ledger>(
     alloc: Global,
     source: &mut Source<R>,
     sink: &mut Sink<W>,
     ledger: &mut L,
+    note: Option<Note>,
 ) -> Served
     requires asked { reads_of source.old ≤ 2 ^ 62 }
     requires failed { has_failed source.old ≡ false }
@@ -76,7 +80,7 @@ pub fn serve_one<R: Reader + Drop, W: Writer + Drop, L: Ledger>(
 {
     let mut routes = Routes::new(alloc);
     match read_request(&mut routes, source) {
-        Ok(request) => serve_asked(alloc, ledger, request, sink),
+        Ok(request) => serve_asked(alloc, ledger, request, note, sink),
         Err(Unanswered::Closed) => Served::Closed,
         Err(Unanswered::Failed) => Served::ReadFault,
     }

@@ -28,7 +28,7 @@ behind_last (dispute ∷ []) = refl
 behind_last (dispute ∷ next ∷ more) = behind_last (next ∷ more)
 
 -- the first of the rest of a list is the next one
-slice_dropped : {X : Type 0} (n : ℕ) (xs : List X) → slice_get (drop n xs) 0 ≡ slice_get xs n
+pub slice_dropped : {X : Type 0} (n : ℕ) (xs : List X) → slice_get (drop n xs) 0 ≡ slice_get xs n
 slice_dropped zero xs = refl
 slice_dropped (suc n) [] = refl
 slice_dropped (suc n) (x ∷ xs) = slice_dropped n xs

@@ -5,6 +5,7 @@ pub mod Shown
 pub mod Cursors
 pub mod DetailsInTurn
 pub mod DisputesInTurn
+pub mod ArrivalsInTurn
 pub mod TariffsInTurn
 pub mod Faults
 pub mod Writing

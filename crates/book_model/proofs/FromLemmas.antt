@@ -1,6 +1,7 @@
--- Bytes from some bytes on, what is found first from there, and a walk over disputes.
+-- Bytes from some bytes on, what is found first from there, and walks over items by their keys, and so
+-- over disputes.
 use Rattle.std.proofs.Common.{◌≡◌, ◌∙◌, ℕ, List, [], ◌∷◌, ◌++◌, map, Bool, true, false, not, cond}
-use Rattle.std.proofs.Common.{Some, refl, sym, ap, subst, true≢false, arith, filter, find}
+use Rattle.std.proofs.Common.{Option, Some, refl, sym, ap, subst, true≢false, arith, filter, find}
 use Rattle.std.proofs.Common.{slice_get, option_map, is_lt, nat_cmp, Less, Equal, Greater, map-id}
 use Rattle.std.specs.List.Sorted.{IsStrictlySortedBy}
 use Rattle.book_model.proofs.Std.{nat_cmp_total, tied_itself, AllByRecursion, ordering_reverse}
@@ -101,71 +102,92 @@ find-map f p (x ∷ xs) =
       | false ↦ find-map f p xs
     ]
 
--- ---- a walk over disputes
-
--- the bytes from which a walk goes on that has read these disputes
-abbrev pub bytes_after : List Disputed → List ℕ
-bytes_after [] = []
-bytes_after (dispute ∷ []) = dispute.identity ++ 0 ∷ []
-bytes_after (dispute ∷ next ∷ more) = bytes_after (next ∷ more)
-
--- with one more
-pub bytes_after-push : (read : List Disputed) (dispute : Disputed)
-    → bytes_after (read ++ dispute ∷ []) ≡ dispute.identity ++ 0 ∷ []
-bytes_after-push [] dispute = refl
-bytes_after-push (first ∷ []) dispute = refl
-bytes_after-push (first ∷ next ∷ more) dispute = bytes_after-push (next ∷ more) dispute
-
--- the identities of disputes
-abbrev pub identities_of : List Disputed → List (List ℕ)
-identities_of disputes = map (λ (dispute : Disputed). dispute.identity) disputes
+-- ---- a walk over items by their keys
 
 -- bytes are below themselves with a byte more
 below_longer : (bytes : List ℕ) → by_bytes bytes (bytes ++ 0 ∷ []) ≡ Less
 below_longer bytes =
     nat_list_cmp_total.antisymm bytes (bytes ++ 0 ∷ []) ∙ ap ordering_reverse (longer_after bytes)
 
--- what is below the identities of some disputes is below the bytes after them
-below_after : (bytes : List ℕ) (first : Disputed) (front rest : List Disputed)
-    → AllByRecursion (λ other. by_bytes bytes other ≡ Less) (identities_of (first ∷ front ++ rest))
-    → by_bytes bytes (bytes_after (first ∷ front)) ≡ Less
-below_after bytes first [] rest below =
-    nat_list_cmp_total.trans bytes first.identity (first.identity ++ 0 ∷ []) below.0
-    (below_longer first.identity)
-below_after bytes first (next ∷ front) rest below = below_after bytes next front rest below.1
+module _ {X : Type 0} (key : X → List ℕ) where
+  -- the first of some items whose key is some bytes or comes after them
+  abbrev pub item_from : List ℕ → List X → Option X
+  item_from from items = find (λ item. is_from from (key item)) items
 
--- what is below bytes is not found from them on
-not_found : (from : List ℕ) (dispute : Disputed) (others : List Disputed)
-    → by_bytes dispute.identity from ≡ Less
-    → dispute_from from (dispute ∷ others) ≡ dispute_from from others
-not_found from dispute others below =
-    ap (λ o. cond (not (is_lt o)) (Some dispute) (dispute_from from others)) below
+  -- the bytes from which a walk goes on that has read these items
+  abbrev pub behind_all : List X → List ℕ
+  behind_all [] = []
+  behind_all (item ∷ []) = key item ++ 0 ∷ []
+  behind_all (item ∷ next ∷ more) = behind_all (next ∷ more)
 
--- what is not below is found first
-found_first : (from : List ℕ) (dispute : Disputed) (others : List Disputed)
-    → is_from from dispute.identity ≡ true
-    → dispute_from from (dispute ∷ others) ≡ Some dispute
-found_first from dispute others from_there =
-    ap (λ b. cond b (Some dispute) (dispute_from from others)) from_there
+  -- what is below the keys of some items is below the bytes after them
+  below_after : (bytes : List ℕ) (first : X) (front rest : List X)
+      → AllByRecursion (λ other. by_bytes bytes other ≡ Less) (map key (first ∷ front ++ rest))
+      → by_bytes bytes (behind_all (first ∷ front)) ≡ Less
+  below_after bytes first [] rest below =
+      nat_list_cmp_total.trans bytes (key first) (key first ++ 0 ∷ []) below.0
+      (below_longer (key first))
+  below_after bytes first (next ∷ front) rest below = below_after bytes next front rest below.1
+
+  -- what is below bytes is not found from them on
+  not_found : (from : List ℕ) (item : X) (others : List X) → by_bytes (key item) from ≡ Less
+      → item_from from (item ∷ others) ≡ item_from from others
+  not_found from item others below =
+      ap (λ o. cond (not (is_lt o)) (Some item) (item_from from others)) below
+
+  -- what is not below is found first
+  found_first : (from : List ℕ) (item : X) (others : List X) → is_from from (key item) ≡ true
+      → item_from from (item ∷ others) ≡ Some item
+  found_first from item others from_there =
+      ap (λ b. cond b (Some item) (item_from from others)) from_there
+
+  -- Where the keys rise, the first from the bytes after some of them on is the next.
+  pub walk_items : (front rest : List X) → IsStrictlySortedBy by_bytes (map key (front ++ rest))
+      → item_from (behind_all front) (front ++ rest) ≡ slice_get rest 0
+  unfolding IsStrictlySortedBy
+  walk_items [] [] rise = refl
+  walk_items [] (item ∷ rest) rise = found_first [] item rest (not_below_none (key item))
+  walk_items (first ∷ []) [] rise =
+      not_found (key first ++ 0 ∷ []) first [] (below_longer (key first))
+  walk_items (first ∷ []) (item ∷ rest) rise =
+      not_found (key first ++ 0 ∷ []) first (item ∷ rest) (below_longer (key first))
+      ∙ found_first (key first ++ 0 ∷ []) item rest
+      (next_from (key first) (key item)
+      (nat_list_cmp_total.antisymm (key item) (key first) ∙ ap ordering_reverse rise.0.0))
+  walk_items (first ∷ next ∷ more) rest rise =
+      not_found (behind_all (next ∷ more)) first (next ∷ more ++ rest)
+      (below_after (key first) next more rest rise.0)
+      ∙ walk_items (next ∷ more) rest rise.1
+
+  -- the item that has the bytes as its key is the first from them on
+  pub walk_to : (item : X) (front rest : List X)
+      → IsStrictlySortedBy by_bytes (map key (front ++ item ∷ rest))
+      → item_from (key item) (front ++ item ∷ rest) ≡ Some item
+  unfolding IsStrictlySortedBy
+  walk_to item [] rest rise = found_first (key item) item rest (same_from (key item))
+  walk_to item (first ∷ front) rest rise =
+      not_found (key item) first (front ++ item ∷ rest) (at_item front rise.0)
+      ∙ walk_to item front rest rise.1
+    where
+      at_item : {P : List ℕ → Type 0} (front : List X)
+          → AllByRecursion P (map key (front ++ item ∷ rest)) → P (key item)
+      at_item [] all = all.0
+      at_item (other ∷ front) all = at_item front all.1
+
+-- ---- a walk over disputes
+
+-- the bytes from which a walk goes on that has read these disputes
+abbrev pub bytes_after : List Disputed → List ℕ
+bytes_after = behind_all (λ (dispute : Disputed). dispute.identity)
+
+-- the identities of disputes
+abbrev pub identities_of : List Disputed → List (List ℕ)
+identities_of disputes = map (λ (dispute : Disputed). dispute.identity) disputes
 
 -- Where the identities of disputes rise, the first from the bytes after some of them on is the next.
 pub walk_on : (front rest : List Disputed) → IsStrictlySortedBy by_bytes (identities_of (front ++ rest))
     → dispute_from (bytes_after front) (front ++ rest) ≡ slice_get rest 0
-unfolding IsStrictlySortedBy
-walk_on [] [] rise = refl
-walk_on [] (dispute ∷ rest) rise =
-    found_first [] dispute rest (not_below_none dispute.identity)
-walk_on (first ∷ []) [] rise =
-    not_found (first.identity ++ 0 ∷ []) first [] (below_longer first.identity)
-walk_on (first ∷ []) (dispute ∷ rest) rise =
-    not_found (first.identity ++ 0 ∷ []) first (dispute ∷ rest) (below_longer first.identity)
-    ∙ found_first (first.identity ++ 0 ∷ []) dispute rest
-    (next_from first.identity dispute.identity
-    (nat_list_cmp_total.antisymm dispute.identity first.identity ∙ ap ordering_reverse rise.0.0))
-walk_on (first ∷ next ∷ more) rest rise =
-    not_found (bytes_after (next ∷ more)) first (next ∷ more ++ rest)
-    (below_after first.identity next more rest rise.0)
-    ∙ walk_on (next ∷ more) rest rise.1
+walk_on front rest rise = walk_items (λ (dispute : Disputed). dispute.identity) front rest rise
 
 -- The identities of the disputes of any books rise.
 pub disputes_rise : (naming : Naming) (rulings : Rulings) (held : Records)

@@ -6,8 +6,8 @@
 -- of a record and its trail; the bill of a period, and which centres are there; what a whole history
 -- defines, which histories calls make, and how a history is cut at its rulings; what is always true
 -- of a book; and laws. Then the answers and the faults of a ledger. The journal stands before the
--- book, its entries as they are read behind the calls, and what imports say of themselves, with the
--- laws of the journal, last.
+-- book, its entries as they are read, and by which of them each record came, behind the calls, and
+-- what imports say of themselves, with the laws of the journal, last.
 pub mod Sets
 pub mod Records
 pub mod Limits
@@ -29,6 +29,7 @@ pub mod RulingLists
 pub mod RulingsAsked
 pub mod Outcomes
 pub mod JournalLists
+pub mod Arrivals
 pub mod Details
 pub mod Lives
 pub mod Trails

@@ -1,5 +1,5 @@
 -- Entries of the journal as ledgers return them.
-use Rattle.std.specs.Prelude.{Option, Some, None, option_map}
+use Rattle.std.specs.Prelude.{IfSome, Option, Some, None, option_map}
 use Rattle.book_model.specs.declared.entry.ListedAct.{ListedAct}
 use Rattle.book_model.specs.declared.entry.ListedAct.TheVariants as listed
 use Rattle.book_model.specs.declared.entry.ListedEntry.{ListedEntry}
@@ -25,3 +25,7 @@ entry_shown entry = record {
 abbrev pub ShowsActDays : ListedAct → Type 0
 ShowsActDays (listed.Ruling place found) = ShowsDays found
 ShowsActDays (listed.Import reading ending kept) = Unit {0}
+
+-- those that an entry shows, if one was found
+abbrev pub ShowsEntryDays : Option ListedEntry → Type 0
+ShowsEntryDays found = IfSome found (λ entry. ShowsActDays entry.act)

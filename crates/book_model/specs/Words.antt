@@ -138,7 +138,10 @@ pub use Rattle.book_model.specs.Laws.{IsAfterLastClose}
 pub use Rattle.book_model.specs.JournalLists.{ActSeen, EntrySeen, entries_listed, entry_outcome}
 pub use Rattle.book_model.specs.JournalLists.{entry_seen, ruling_at}
 pub use Rattle.book_model.specs.JournalLists.{ImportDone, RulingDone}
-pub use Rattle.book_model.specs.ListedEntries.{ShowsActDays, act_listed, entry_shown}
+pub use Rattle.book_model.specs.ListedEntries.{ShowsActDays, ShowsEntryDays, act_listed}
+pub use Rattle.book_model.specs.ListedEntries.{entry_shown}
+pub use Rattle.book_model.specs.Arrivals.{arrival_at, arrival_from, arrival_outcome, arrivals}
+pub use Rattle.book_model.specs.Arrivals.{came_under, names_of}
 pub use Rattle.book_model.specs.Notes.{Portion, import_events, told, told_end, told_so_far}
 pub use Rattle.book_model.specs.Notes.{with_import}
 pub use Rattle.book_model.specs.Notes.{ended_outcome, ending_shown, place_shown, stop_shown}

@@ -50,3 +50,12 @@ pub struct ListedEntry {
     pub note: Note,
     pub act: ListedAct,
 }
+
+/// A record that is held, by its name, and by which entry of the journal it came.
+#[derive(Clone, Copy)]
+pub struct Arrival {
+    /// The name of the record's data.
+    pub name: [u8; 32],
+    /// The number of the entry, 0 where it came by none.
+    pub entry: u64,
+}

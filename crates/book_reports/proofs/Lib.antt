@@ -5,6 +5,7 @@ pub mod MadeLemmas
 pub mod ReportLemmas
 pub mod RulingLemmas
 pub mod DisputeLemmas
+pub mod JournalLemmas
 pub mod DetailLemmas
 pub mod DetailLengths
 pub mod TariffLemmas
@@ -13,6 +14,7 @@ pub mod WhatIfLemmas
 pub mod NextTariffLemmas
 pub mod FigureLemmas
 pub mod RecordNameLemmas
+pub mod RecordReportLemmas
 pub mod DetailSums
 pub mod WorkLemmas
 pub mod BillLineLemmas

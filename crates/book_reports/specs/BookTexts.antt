@@ -11,7 +11,7 @@ use Rattle.book_model.specs.declared.row.ChargeRow.{ChargeRow}
 use Rattle.book_model.specs.Words.{Book, open_period, disputes_in, Outcome, no_event}
 use Rattle.book_model.specs.Words.{charges_outcome, adjustments_outcome, disputes_outcome}
 use Rattle.book_model.specs.Words.{periods_outcome, Naming, rows_for, rulings_listed}
-use Rattle.book_model.specs.Words.{begun_in, of_centre, tariff_text_on, trail_outcome}
+use Rattle.book_model.specs.Words.{begun_in, of_centre, tariff_text_on}
 use Rattle.report_texts.specs.Statements.{statement_text}
 use Rattle.report_texts.specs.StatementTables.{statement_table}
 use Rattle.report_texts.specs.AdjustmentLists.{adjustment_list_text}
@@ -22,7 +22,6 @@ use Rattle.report_texts.specs.DisputeLists.{dispute_list_text}
 use Rattle.report_texts.specs.DisputeTables.{dispute_table}
 use Rattle.report_texts.specs.PeriodLists.{period_list_text}
 use Rattle.report_texts.specs.RulingLists.{ruling_list_text}
-use Rattle.report_texts.specs.RecordTexts.{record_text}
 use Rattle.book_reports.specs.declared.report.PeriodReport.{PeriodReport}
 use Rattle.book_reports.specs.declared.report.PeriodReport.TheVariants.{AdjustmentList, Statement}
 use Rattle.book_reports.specs.declared.report.PeriodReport.TheVariants.{AdjustmentTable}
@@ -39,6 +38,7 @@ use Rattle.book_reports.specs.Bills.{bill_answer}
 use Rattle.book_reports.specs.Coverage.{coverage_answer}
 use Rattle.book_reports.specs.FocusReports.{focus_answer}
 use Rattle.book_reports.specs.Pages.{office_page_answer, period_page_answer}
+use Rattle.book_reports.specs.RecordReports.{record_answer}
 use Rattle.book_reports.specs.ReplacedTexts.{replaced_text_on}
 pub use Rattle.book_lists.specs.Shown.{shown_by}
 pub use Rattle.book_reports.specs.Shown.{closed_through, closed_through_outcome}
@@ -106,8 +106,7 @@ report_answer naming RulingList book = Ok (ruling_text naming book)
 report_answer naming (TariffText day) book = ok_or (tariff_text_on day book.rulings) NoSuchTariff
 report_answer naming (ReplacedText day digest) book =
     ok_or (replaced_text_on naming day digest book) NoSuchTariff
-report_answer naming (Record name) book =
-    shown_by (record_text name) (trail_outcome naming name book).answer
+report_answer naming (Record name) book = record_answer naming name book
 report_answer naming (Bill form period centre) book =
     of_centre (begun_in period book.rulings) centre (bill_answer naming form period centre book)
 report_answer naming (BillPage period centre) book =

@@ -13,6 +13,7 @@ use crate::coverage::coverage_report;
 use crate::focus_reports::focus_report;
 use crate::known_centres::known_centre;
 use crate::pages::{office_page_report, period_page_report};
+use crate::record_reports::record_report;
 use crate::replaced_texts::replaced_text;
 use crate::report::{PeriodReport, Report};
 use crate::ruling_texts::{ruling_list, tariff_text};
@@ -21,7 +22,7 @@ use page_texts::close_of;
 use report_texts::{
     adjustment_list_text, adjustment_table, centre_adjustment_table, centre_adjustments_text,
     centre_statement_table, centre_statement_text, dispute_list_text, dispute_table,
-    period_list_text, record_text, statement_table, statement_text,
+    period_list_text, statement_table, statement_text,
 };
 use smf_text::Name;
 use std::alloc::{AllocError, Global};
@@ -226,10 +227,7 @@ pub fn report_text<L: Ledger>(
         Report::RulingList => ruling_list(alloc, ledger),
         Report::TariffText(day) => tariff_text(ledger, day),
         Report::ReplacedText { day, digest } => replaced_text(alloc, ledger, day, digest),
-        Report::Record(name) => made_of(
-            ledger.trail_of(alloc, &name),
-            |trail| Ok(record_text(alloc, &name, trail)?.into_bytes()),
-        ),
+        Report::Record(name) => record_report(alloc, ledger, name),
         Report::Bill {
             form,
             period,

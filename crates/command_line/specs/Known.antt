@@ -109,6 +109,17 @@ names = named_if_given (codes "from") any
 abbrev pub dumped : WordSeen
 dumped = named_if_given (codes "dump") any
 
+-- an entry of the journal, of which all that came by it is meant
+abbrev pub imported : WordSeen
+imported = named_if_given (codes "import") any
+
+-- who asks, and why
+abbrev pub by : WordSeen
+by = named_if_given (codes "by") any
+
+abbrev pub note : WordSeen
+note = named_if_given (codes "note") any
+
 abbrev pub number_kind : WordSeen
 number_kind = place (codes "kind") (among (codes "frame" ∷ codes "ledger" ∷ codes "tariff"
     ∷ codes "damaged" ∷ codes "io" ∷ codes "busy" ∷ codes "exists" ∷ codes "word"
@@ -221,15 +232,16 @@ commands_above = (
 ) ∷
     (codes "check", layouts ∷ quiet ∷ whole ∷ with_names ∷ file ∷ explain ∷ []) ∷
     (codes "init", book ∷ explain ∷ []) ∷
-    (codes "tariff", book ∷ file ∷ dry_run ∷ near ∷ replace ∷ wait ∷ explain ∷ []) ∷
-    (codes "import", book ∷ file ∷ layouts ∷ quiet ∷ whole ∷ wait ∷ explain ∷ []) ∷
-    (codes "close", book ∷ period ∷ date ∷ dry_run ∷ near ∷ wait ∷ explain ∷ []) ∷ (
+    (codes "tariff", book ∷ file ∷ dry_run ∷ near ∷ replace ∷ by ∷ note ∷ wait ∷ explain ∷ []) ∷
+    (codes "import", book ∷ file ∷ layouts ∷ quiet ∷ whole ∷ by ∷ note ∷ wait ∷ explain ∷ []) ∷
+    (codes "close", book ∷ period ∷ date ∷ dry_run ∷ near ∷ by ∷ note ∷ wait ∷ explain ∷ []) ∷ (
       codes "choose",
-      book ∷ digest ∷ names ∷ dumped ∷ layouts ∷ dry_run ∷ none ∷ wait ∷ explain ∷ [],
+      book ∷ digest ∷ names ∷ dumped ∷ layouts ∷ imported ∷ dry_run ∷ none ∷ by ∷ note ∷ wait
+          ∷ explain ∷ [],
     ) ∷
-    (codes "adopt", book ∷ dry_run ∷ wait ∷ explain ∷ []) ∷ (
+    (codes "adopt", book ∷ dry_run ∷ by ∷ note ∷ wait ∷ explain ∷ []) ∷ (
       codes "credit",
-      book ∷ period ∷ credited ∷ amount ∷ reason ∷ dry_run ∷ wait ∷ explain ∷ [],
+      book ∷ period ∷ credited ∷ amount ∷ reason ∷ dry_run ∷ by ∷ note ∷ wait ∷ explain ∷ [],
     ) ∷
     []
 
@@ -237,7 +249,7 @@ abbrev pub commands_below : List (Text × List WordSeen)
 commands_below = (codes "upgrade", book ∷ wait ∷ explain ∷ []) ∷
     (codes "audit", book ∷ quiet ∷ wait ∷ explain ∷ []) ∷
     (codes "backup", book ∷ file ∷ quiet ∷ wait ∷ explain ∷ []) ∷
-    (codes "serve", book ∷ port ∷ requests ∷ explain ∷ []) ∷
+    (codes "serve", book ∷ port ∷ requests ∷ by ∷ explain ∷ []) ∷
     (codes "explain", number_kind ∷ kind_number ∷ explain ∷ []) ∷
     []
 

@@ -1,7 +1,8 @@
 -- Which request clap's matches are: the name of a command, and what was found for its arguments.
 use Rattle.std.specs.Prelude.{◌≡◌, ◌⊎◌, ◌&&◌, ◌||◌, ◌==◌, ℕ, Bool, true, false, List, Option, codes}
 use Rattle.std.specs.Prelude.{Some, None, IsSome, IsSomeAnd, bytes_eq, is_some, nat_lt, not}
-use Rattle.std.specs.Prelude.{slice_get, ⊤}
+use Rattle.std.specs.Prelude.{length, nat_le, slice_get, ⊤}
+use Rattle.std.specs.List.{list_all}
 use Rattle.std.specs.Borrow.{Bor}
 use Rattle.std.specs.Option.{option_map_or}
 use Rattle.std.specs.Str.Parse.{IsNumeral, digits_value, without_leading_plus}
@@ -19,6 +20,7 @@ use Rattle.report_rows.specs.declared.report_row.Shape.TheVariants as shape
 use Rattle.command_line.specs.declared.request.BookRequest.{BookRequest}
 use Rattle.command_line.specs.declared.request.BookRequest.TheVariants as book
 use Rattle.command_line.specs.declared.request.DumpFile.{DumpFile}
+use Rattle.command_line.specs.declared.request.NoteWords.{NoteWords}
 use Rattle.command_line.specs.declared.request.NumberKind.{NumberKind}
 use Rattle.command_line.specs.declared.request.NumberKind.TheVariants as number
 use Rattle.command_line.specs.declared.request.PeriodWords.{PeriodWords}
@@ -113,6 +115,15 @@ abbrev pub IsCentre : List Row → Option (Bor Text) → Type 0
 IsCentre rows (Some centre) = IsText rows (codes "centre") centre
 IsCentre rows None = IsLeftOut rows (codes "centre")
 
+-- who asks, and why, where the words say it
+abbrev pub IsIfGiven : List Row → Text → Option (Bor Text) → Type 0
+IsIfGiven rows name (Some text) = IsText rows name text
+IsIfGiven rows name None = IsLeftOut rows name
+
+pub record IsNoted (rows : List Row) (said : NoteWords) : Type 0 where
+  pub by : IsIfGiven rows (codes "by") said.by
+  pub remark : IsIfGiven rows (codes "note") said.remark
+
 -- a period, of the one or the other
 pub record NamesPeriod (rows : List Row) (period : PeriodWords) : Type 0 where
   pub number : IsPeriod rows period.number
@@ -161,7 +172,7 @@ IsRuling name rows (ruling.Close period date) =
 IsRuling name rows (ruling.Choose digest) =
     (name ≡ codes "choose") × IsText rows (codes "sha256") digest
     × IsLeftOut rows (codes "from") × IsLeftOut rows (codes "dump")
-    × IsFlag rows (codes "none") false
+    × IsLeftOut rows (codes "import") × IsFlag rows (codes "none") false
 IsRuling name rows ruling.Adopt = name ≡ codes "adopt"
 IsRuling name rows (ruling.Replace file) =
     (name ≡ codes "tariff") × IsText rows (codes "file") file
@@ -169,7 +180,7 @@ IsRuling name rows (ruling.Replace file) =
 IsRuling name rows (ruling.Withhold digest) =
     (name ≡ codes "choose") × IsText rows (codes "sha256") digest
     × IsLeftOut rows (codes "from") × IsLeftOut rows (codes "dump")
-    × IsFlag rows (codes "none") true
+    × IsLeftOut rows (codes "import") × IsFlag rows (codes "none") true
 IsRuling name rows (ruling.Credit period centre amount reason) =
     (name ≡ codes "credit") × IsPeriod rows period × IsText rows (codes "centre") centre
     × IsText rows (codes "amount") amount × IsText rows (codes "reason") reason
@@ -189,6 +200,10 @@ IsNear rows other value = value ≡ false
 abbrev pub names_some : List Row → Bool
 names_some rows = is_some (first_of (codes "sha256") rows) || is_some (first_of (codes "from") rows)
 
+-- or an import
+abbrev pub names_others : List Row → Bool
+names_others rows = names_some rows || is_some (first_of (codes "import") rows)
+
 -- what is asked of books
 abbrev pub IsOfBooks : Text → List Row → BookRequest → Type 0
 IsOfBooks name rows book.Init = name ≡ codes "init"
@@ -200,13 +215,16 @@ IsOfBooks name rows (book.Import dump) = (name ≡ codes "import") × IsDump row
 IsOfBooks name rows (book.ChooseListed none file) =
     (name ≡ codes "choose") × IsLeftOut rows (codes "sha256")
     × IsText rows (codes "from") file × IsLeftOut rows (codes "dump")
-    × IsFlag rows (codes "none") none × IsDryRun rows false
+    × IsLeftOut rows (codes "import") × IsFlag rows (codes "none") none × IsDryRun rows false
 IsOfBooks name rows (book.TryListed none file) =
     (name ≡ codes "choose") × IsLeftOut rows (codes "sha256")
     × IsText rows (codes "from") file × IsLeftOut rows (codes "dump")
-    × IsFlag rows (codes "none") none × IsDryRun rows true
+    × IsLeftOut rows (codes "import") × IsFlag rows (codes "none") none × IsDryRun rows true
 IsOfBooks name rows (book.WithholdDump file layout) =
     (name ≡ codes "choose") × IsText rows (codes "dump") file × IsLayout rows layout
+    × (names_others rows ≡ false) × IsFlag rows (codes "none") true × IsDryRun rows false
+IsOfBooks name rows (book.WithholdImport number) =
+    (name ≡ codes "choose") × IsLeftOut rows (codes "dump") × IsText rows (codes "import") number
     × (names_some rows ≡ false) × IsFlag rows (codes "none") true × IsDryRun rows false
 IsOfBooks name rows (book.DryRun ruled) = IsRuling name rows ruled × IsDryRun rows true
 IsOfBooks name rows (book.Report asked) =
@@ -266,20 +284,44 @@ is_plain text =
 abbrev pub has_plain_period : List Row → Bool
 has_plain_period rows = option_map_or is_plain (first_of (codes "period") rows) true
 
+-- the longest person, and the longest remark
+abbrev pub most_person : ℕ
+most_person = 40
+
+abbrev pub most_remark : ℕ
+most_remark = 200
+
+-- a text is no longer than that, and its characters are those from blank to tilde
+abbrev pub is_printable : ℕ → Bool
+is_printable character = nat_le 32 character && nat_le character 126
+
+abbrev pub is_printable_within : ℕ → Text → Bool
+is_printable_within most text = nat_le (length text) most && list_all is_printable text
+
+-- so are the person and the remark, where they are given
+abbrev pub has_plain_note : List Row → Bool
+has_plain_note rows =
+    option_map_or (is_printable_within most_person) (first_of (codes "by") rows) true
+    && option_map_or (is_printable_within most_remark) (first_of (codes "note") rows) true
+
 -- words that do not say what is asked, alone or together
 abbrev pub IsUnclear : Text → List Row → Unclear → Type 0
 IsUnclear name rows unclear.Choice =
-    (name ≡ codes "choose") × IsLeftOut rows (codes "dump")
+    (name ≡ codes "choose") × IsLeftOut rows (codes "dump") × IsLeftOut rows (codes "import")
     × ((IsGiven rows (codes "sha256") × IsGiven rows (codes "from"))
     ⊎ (IsLeftOut rows (codes "sha256") × IsLeftOut rows (codes "from")))
 IsUnclear name rows unclear.Dump =
     (name ≡ codes "choose") × IsGiven rows (codes "dump")
+    × (IsFlag rows (codes "none") false ⊎ (IsDryRun rows true ⊎ (names_others rows ≡ true)))
+IsUnclear name rows unclear.Import =
+    (name ≡ codes "choose") × IsLeftOut rows (codes "dump") × IsGiven rows (codes "import")
     × (IsFlag rows (codes "none") false ⊎ (IsDryRun rows true ⊎ (names_some rows ≡ true)))
 IsUnclear name rows unclear.Prices =
     (name ≡ codes "trial") × IsGiven rows (codes "tariff") × NamesRate rows
 IsUnclear name rows unclear.Period = has_plain_period rows ≡ false
 IsUnclear name rows unclear.Form =
     (asked : BookRequest) × IsOfBooks name rows asked × (is_both asked ≡ true)
+IsUnclear name rows unclear.Note = has_plain_note rows ≡ false
 
 -- what is asked of the program, by the words of a command
 abbrev pub IsOfCommand : Text → List Row → Request → Type 0
@@ -293,8 +335,9 @@ IsOfCommand name rows (request.Check dump names) =
     (name ≡ codes "check") × IsDump rows dump × IsFlag rows (codes "names") names
 IsOfCommand name rows (request.Explain kind value) =
     (name ≡ codes "explain") × IsKind rows kind × IsNumber rows (codes "number") value
-IsOfCommand name rows (request.OfBooks path wait asked) =
-    IsText rows (codes "book") path × IsWait name rows wait × IsOfBooks name rows asked
+IsOfCommand name rows (request.OfBooks path wait said asked) =
+    IsText rows (codes "book") path × IsWait name rows wait × IsNoted rows said
+    × IsOfBooks name rows asked
 IsOfCommand name rows (request.Unclear why) = IsUnclear name rows why
 
 -- it is only said that a period is not written plainly
@@ -302,7 +345,19 @@ abbrev pub is_of_period_text : Request → Bool
 is_of_period_text (request.Unclear unclear.Period) = true
 is_of_period_text asked = false
 
--- What is asked of the program. A period that is not written plainly is refused before all else.
+-- or that a person or a remark is too long, or has other characters
+abbrev pub is_of_note_text : Request → Bool
+is_of_note_text (request.Unclear unclear.Note) = true
+is_of_note_text asked = false
+
+-- what is asked, by the words of a command whose period is written plainly
+pub record IsPlainRequest (name : Text) (rows : List Row) (asked : Request) : Type 0 where
+  pub command : IsOfCommand name rows asked
+  pub noted : has_plain_note rows ≡ not (is_of_note_text asked)
+
+-- What is asked of the program. A period that is not written plainly is refused before all else, and
+-- then such a person or remark.
 pub record IsRequest (name : Text) (rows : List Row) (asked : Request) : Type 0 where
   pub command : IsOfCommand name rows asked
   pub plain : has_plain_period rows ≡ not (is_of_period_text asked)
+  pub noted : is_of_period_text asked ≡ false → has_plain_note rows ≡ not (is_of_note_text asked)

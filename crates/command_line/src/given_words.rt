@@ -4,10 +4,10 @@ ghost use Rattle.std.specs.Prelude.{◌≡◌, None, IfSome, IsSome, codes, pos}
 ghost use Rattle.clap.specs.Walk.{first_of};
 ghost use Rattle.command_line.specs.Given.{HasNumber, HasRate, HasWord};
 ghost use Rattle.command_line.specs.Known as known;
-ghost use Rattle.command_line.specs.Requests.{IsDump, IsFlag, IsKind, IsLayout, IsLeftOut, IsNumber};
-ghost use Rattle.command_line.specs.Requests.{IsText, NamesPeriod, rows_in};
+ghost use Rattle.command_line.specs.Requests.{IsDump, IsFlag, IsKind, IsLayout, IsLeftOut, IsNoted};
+ghost use Rattle.command_line.specs.Requests.{IsNumber, IsText, NamesPeriod, rows_in};
 
-use crate::request::{DumpFile, NumberKind, PeriodWords};
+use crate::request::{DumpFile, NoteWords, NumberKind, PeriodWords};
 use clap::ArgMatches;
 use smf_frames::Layout;
 
@@ -95,6 +95,15 @@ pub(crate) fn period_in<'a>(found: &ArgMatches<'a>) -> Option<PeriodWords<'a>>
     let number = number_in(found, "period")?;
     let centre = text_in(found, "centre");
     Some(PeriodWords { number, centre })
+}
+
+/// Who asks, and why, where the words say it.
+pub(crate) fn note_in<'a>(found: &ArgMatches<'a>) -> NoteWords<'a>
+    ensures { IsNoted (rows_in found.now) result }
+{
+    let by = text_in(found, "by");
+    let remark = text_in(found, "note");
+    NoteWords { by, remark }
 }
 
 pub(crate) fn dump_in<'a>(found: &ArgMatches<'a>) -> Option<DumpFile<'a>>

@@ -20,6 +20,7 @@ pub(crate) enum Help {
     RecordName,
     Names,
     Dumped,
+    Imported,
     Layout,
     Quiet,
     Whole,
@@ -29,8 +30,12 @@ pub(crate) enum Help {
     Near,
     Replace,
     NoneOf,
+    By,
+    Served,
+    Note,
     Csv,
     DisputeCsv,
+    EntryCsv,
     Html,
     Wait,
     Centre,
@@ -67,6 +72,9 @@ impl Help {
             }
             Help::Names => "A file of records' names in place of SHA256, one a line",
             Help::Dumped => "With --none, a dump in place of SHA256: the works of its records",
+            Help::Imported => {
+                "With --none, an entry of the journal: the works of the records that came by it"
+            }
             Help::Layout => {
                 "How the dump is laid out: segments one after another (rdw), or in blocks (bdw)"
             }
@@ -82,8 +90,14 @@ impl Help {
             Help::Near => "Refuses a day that is far after the newest record, or after today",
             Help::Replace => "Puts it in the place of the tariff that begins on its first day",
             Help::NoneOf => "Charges no record of that work, until one of them is chosen",
+            Help::By => {
+                "Who does it, in up to 40 printable characters: it stands in the journal for good"
+            }
+            Help::Served => "Who is named in the journal for what is asked over HTTP",
+            Help::Note => "A remark in up to 200 printable characters, for the journal",
             Help::Csv => "As comma-separated values, without the total",
             Help::DisputeCsv => "As comma-separated values, a line for each record",
+            Help::EntryCsv => "As comma-separated values, a line for each entry",
             Help::Html => "As a page for a browser and for paper",
             Help::Wait => {
                 "For how many seconds to wait while another program uses the books, up to 3600"
@@ -118,12 +132,14 @@ impl Help {
             Help::Reason => "REASON",
             Help::Cpu | Help::Excp | Help::Record => "RATE",
             Help::Port => "PORT",
-            Help::Requests | Help::Number => "NUMBER",
+            Help::Requests | Help::Number | Help::Imported => "NUMBER",
+            Help::By | Help::Served => "NAME",
+            Help::Note => "TEXT",
             Help::NumberKind => "KIND",
             Help::Quiet | Help::Whole | Help::WithNames => "",
             Help::Explain | Help::DryRun | Help::Near => "",
             Help::Replace | Help::NoneOf => "",
-            Help::Csv | Help::DisputeCsv | Help::Html => "",
+            Help::Csv | Help::DisputeCsv | Help::EntryCsv | Help::Html => "",
         }
     }
 }

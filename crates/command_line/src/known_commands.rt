@@ -82,6 +82,8 @@ const NAMES: Argument = Argument::NamedIfGiven("from", Help::Names, ValueKind::T
 
 const DUMPED: Argument = Argument::NamedIfGiven("dump", Help::Dumped, ValueKind::Text);
 
+const IMPORTED: Argument = Argument::NamedIfGiven("import", Help::Imported, ValueKind::Text);
+
 const LAYOUT: Argument = Argument::NamedOr(
     "layout",
     Help::Layout,
@@ -105,9 +107,17 @@ const REPLACE: Argument = Argument::Flag("replace", Help::Replace);
 
 const NONE: Argument = Argument::Flag("none", Help::NoneOf);
 
+const BY: Argument = Argument::NamedIfGiven("by", Help::By, ValueKind::Text);
+
+const SERVED_BY: Argument = Argument::NamedIfGiven("by", Help::Served, ValueKind::Text);
+
+const NOTE: Argument = Argument::NamedIfGiven("note", Help::Note, ValueKind::Text);
+
 const CSV: Argument = Argument::Flag("csv", Help::Csv);
 
 const DISPUTE_CSV: Argument = Argument::Flag("csv", Help::DisputeCsv);
+
+const ENTRY_CSV: Argument = Argument::Flag("csv", Help::EntryCsv);
 
 const HTML: Argument = Argument::Flag("html", Help::Html);
 
@@ -151,7 +161,7 @@ const NUMBER: Argument = Argument::InPlaceOr(
 
 /// The commands in the order of the program's help. The commands of reports have the words that the
 /// rows of `report_rows` give them.
-pub(crate) static KNOWN_COMMANDS: [KnownCommand; 26] = [
+pub(crate) static KNOWN_COMMANDS: [KnownCommand; 27] = [
     KnownCommand {
         name: "trial",
         about: "Prices a dump from standard input in new books, and prints their statement",
@@ -170,35 +180,37 @@ pub(crate) static KNOWN_COMMANDS: [KnownCommand; 26] = [
     KnownCommand {
         name: "tariff",
         about: "Puts a tariff in force from its first day on",
-        words: &[BOOK, TARIFF, DRY_RUN, NEAR, REPLACE, WAIT, EXPLAIN],
+        words: &[
+            BOOK, TARIFF, DRY_RUN, NEAR, REPLACE, BY, NOTE, WAIT, EXPLAIN,
+        ],
     },
     KnownCommand {
         name: "import",
         about: "Reads a dump into the books, each record once",
-        words: &[BOOK, DUMP, LAYOUT, QUIET, WHOLE, WAIT, EXPLAIN],
+        words: &[BOOK, DUMP, LAYOUT, QUIET, WHOLE, BY, NOTE, WAIT, EXPLAIN],
     },
     KnownCommand {
         name: "close",
         about: "Closes the open period through a day",
-        words: &[BOOK, PERIOD, DATE, DRY_RUN, NEAR, WAIT, EXPLAIN],
+        words: &[BOOK, PERIOD, DATE, DRY_RUN, NEAR, BY, NOTE, WAIT, EXPLAIN],
     },
     KnownCommand {
         name: "choose",
         about: "Charges one of several records in dispute with each other, and none of the others",
         words: &[
-            BOOK, SHA256, NAMES, DUMPED, LAYOUT, DRY_RUN, NONE, WAIT, EXPLAIN,
+            BOOK, SHA256, NAMES, DUMPED, LAYOUT, IMPORTED, DRY_RUN, NONE, BY, NOTE, WAIT, EXPLAIN,
         ],
     },
     KnownCommand {
         name: "adopt",
         about: "Takes steps that began at different times for different work, for good",
-        words: &[BOOK, DRY_RUN, WAIT, EXPLAIN],
+        words: &[BOOK, DRY_RUN, BY, NOTE, WAIT, EXPLAIN],
     },
     KnownCommand {
         name: "credit",
         about: "Takes an amount off what a centre owes for the open period, for a reason",
         words: &[
-            BOOK, PERIOD, CREDITED, AMOUNT, REASON, DRY_RUN, WAIT, EXPLAIN,
+            BOOK, PERIOD, CREDITED, AMOUNT, REASON, DRY_RUN, BY, NOTE, WAIT, EXPLAIN,
         ],
     },
     KnownCommand {
@@ -257,6 +269,11 @@ pub(crate) static KNOWN_COMMANDS: [KnownCommand; 26] = [
         words: &[BOOK, WAIT, EXPLAIN],
     },
     KnownCommand {
+        name: "journal",
+        about: "Prints who made each ruling and import, when, and from which file",
+        words: &[BOOK, ENTRY_CSV, WAIT, EXPLAIN],
+    },
+    KnownCommand {
         name: "tariff-text",
         about: "Prints the tariff file that begins on a day, byte for byte",
         words: &[BOOK, FIRST_DAY, REPLACED, WAIT, EXPLAIN],
@@ -279,7 +296,7 @@ pub(crate) static KNOWN_COMMANDS: [KnownCommand; 26] = [
     KnownCommand {
         name: "serve",
         about: "Serves the books over HTTP, to this machine only",
-        words: &[BOOK, PORT, REQUESTS, EXPLAIN],
+        words: &[BOOK, PORT, REQUESTS, SERVED_BY, EXPLAIN],
     },
     KnownCommand {
         name: "explain",

@@ -14,5 +14,6 @@ mod request;
 pub use command_line::requested_by;
 pub use fault::ArgumentFault;
 pub use request::{
-    BookRequest, DumpFile, NumberKind, PeriodWords, ReportAsked, Request, Ruling, Unclear, Words,
+    BookRequest, DumpFile, NoteWords, NumberKind, PeriodWords, ReportAsked, Request, Ruling,
+    Unclear, Words,
 };

@@ -1,18 +1,22 @@
 //! The command that `clap` found in the words.
 
 ghost use Rattle.std.specs.Prelude.{◌≡◌, ◌≢◌, [], ◌∷◌, ◌++◌, IfSome, IsSome, IsSomeAnd, codes};
-ghost use Rattle.std.specs.Prelude.{false, is_some};
+ghost use Rattle.std.specs.Prelude.{false, is_some, true};
+ghost use Rattle.std.specs.List.{list_all};
+ghost use Rattle.std.specs.Option.{option_map_or};
 ghost use Rattle.clap.specs.Simple.{subcommand_rows_of};
 ghost use Rattle.clap.specs.Walk.{first_of};
 ghost use Rattle.command_line.specs.Given.{HasWord, HasWords, HasWordsOf, NoneIs, bookless, changes};
 ghost use Rattle.command_line.specs.Given.{services};
 ghost use Rattle.command_line.specs.Known as known;
 ghost use Rattle.command_line.specs.Requests.{IsAtOnce, IsLeftOut, IsOfBooks, IsOfCommand, IsRequest};
-ghost use Rattle.command_line.specs.Requests.{IsDryRun, IsFlag, IsNear, IsRuling, IsText, rows_in};
+ghost use Rattle.command_line.specs.Requests.{IsDryRun, IsFlag, IsNear, IsPlainRequest, IsRuling};
+ghost use Rattle.command_line.specs.Requests.{IsText, rows_in};
 ghost use Rattle.command_line.specs.Requests as spec;
 
 use crate::given_words::{
-    dump_in, flag_in, kind_in, layout_in, number_in, rate_in, requests_in, text_in, wait_in,
+    dump_in, flag_in, kind_in, layout_in, note_in, number_in, rate_in, requests_in, text_in,
+    wait_in,
 };
 use crate::report_words::{report_in, statement_in};
 use crate::request::{BookRequest, Request, Ruling, Unclear};
@@ -30,7 +34,7 @@ pub(crate) fn matched_request<'a>(matches: &ArgMatches<'a>) -> Option<Request<'a
 {
     let (name, found) = matches.subcommand()?;
     if has_plain_period(found) {
-        request_in(name, found)
+        plain_in(name, found)
     } else {
         Some(Request::Unclear(Unclear::Period))
     }
@@ -50,6 +54,55 @@ fn has_plain_period(found: &ArgMatches<'_>) -> bool
     match text_in(found, "period") {
         Some(text) => is_plain(text),
         None => true,
+    }
+}
+
+/// The most characters of a person, and of a remark.
+const MOST_PERSON: usize = 40;
+
+const MOST_REMARK: usize = 200;
+
+/// A character is one from blank to tilde.
+fn is_printable(character: u8) -> bool
+    ensures { result ≡ spec.is_printable character }
+{
+    b' ' <= character && character <= b'~'
+}
+
+/// Each character of a text is.
+fn has_printable(text: &str) -> bool
+    ensures { result ≡ list_all spec.is_printable text.now }
+{
+    text.bytes().all(is_printable)
+}
+
+/// The text of an argument, where it is given, is no longer than that and printable.
+fn is_within(found: &ArgMatches<'_>, name: &str, most: usize) -> bool
+    ensures { result ≡ option_map_or (spec.is_printable_within most)
+        (first_of name.now (rows_in found.now)) true }
+{
+    match text_in(found, name) {
+        Some(text) => text.len() <= most && has_printable(text),
+        None => true,
+    }
+}
+
+/// So are the person and the remark.
+fn has_plain_note(found: &ArgMatches<'_>) -> bool
+    ensures { result ≡ spec.has_plain_note (rows_in found.now) }
+{
+    is_within(found, "by", MOST_PERSON) && is_within(found, "note", MOST_REMARK)
+}
+
+/// The command with its words, whose period is written plainly.
+fn plain_in<'a>(name: &str, found: &ArgMatches<'a>) -> Option<Request<'a>>
+    ensures request { IfSome result (IsPlainRequest name.now (rows_in found.now)) }
+    ensures some { HasWordsOf name.now (rows_in found.now) → IsSome result }
+{
+    if has_plain_note(found) {
+        request_in(name, found)
+    } else {
+        Some(Request::Unclear(Unclear::Note))
     }
 }
 
@@ -142,8 +195,14 @@ fn of_books_in<'a>(found: &ArgMatches<'a>, asked: Option<BookRequest<'a>>) -> Op
 {
     let book = text_in(found, "book")?;
     let wait = wait_in(found)?;
+    let note = note_in(found);
     let asked = asked?;
-    Some(Request::OfBooks { book, wait, asked })
+    Some(Request::OfBooks {
+        book,
+        wait,
+        note,
+        asked,
+    })
 }
 
 /// The request of a command that waits for no books.
@@ -154,10 +213,12 @@ fn at_once_in<'a>(found: &ArgMatches<'a>, asked: Option<BookRequest<'a>>) -> Opt
     ensures some { HasWord (rows_in found.now) known.book → IsSome asked.entry → IsSome result }
 {
     let book = text_in(found, "book")?;
+    let note = note_in(found);
     let asked = asked?;
     Some(Request::OfBooks {
         book,
         wait: 0,
+        note,
         asked,
     })
 }
@@ -311,7 +372,7 @@ fn ruling_in<'a>(found: &ArgMatches<'_>, near: bool, ruling: Ruling<'a>) -> Opti
     Some(ruled(near, ruling))
 }
 
-/// Choices, or that none of the works of a dump counts.
+/// Choices, or that none of the works of a dump or of an import counts.
 fn choice_in<'a>(found: &ArgMatches<'a>) -> Option<Request<'a>>
     ensures request { IfSome result (IsOfCommand (codes "choose") (rows_in found.now)) }
     ensures some { HasWord (rows_in found.now) known.book
@@ -321,6 +382,20 @@ fn choice_in<'a>(found: &ArgMatches<'a>) -> Option<Request<'a>>
 {
     match text_in(found, "dump") {
         Some(file) => dumped_in(found, file),
+        None => undumped_in(found),
+    }
+}
+
+/// Choices, or that none of the works that came by an import counts.
+fn undumped_in<'a>(found: &ArgMatches<'a>) -> Option<Request<'a>>
+    ensures request { IsLeftOut (rows_in found.now) (codes "dump")
+        → IfSome result (IsOfCommand (codes "choose") (rows_in found.now)) }
+    ensures some { HasWord (rows_in found.now) known.book
+        → HasWord (rows_in found.now) known.dry_run → HasWord (rows_in found.now) known.none
+        → HasWord (rows_in found.now) known.wait → IsSome result }
+{
+    match text_in(found, "import") {
+        Some(number) => imported_in(found, number),
         None => chosen_in(found),
     }
 }
@@ -337,6 +412,13 @@ fn names_some(found: &ArgMatches<'_>) -> bool
     ensures { result ≡ spec.names_some (rows_in found.now) }
 {
     is_given(found, "sha256") || is_given(found, "from")
+}
+
+/// A record is named, a list of names, or an import.
+fn names_others(found: &ArgMatches<'_>) -> bool
+    ensures { result ≡ spec.names_others (rows_in found.now) }
+{
+    names_some(found) || is_given(found, "import")
 }
 
 /// What is asked by a dump: that none of its works counts. Beside other choices, as a dry run or without
@@ -358,15 +440,40 @@ fn dumped_in<'a>(found: &ArgMatches<'a>, file: &'a str) -> Option<Request<'a>>
     if tried {
         return Some(Request::Unclear(Unclear::Dump));
     }
-    if names_some(found) {
+    if names_others(found) {
         return Some(Request::Unclear(Unclear::Dump));
     }
     of_books_in(found, Some(BookRequest::WithholdDump { file, layout }))
 }
 
+/// What is asked by an import: that none of the works that came by it counts. Beside other choices, as
+/// a dry run or without `--none` it is unclear.
+fn imported_in<'a>(found: &ArgMatches<'a>, number: &'a str) -> Option<Request<'a>>
+    ensures request { IsLeftOut (rows_in found.now) (codes "dump")
+        → IsText (rows_in found.now) (codes "import") number.entry
+        → IfSome result (IsOfCommand (codes "choose") (rows_in found.now)) }
+    ensures some { HasWord (rows_in found.now) known.book
+        → HasWord (rows_in found.now) known.dry_run → HasWord (rows_in found.now) known.none
+        → HasWord (rows_in found.now) known.wait → IsSome result }
+{
+    let tried = flag_in(found, "dry-run")?;
+    let none = flag_in(found, "none")?;
+    if !none {
+        return Some(Request::Unclear(Unclear::Import));
+    }
+    if tried {
+        return Some(Request::Unclear(Unclear::Import));
+    }
+    if names_some(found) {
+        return Some(Request::Unclear(Unclear::Import));
+    }
+    of_books_in(found, Some(BookRequest::WithholdImport { number }))
+}
+
 /// One choice, or those of the list that is named. With both, or neither, it is unclear.
 fn chosen_in<'a>(found: &ArgMatches<'a>) -> Option<Request<'a>>
     ensures request { IsLeftOut (rows_in found.now) (codes "dump")
+        → IsLeftOut (rows_in found.now) (codes "import")
         → IfSome result (IsOfCommand (codes "choose") (rows_in found.now)) }
     ensures some { HasWord (rows_in found.now) known.book
         → HasWord (rows_in found.now) known.dry_run → HasWord (rows_in found.now) known.none
@@ -390,7 +497,7 @@ fn chosen_in<'a>(found: &ArgMatches<'a>) -> Option<Request<'a>>
 fn named_choice<'a>(none: bool, name: &'a str) -> Ruling<'a>
     ensures ruling { (rows : _) → IsText rows (codes "sha256") name.entry
         → IsLeftOut rows (codes "from") → IsLeftOut rows (codes "dump")
-        → IsFlag rows (codes "none") none → IsRuling (codes "choose") rows result }
+        → IsLeftOut rows (codes "import") → IsFlag rows (codes "none") none → IsRuling (codes "choose") rows result }
     ensures near { (rows : _) → IsNear rows result false }
 {
     if none {
@@ -402,7 +509,8 @@ fn named_choice<'a>(none: bool, name: &'a str) -> Ruling<'a>
 /// The choices of a list, or a dry run of them.
 fn listed<'a>(tried: bool, none: bool, file: &'a str) -> BookRequest<'a>
     ensures { (rows : _) → IsLeftOut rows (codes "sha256") → IsText rows (codes "from") file.entry
-        → IsLeftOut rows (codes "dump") → IsFlag rows (codes "none") none → IsDryRun rows tried
+        → IsLeftOut rows (codes "dump") → IsLeftOut rows (codes "import")
+        → IsFlag rows (codes "none") none → IsDryRun rows tried
         → IsOfBooks (codes "choose") rows result }
 {
     if tried {
@@ -416,6 +524,7 @@ fn listed_in<'a>(found: &ArgMatches<'a>, none: bool, file: &'a str) -> Option<Re
     ensures request { IsLeftOut (rows_in found.now) (codes "sha256")
         → IsText (rows_in found.now) (codes "from") file.entry
         → IsLeftOut (rows_in found.now) (codes "dump")
+        → IsLeftOut (rows_in found.now) (codes "import")
         → IsFlag (rows_in found.now) (codes "none") none
         → IfSome result (IsOfCommand (codes "choose") (rows_in found.now)) }
     ensures some { HasWord (rows_in found.now) known.book

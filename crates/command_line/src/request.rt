@@ -52,15 +52,28 @@ pub struct DumpFile<'a> {
 pub enum Unclear {
     /// Which records are chosen: a name and a list of names are given, or neither.
     Choice,
-    /// Of which works of a dump none counts: `--none` is not given, or a name, a list of names or a
-    /// dry run beside the dump.
+    /// Of which works of a dump none counts: `--none` is not given, or a name, a list of names, an
+    /// import or a dry run beside the dump.
     Dump,
+    /// Of which works that came by an import none counts: `--none` is not given, or a name, a list of
+    /// names or a dry run beside the import.
+    Import,
     /// What a trial prices by: a tariff and a rate are given.
     Prices,
     /// Which period: its number has a sign, or a 0 before other digits.
     Period,
     /// What a bill is to be: a table and a page.
     Form,
+    /// Who asks, or why: the text is too long, or has a character that is not from blank to tilde.
+    Note,
+}
+
+/// Who asks, and why, as the words say it.
+#[derive(Clone, Copy)]
+pub struct NoteWords<'a> {
+    /// The person; None stands for whom the environment names.
+    pub by: Option<&'a str>,
+    pub remark: Option<&'a str>,
 }
 
 /// A ruling on the books.
@@ -180,6 +193,11 @@ pub enum BookRequest<'a> {
         /// How its segments are laid out.
         layout: Layout,
     },
+    /// The works of the records that came by an import withheld, one after the other.
+    WithholdImport {
+        /// The number of its entry in the journal. The text may turn out to be none.
+        number: &'a str,
+    },
     /// What a ruling would change printed, and nothing changed.
     DryRun(Ruling<'a>),
     /// A report printed.
@@ -257,6 +275,7 @@ pub enum Request<'a> {
         book: &'a str,
         /// For how many seconds they are asked for again while another program uses them.
         wait: u16,
+        note: NoteWords<'a>,
         asked: BookRequest<'a>,
     },
     /// Nothing that is clear.

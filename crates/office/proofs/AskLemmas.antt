@@ -22,7 +22,8 @@ use Rattle.office.specs.Runs.{IsAskableWithoutReader}
 pub calls_told : {V A : Type 0} (view : V → A) (say : A → Response) (outcome : Book → Outcome A)
     (result : Result V LedgerFault) (was : Bool) (before : Book) (events : List Event) (is : Bool)
     → Calls view outcome result was before events is
-    → Calls (λ told. told) (response_outcome say outcome) (shown_by (λ value. say (view value)) result)
+    → Calls (λ told. told) (response_outcome say outcome) (shown_by
+    (λ value. say (view value)) result)
     was before events is
 calls_told view say outcome (Ok value) was before events is called = record {
   makes = (ap (shown_by say) called.makes.0, called.makes.1);
@@ -47,13 +48,15 @@ calls_told view say outcome (Err fault) was before events is called = record {
 
 -- so is the work of a request
 pub work_told : {V A : Type 0} {old new : Seen} {view : V → A} (say : A → Response)
-    {outcome : Book → Outcome A} {result : Result V LedgerFault} {told : Result Response LedgerFault}
+    {outcome : Book → Outcome A} {result : Result V LedgerFault} {told : Result Response
+    LedgerFault}
     → told ≡ shown_by (λ value. say (view value)) result
     → IsTransition old new (Calls view outcome result)
     → IsTransition old new (Calls (λ told. told) (response_outcome say outcome) told)
 work_told {old = old} {new = new} {view = view} say {outcome = outcome} {result = result}
     {told = told} is work =
-    subst (λ told. IsTransition old new (Calls (λ told. told) (response_outcome say outcome) told)) (sym is)
+    subst (λ told. IsTransition old new (Calls (λ told. told) (response_outcome say outcome) told))
+    (sym is)
     (work_as old new (Calls view outcome result) _ (calls_told view say outcome result) work)
 
 module _ {old new : Seen} {asked : Asked} {answer : Result Answer LedgerFault} {reader : ReaderSeen}
@@ -80,22 +83,22 @@ asked_once other = hlevel props
 
 -- nor more than one that it may be asked,
 pub askable_once : (asked : Asked) → IsProp (IsAskableUnread asked)
-askable_once (Rule ruling) = asked_once (ruling_of ruling)
+askable_once (Rule ruling said) = asked_once (ruling_of ruling)
 askable_once other = hlevel props
 
 -- nor more than one that it is a ruling that may be
 pub ruling_once : (asked : Asked) → IsProp (IsAskableRuling asked)
-ruling_once (Rule ruling) = asked_once (ruling_of ruling)
+ruling_once (Rule ruling said) = asked_once (ruling_of ruling)
 ruling_once other = hlevel props
 
 -- a ruling may be asked with no reader at hand
 pub ruling_alone : (asked : Asked) → IsAskableRuling asked → IsAskableWithoutReader asked
-ruling_alone (Rule ruling) may = may
+ruling_alone (Rule ruling said) may = may
 ruling_alone other may = absurd may
 
 -- it may be asked whatever reader is at hand
 pub askable_with : (asked : Asked) (reader : ReaderSeen) → IsAskableWithoutReader asked
     → IsAskable asked reader
-askable_with (Rule ruling) reader alone = alone
-askable_with (Import layout) reader alone = absurd alone
+askable_with (Rule ruling said) reader alone = alone
+askable_with (Import layout said) reader alone = absurd alone
 askable_with other reader alone = tt

@@ -1,12 +1,13 @@
 -- Requests, one after the other, and the history that they make.
 use Rattle.std.proofs.Common.{◌≡◌, ◌∙◌, Bool, true, false, ℕ, List, [], ◌∷◌, ◌++◌, Result, Ok, Err}
-use Rattle.std.proofs.Common.{None, inr, refl, sym, ap, subst, true≢false}
+use Rattle.std.proofs.Common.{Option, inr, refl, sym, ap, subst, true≢false}
 use Rattle.std.specs.Prelude.{string_bytes}
 use Rattle.book_model.specs.MadeByCalls.{AreMadeOf}
 use Rattle.book_model.specs.declared.fault.LedgerFault.{LedgerFault}
 use Rattle.book_model.specs.declared.fault.LedgerFault.TheVariants.{Memory, Store, Reopen}
 use Rattle.book_model.specs.Words.{front, IsMadeByCalls, Book, new_book, Event, after_all, book_after}
-use Rattle.book_model.specs.Words.{book_of, Outcome, rule_outcome, Naming}
+use Rattle.book_model.specs.JournalLaws.{without_notes}
+use Rattle.book_model.specs.Words.{Note, book_of, Outcome, note_given, rule_outcome, Naming}
 use Rattle.book_model.proofs.OrderLemmas.{order_is_free}
 use Rattle.book_model.proofs.StepLemmas.{books_follow_history}
 use Rattle.book_core.specs.Calls.{Calls, listed}
@@ -17,7 +18,7 @@ use Rattle.book_core.proofs.TransitionLemmas.{after_all-append}
 use Rattle.book_import.specs.Dumps.{stop_after}
 use Rattle.book_core.proofs.FollowLemmas.{history_goes_on}
 use Rattle.book_import.proofs.RepeatLemmas.{is_whole}
-use Rattle.book_import.proofs.EventLemmas.{import_answered}
+use Rattle.book_import.proofs.EventLemmas.{imports_answered}
 use Rattle.book_reports.specs.declared.report.Report as report
 use Rattle.book_reports.specs.declared.what_if.WhatIf as what_if
 use Rattle.book_reports.specs.BookTexts.{report_outcome}
@@ -30,7 +31,7 @@ use Rattle.office.specs.Requests.{Receives, Asks, ruling_of}
 use Rattle.office.specs.Outcomes.{AskedOutcome, events_by, asked_outcome_by, import_asked_outcome, asked_outcome, is_hindering, is_hindered}
 use Rattle.office.specs.Laws.{AnswersAreFree, AnswersFollowBook, AnswersFollowHistory, AreAnswered}
 use Rattle.office.specs.Laws.{AreAnsweredAfter, AreAnsweredOf, DiffersAsAllowed, Exchange}
-use Rattle.office.specs.Laws.{IsAnsweredOf, IsStillOpen, ledger_after}
+use Rattle.office.specs.Laws.{IsAnsweredOf, IsStillOpen, but_for_entries, ledger_after}
 use Rattle.office.proofs.LeavingLemmas.{work_leaves, open_earlier}
 
 -- the event of an outcome is answered, if calls with it make only answered events
@@ -51,7 +52,8 @@ told_answered naming say outcome told makes =
 
 -- a report is no event
 report_answered : (naming : Naming) (report : report.Report) (told : Result Response LedgerFault)
-    → MakesAnswered naming (Calls (λ told. told) (response_outcome Text (report_outcome naming report)) told)
+    → MakesAnswered naming (Calls (λ told. told) (response_outcome Text
+    (report_outcome naming report)) told)
 report_answered naming report told =
     calls_answered naming (λ told. told) (response_outcome Text (report_outcome naming report)) told
     (λ book. tt)
@@ -65,23 +67,25 @@ what_if_answered naming asked tariff told =
     calls_answered naming (λ told. told) (response_outcome Text (what_if_report asked tariff)) told
     (λ book. tt)
 
-pub receives_answered : (naming : Naming) (dump : Dump) (told : Result Response LedgerFault)
-    → MakesAnswered naming (Receives naming dump told)
-receives_answered naming dump (Ok (Count receipt)) =
-    let found = front dump.layout dump.bytes in
-    import_answered naming (stop_after dump.cut found) found.records receipt
-receives_answered naming dump (Ok (Ruling ruled)) = λ book was events is never. absurd never
-receives_answered naming dump (Ok (Text text)) = λ book was events is never. absurd never
-receives_answered naming dump (Err fault) = λ book was events is never. absurd never
+pub receives_answered : (said : Option Note) (naming : Naming) (dump : Dump)
+    (told : Result Response LedgerFault) → MakesAnswered naming (Receives said naming dump told)
+receives_answered said naming dump (Ok (Count receipt)) =
+    imports_answered said naming dump.layout dump.cut dump.bytes receipt
+receives_answered said naming dump (Ok (Ruling ruled)) = λ book was events is never. absurd never
+receives_answered said naming dump (Ok (Text text)) = λ book was events is never. absurd never
+receives_answered said naming dump (Err fault) = λ book was events is never. absurd never
 
 -- a request makes only events that the books answered
-pub asks_answered : (naming : Naming) (asked : Asked) (dump : Dump) (told : Result Response LedgerFault)
+pub asks_answered : (naming : Naming) (asked : Asked) (dump : Dump)
+    (told : Result Response LedgerFault)
     → MakesAnswered naming (Asks naming asked dump told)
-asks_answered naming (Rule ruling) dump told =
-    told_answered naming Ruling (rule_outcome naming None (ruling_of ruling)) told
-    (ruling_answered naming (λ value. value) None (ruling_of ruling) (Err Store))
-asks_answered naming (Import layout) dump told = receives_answered naming dump told
-asks_answered naming (ImportBytes layout bytes) dump told = receives_answered naming dump told
+asks_answered naming (Rule ruling said) dump told =
+    told_answered naming Ruling (rule_outcome naming (note_given said) (ruling_of ruling)) told
+    (ruling_answered naming (λ value. value) (note_given said) (ruling_of ruling) (Err Store))
+asks_answered naming (Import layout said) dump told =
+    receives_answered (note_given said) naming dump told
+asks_answered naming (ImportBytes layout bytes said) dump told =
+    receives_answered (note_given said) naming dump told
 asks_answered naming (Report report) dump told = report_answered naming report told
 asks_answered naming (WhatIf report tariff) dump told =
     what_if_answered naming report (string_bytes tariff) told
@@ -110,30 +114,31 @@ calls_done outcome (Err fault) book events is called free =
 not_both : (told : Bool) → told ≡ true → told ≡ false → ⊥
 not_both told is_so is_not = cc
 
-receives_done : (naming : Naming) (dump : Dump) (told : Result Response LedgerFault) (book : Book)
-    (events : List Event) (is : Bool) → Receives naming dump told false book events is
-    → is_hindered told ≡ false
-    → import_asked_outcome naming dump book ≡ record { told = told; events = events }
-receives_done naming dump (Ok (Count receipt)) book events is made free =
+receives_done : (said : Option Note) (naming : Naming) (dump : Dump)
+    (told : Result Response LedgerFault) (book : Book) (events : List Event) (is : Bool)
+    → Receives said naming dump told false book events is → is_hindered told ≡ false
+    → import_asked_outcome naming dump book ≡ record { told = told; events = without_notes events }
+receives_done said naming dump (Ok (Count receipt)) book events is made free =
     let found = front dump.layout dump.bytes in
-    let all = is_whole naming (stop_after dump.cut found) found.records book receipt events is
-    made (record {
+    let all = is_whole naming (stop_after dump.cut found) found.records book receipt
+    (without_notes events) is made.booked (record {
       memory = λ same. not_both (is_hindering receipt.stop) (ap is_hindering same) free;
       store = λ same. not_both (is_hindering receipt.stop) (ap is_hindering same) free;
     }) in
     λ i. record { told = Ok (Count (all.told.receipt i)); events = all.told.events i }
-receives_done naming dump (Ok (Ruling ruled)) book events is made free = absurd made
-receives_done naming dump (Ok (Text text)) book events is made free = absurd made
-receives_done naming dump (Err fault) book events is made free = absurd made
+receives_done said naming dump (Ok (Ruling ruled)) book events is made free = absurd made
+receives_done said naming dump (Ok (Text text)) book events is made free = absurd made
+receives_done said naming dump (Err fault) book events is made free = absurd made
 
 pub asks_done : (naming : Naming) (asked : Asked) (dump : Dump) (told : Result Response LedgerFault)
     (book : Book) (events : List Event) (is : Bool)
     → Asks naming asked dump told false book events is → is_hindered told ≡ false
-    → asked_outcome naming asked dump book ≡ record { told = told; events = events }
-asks_done naming (Import layout) dump told book events is made free =
-    receives_done naming dump told book events is made free
-asks_done naming (ImportBytes layout bytes) dump told book events is made free =
-    receives_done naming dump told book events is made free
+    → asked_outcome naming asked dump book
+    ≡ record { told = told; events = but_for_entries asked events }
+asks_done naming (Import layout said) dump told book events is made free =
+    receives_done (note_given said) naming dump told book events is made free
+asks_done naming (ImportBytes layout bytes said) dump told book events is made free =
+    receives_done (note_given said) naming dump told book events is made free
 asks_done naming other dump told book events is made free =
     calls_done _ told book events is made free
 
@@ -148,8 +153,8 @@ called_unmade outcome fault book events called = called.makes.1
 
 asked_unmade : (naming : Naming) (asked : Asked) (dump : Dump) (fault : LedgerFault) (book : Book)
     (events : List Event) → Asks naming asked dump (Err fault) false book events false → events ≡ []
-asked_unmade naming (Import layout) dump fault book events made = absurd made
-asked_unmade naming (ImportBytes layout bytes) dump fault book events made = absurd made
+asked_unmade naming (Import layout said) dump fault book events made = absurd made
+asked_unmade naming (ImportBytes layout bytes said) dump fault book events made = absurd made
 asked_unmade naming other dump fault book events made = called_unmade _ fault book events made
 
 -- a ledger that is open after requests was open before them
@@ -194,7 +199,8 @@ answers_follow_book seen naming start before (exchange ∷ later) opened done st
 
 -- and where that was the book of a history, it is that of the history
 told_after : {L : Type 0} (naming : Naming) (start : List Event) (exchanges : List (Exchange L))
-    (end : Book) → IsMadeByCalls naming start → AreAnsweredOf naming (book_after start) exchanges end
+    (end : Book) → IsMadeByCalls naming start → AreAnsweredOf naming
+    (book_after start) exchanges end
     → (history : List Event) × AreAnsweredAfter naming start exchanges history
     × (end ≡ book_after history)
 told_after naming start [] end answered is = (start, refl, is)

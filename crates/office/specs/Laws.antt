@@ -6,7 +6,9 @@ use Rattle.book_model.specs.declared.fault.LedgerFault.{LedgerFault}
 use Rattle.book_model.specs.Words.{Book, IsMadeByCalls, Event, after_all, book_after, book_of}
 use Rattle.book_model.specs.Words.{Naming, record_batches, rulings_in}
 use Rattle.book_core.specs.Ledgers.{Seen, IsOpenAt, books}
+use Rattle.book_model.specs.JournalLaws.{without_notes}
 use Rattle.office.specs.declared.request.Asked.{Asked}
+use Rattle.office.specs.declared.request.Asked.TheVariants.{Import, ImportBytes}
 use Rattle.office.specs.declared.request.Answer.{Answer}
 use Rattle.office.specs.Requests.{Dump, Gives, Asks, IsAsked, response_by}
 use Rattle.office.specs.Outcomes.{asked_outcome, is_hindered}
@@ -41,9 +43,15 @@ AreAnswered seen before (exchange ∷ later) =
     IsAsked exchange.asked exchange.answer (books seen before exchange.after) exchange.input
     × AreAnswered seen exchange.after later
 
+-- the events of a request, without what an import said of itself
+abbrev pub but_for_entries : Asked → List Event → List Event
+but_for_entries (Import layout said) made = without_notes made
+but_for_entries (ImportBytes layout bytes said) made = without_notes made
+but_for_entries asked made = made
+
 -- Of a book this was asked and answered, and it made these events, the newest first; a refusal made
 -- none. Unless a lack of memory or the store hindered it, the answer is what the definitions say of
--- the book.
+-- the book, and so are the events, but for what an import said of itself.
 pub record IsAnsweredOf {L : Type 0} (naming : Naming) (book : Book) (exchange : Exchange L)
     (made : List Event) : Type 0 where
   pub dump : Dump
@@ -52,7 +60,10 @@ pub record IsAnsweredOf {L : Type 0} (naming : Naming) (book : Book) (exchange :
   pub unmade : (fault : LedgerFault) → response_by exchange.answer ≡ Err fault → made ≡ []
   pub is : is_hindered (response_by exchange.answer) ≡ false
       → asked_outcome naming exchange.asked dump book
-      ≡ record { told = response_by exchange.answer; events = made }
+      ≡ record {
+        told = response_by exchange.answer;
+        events = but_for_entries exchange.asked made;
+      }
 
 -- so was each, of the book that those before it left,
 abbrev pub AreAnsweredOf : {L : Type 0} → Naming → Book → List (Exchange L) → Book → Type 0

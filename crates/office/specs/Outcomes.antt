@@ -3,10 +3,10 @@ use Rattle.std.specs.Prelude.{Bool, true, false, List, [], Option, None, Result,
 use Rattle.std.specs.Prelude.{string_bytes}
 use Rattle.book_model.specs.declared.fault.LedgerFault.{LedgerFault}
 use Rattle.book_model.specs.declared.fault.LedgerFault.TheVariants.{Memory, Store}
-use Rattle.book_model.specs.Words.{front, Book, Event, Outcome, rule_outcome, Naming}
+use Rattle.book_model.specs.Words.{front, Book, Event, Outcome, note_given, rule_outcome, Naming}
 use Rattle.book_core.specs.Calls.{listed}
-use Rattle.book_import.specs.declared.receipt.Stop.{Stop}
-use Rattle.book_import.specs.declared.receipt.Stop.TheVariants.{Ledger}
+use Rattle.book_model.specs.declared.note.Stop.{Stop}
+use Rattle.book_model.specs.declared.note.Stop.TheVariants.{Ledger}
 use Rattle.book_import.specs.Dumps.{stop_after}
 use Rattle.book_import.specs.Laws.{import_of_records}
 use Rattle.book_reports.specs.BookTexts.{report_outcome}
@@ -37,10 +37,12 @@ import_asked_outcome naming dump book =
     record { told = Ok (Count all.receipt); events = all.events }
 
 abbrev pub asked_outcome : Naming → Asked → Dump → Book → AskedOutcome
-asked_outcome naming (Rule ruling) dump book =
-    asked_outcome_by (response_outcome Ruling (rule_outcome naming None (ruling_of ruling)) book)
-asked_outcome naming (Import layout) dump book = import_asked_outcome naming dump book
-asked_outcome naming (ImportBytes layout bytes) dump book = import_asked_outcome naming dump book
+asked_outcome naming (Rule ruling said) dump book =
+    asked_outcome_by
+    (response_outcome Ruling (rule_outcome naming (note_given said) (ruling_of ruling)) book)
+asked_outcome naming (Import layout said) dump book = import_asked_outcome naming dump book
+asked_outcome naming (ImportBytes layout bytes said) dump book = import_asked_outcome naming dump
+    book
 asked_outcome naming (Report report) dump book =
     asked_outcome_by (response_outcome Text (report_outcome naming report) book)
 asked_outcome naming (WhatIf report tariff) dump book =

@@ -8,15 +8,16 @@ use Rattle.streams.specs.InputOutput.{ReaderSeen, Input}
 use Rattle.book_model.specs.declared.answer.Ruled as ruled
 use Rattle.book_model.specs.declared.fault.LedgerFault.{LedgerFault}
 use Rattle.book_model.specs.Words.{AdoptionAsked, Book, ChoiceAsked, CloseAsked, MayBeAsked, Naming}
-use Rattle.book_model.specs.Words.{Outcome, RulingAsked, TariffAsked, rule_outcome, CreditAsked}
-use Rattle.book_model.specs.Words.{ReplacementAsked, WithholdingAsked}
+use Rattle.book_model.specs.Words.{Note, Outcome, RulingAsked, TariffAsked, rule_outcome}
+use Rattle.book_model.specs.Words.{CreditAsked}
+use Rattle.book_model.specs.Words.{ReplacementAsked, WithholdingAsked, note_given}
 use Rattle.book_core.specs.Calls.{Calls}
 use Rattle.book_core.specs.Transition.{Transition, IsTransition}
 use Rattle.book_core.specs.Ledgers.{Books}
 use Rattle.book_import.specs.declared.receipt.Receipt as receipt
-use Rattle.book_import.specs.declared.receipt.Stop.{Stop}
-use Rattle.book_import.specs.Imports.{Imports}
-use Rattle.book_import.specs.Reach.{IsReadFor}
+use Rattle.book_model.specs.declared.note.Stop.{Stop}
+use Rattle.book_import.specs.ImportEntries.{ImportsOf}
+use Rattle.book_import.specs.Reach.{IsReadTo}
 use Rattle.book_import.specs.ReadLimits.{cut_by, most_reads, read_length}
 use Rattle.book_reports.specs.BookTexts.{shown_by, report_outcome}
 use Rattle.book_reports.specs.WhatIfTexts.{what_if_report}
@@ -74,31 +75,31 @@ ruling_of (owned.Credit period centre amount reason) =
 -- What may be asked with a reader that has not been asked yet: a close is through a day, and a credit
 -- is within the limits.
 abbrev pub IsAskableUnread : Asked → Type 0
-IsAskableUnread (Rule ruling) = MayBeAsked (ruling_of ruling)
+IsAskableUnread (Rule ruling said) = MayBeAsked (ruling_of ruling)
 IsAskableUnread asked = Unit {0}
 
 -- It may be asked of books with this reader: a dump is read from one that may be asked.
 abbrev pub IsAskable : Asked → ReaderSeen → Type 0
-IsAskable (Import layout) reader = IsReady reader
+IsAskable (Import layout said) reader = IsReady reader
 IsAskable asked reader = IsAskableUnread asked
 
 -- it is a ruling, and may be asked
 abbrev pub IsAskableRuling : Asked → Type 0
-IsAskableRuling (Rule ruling) = MayBeAsked (ruling_of ruling)
+IsAskableRuling (Rule ruling said) = MayBeAsked (ruling_of ruling)
 IsAskableRuling asked = ⊥
 
 -- the bytes of a dump were taken for this receipt, and no more than it needed
-abbrev pub IsReadBy : Dump → Result Response LedgerFault → Input → Type 0
-IsReadBy dump (Ok (Count receipt)) input =
-    IsReadFor read_length dump.layout most_reads dump.bytes receipt input
-IsReadBy dump told input = ⊥
+abbrev pub IsReadBy : Option Note → Dump → Result Response LedgerFault → Input → Type 0
+IsReadBy said dump (Ok (Count receipt)) input =
+    IsReadTo said read_length dump.layout most_reads dump.bytes receipt input
+IsReadBy said dump told input = ⊥
 
 -- A dump was read from a reader, up to the stop of its receipt and no further.
-pub record IsReadOf (layout : Layout) (dump : Dump) (told : Result Response LedgerFault) (input : Input)
-    : Type 0 where
+pub record IsReadOf (said : Option Note) (layout : Layout) (dump : Dump)
+    (told : Result Response LedgerFault) (input : Input) : Type 0 where
   pub form : dump.layout ≡ layout
   pub cut : dump.cut ≡ cut_by input.new
-  pub read : IsReadBy dump told input
+  pub read : IsReadBy said dump told input
   pub at_end : NothingUnread input.new.has_ended input.new.left
   pub reads : input.new.reads ≤ input.old.reads + most_reads
 
@@ -117,8 +118,8 @@ no_dump = whole_dump Rdw []
 -- The dump of what was asked, and what it took from the reader: only an import has one, and one
 -- that is here is not read.
 abbrev pub Gives : Asked → Dump → Result Response LedgerFault → Input → Type 0
-Gives (Import layout) dump told input = IsReadOf layout dump told input
-Gives (ImportBytes layout bytes) dump told input =
+Gives (Import layout said) dump told input = IsReadOf (note_given said) layout dump told input
+Gives (ImportBytes layout bytes said) dump told input =
     IsUnread (whole_dump layout bytes.items) dump input
 Gives asked dump told input = IsUnread no_dump dump input
 
@@ -126,26 +127,36 @@ Gives asked dump told input = IsUnread no_dump dump input
 abbrev pub Never : Transition
 Never was before events is = ⊥
 
--- a dump was imported, and that is its receipt
-abbrev pub Receives : Naming → Dump → Result Response LedgerFault → Transition
-Receives naming dump (Ok (Count receipt)) =
-    Imports naming dump.layout dump.cut dump.bytes receipt
-Receives naming dump told = Never
+-- a dump was imported with such a note, and that is its receipt
+abbrev pub Receives : Option Note → Naming → Dump → Result Response LedgerFault → Transition
+Receives said naming dump (Ok (Count receipt)) =
+    ImportsOf said naming dump.layout dump.cut dump.bytes receipt
+Receives said naming dump told = Never
 
--- the books were asked, and answered this
+-- The books were asked, and answered this. A ruling that was done has its note in the journal.
 abbrev pub Asks : Naming → Asked → Dump → Result Response LedgerFault → Transition
-Asks naming (Rule ruling) dump told =
-    Calls (λ told. told) (response_outcome Ruling (rule_outcome naming None (ruling_of ruling))) told
-Asks naming (Import layout) dump told = Receives naming dump told
-Asks naming (ImportBytes layout bytes) dump told = Receives naming dump told
+Asks naming (Rule ruling said) dump told =
+    Calls (λ told. told)
+    (response_outcome Ruling (rule_outcome naming (note_given said) (ruling_of ruling))) told
+Asks naming (Import layout said) dump told = Receives (note_given said) naming dump told
+Asks naming (ImportBytes layout bytes said) dump told = Receives (note_given said) naming dump told
 Asks naming (Report report) dump told =
     Calls (λ told. told) (response_outcome Text (report_outcome naming report)) told
 Asks naming (WhatIf report tariff) dump told =
     Calls (λ told. told) (response_outcome Text (what_if_report report (string_bytes tariff))) told
+
+-- A dump in this layout was read from a reader, and was imported into books with such a note.
+pub record IsReceivedOf (said : Option Note) (layout : Layout) (told : receipt.Receipt)
+    (books : Books) (input : Input) : Type 0 where
+  pub dump : Dump
+  pub given : IsReadOf said layout dump (Ok (Count told)) input
+  pub work : IsTransition books.old books.new
+      (Receives said books.old.naming dump (Ok (Count told)))
 
 -- Something was asked of books, with a reader at hand, and this is their answer.
 pub record IsAsked (asked : Asked) (answer : Result Answer LedgerFault) (books : Books)
     (input : Input) : Type 0 where
   pub dump : Dump
   pub given : Gives asked dump (response_by answer) input
-  pub work : IsTransition books.old books.new (Asks books.old.naming asked dump (response_by answer))
+  pub work : IsTransition books.old books.new (Asks books.old.naming asked dump
+      (response_by answer))

@@ -10,12 +10,12 @@ use Rattle.office.specs.Requests.{Dump, whole_dump, no_dump, Asks, IsAskableUnre
 
 -- what may be asked with no reader at hand: it brings its dump, if it has one
 abbrev pub IsAskableWithoutReader : Asked → Type 0
-IsAskableWithoutReader (Import layout) = ⊥
+IsAskableWithoutReader (Import layout said) = ⊥
 IsAskableWithoutReader asked = IsAskableUnread asked
 
 -- the dump that a request brings
 abbrev pub dump_here : Asked → Dump
-dump_here (ImportBytes layout bytes) = whole_dump layout bytes.items
+dump_here (ImportBytes layout bytes said) = whole_dump layout bytes.items
 dump_here asked = no_dump
 
 -- the books were asked, with the dump that the request brings, and answered this

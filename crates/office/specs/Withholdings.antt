@@ -3,7 +3,7 @@ use Rattle.std.specs.Prelude.{◌≡◌, Bool, ℕ, ◌+◌, ◌-◌, List, [], 
 use Rattle.book_model.specs.declared.answer.Ruled.{Ruled}
 use Rattle.book_model.specs.declared.answer.Ruled.TheVariants.{Already, Done}
 use Rattle.book_model.specs.declared.fault.LedgerFault.{LedgerFault}
-use Rattle.book_model.specs.Words.{Book, Event, Naming, withhold_outcome}
+use Rattle.book_model.specs.Words.{Book, Event, Naming, Note, withhold_outcome}
 use Rattle.book_core.specs.Calls.{Calls}
 use Rattle.book_core.specs.Transition.{Transition, NoEvent, Then}
 use Rattle.book_core.specs.Withholdings.{absent_in, done_in, told_as}
@@ -15,14 +15,15 @@ use Rattle.office.specs.declared.withholding.WorkCounts.{WorkCounts}
 -- The works of names were withheld in turn, each of the book that those before it left, and these are
 -- the answers: one for each name; or those before the first refusal, after which none is withheld.
 -- What is not held is answered so, and is no refusal.
-abbrev pub WithholdsEach : Naming → List (List ℕ) → List (Option Ruled) → Option LedgerFault
-    → Transition
-WithholdsEach naming [] [] None = NoEvent
-WithholdsEach naming (name ∷ names) [] (Some fault) = TakesWorks naming None (name ∷ names) (Err fault)
-WithholdsEach naming (name ∷ names) (answer ∷ answers) refusal =
-    Then (Calls (λ (ruled : Ruled). ruled) (withhold_outcome naming None name) (told_as answer))
-    (WithholdsEach naming names answers refusal)
-WithholdsEach naming names answers refusal = Never
+abbrev pub WithholdsEach : Option Note → Naming → List (List ℕ) → List (Option Ruled)
+    → Option LedgerFault → Transition
+WithholdsEach said naming [] [] None = NoEvent
+WithholdsEach said naming (name ∷ names) [] (Some fault) = TakesWorks naming said (name ∷ names)
+    (Err fault)
+WithholdsEach said naming (name ∷ names) (answer ∷ answers) refusal =
+    Then (Calls (λ (ruled : Ruled). ruled) (withhold_outcome naming said name) (told_as answer))
+    (WithholdsEach said naming names answers refusal)
+WithholdsEach said naming names answers refusal = Never
 
 -- an answer to a work that was withheld before counts as one
 abbrev pub already_in : Option Ruled → ℕ
@@ -43,11 +44,12 @@ abbrev pub no_works : WorkCounts
 no_works = record { withheld = 0; already = 0; not_held = 0 }
 
 -- So the works of these names were withheld, and so many answers were of each kind.
-pub record WithholdsSo (naming : Naming) (names : List (List ℕ)) (counts : WorkCounts)
+pub record WithholdsSo (said : Option Note) (naming : Naming) (names : List (List ℕ))
+    (counts : WorkCounts)
     (refusal : Option LedgerFault) (was : Bool) (before : Book) (events : List Event) (is : Bool)
     : Type 0 where
   pub answers : List (Option Ruled)
-  pub made : WithholdsEach naming names answers refusal was before events is
+  pub made : WithholdsEach said naming names answers refusal was before events is
   pub told : counts ≡ with_answers no_works answers
 
 -- how many names were answered

@@ -1,11 +1,12 @@
 //! Works that are withheld, one change of the books after the other.
 
 ghost use Rattle.std.specs.Prelude.{◌≡◌, ◌+◌, ◌<◌, ◌≤◌, ◌^◌};
+ghost use Rattle.book_model.specs.Words.{note_given};
 ghost use Rattle.book_core.specs.Transition.{IsTransition};
 ghost use Rattle.office.specs.Withholdings as spec;
 ghost use Rattle.office.specs.Withholdings.{WithholdsSo, answered};
 
-use book_core::{Ledger, LedgerFault, Withheld};
+use book_core::{Ledger, LedgerFault, Note, Withheld};
 
 /// How works were answered that were to be withheld.
 #[derive(Clone, Copy)]
@@ -41,10 +42,14 @@ fn with_taken(counts: WorkCounts, told: Withheld) -> WorkCounts
 }
 
 /// Withholds the works of the records of these names, one change of the books after the other, up to
-/// the first refusal. Records that are not held are passed over.
-pub fn withhold_each<L: Ledger>(ledger: &mut L, names: &[[u8; 32]]) -> WorksTold
+/// the first refusal, each with the note. Records that are not held are passed over.
+pub fn withhold_each<L: Ledger>(
+    ledger: &mut L,
+    names: &[[u8; 32]],
+    note: &Option<Note>,
+) -> WorksTold
     ensures { IsTransition (L.seen ledger.old) (L.seen ledger.new)
-        (WithholdsSo (L.seen ledger.old).naming names.now result.counts result.refusal) }
+        (WithholdsSo (note_given note.now) (L.seen ledger.old).naming names.now result.counts result.refusal) }
 {
     let mut counts = WorkCounts {
         withheld: 0,
@@ -53,7 +58,7 @@ pub fn withhold_each<L: Ledger>(ledger: &mut L, names: &[[u8; 32]]) -> WorksTold
     };
     let mut rest = names;
     while !rest.is_empty() {
-        match ledger.withhold_many(rest, &None) {
+        match ledger.withhold_many(rest, note) {
             Ok(told) => {
                 counts = with_taken(counts, told);
                 let (_, later) = rest.split_at(told.taken);

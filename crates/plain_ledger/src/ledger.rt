@@ -2,10 +2,9 @@
 
 ghost use Rattle.std.specs.Prelude.{◌≡◌, length, ◌==◌};
 
-use crate::copies::copied_note;
 use crate::journal::{Journal, Said, is_done, is_kept};
 use crate::plain::PlainBooks;
-use book_core::{AcceptedTariff, Ledger, Rulings};
+use book_core::{AcceptedTariff, Ledger, Rulings, copied_note};
 use book_model::{
     Accepted, ChargeRow, Credit, Detail, Dispute, LedgerFault, Line, ListedRuling, Naming, Note,
     Ruled, Ruling, Share, Stop, Trail,

@@ -99,6 +99,8 @@ row_of report.Record = text_row (codes "record") OfRecord (Some (codes "/record/
 row_of report.Periods = text_row (codes "periods") OfOffice (Some (codes "/periods"))
 row_of report.Rulings =
     record (text_row (codes "rulings") OfOffice (Some (codes "/rulings"))) { streamed = true }
+row_of report.Journal =
+    record (text_row (codes "journal") OfOffice None) { csv = true; streamed = true }
 row_of report.TariffText =
     record (text_row (codes "tariff-text") OfDay (Some (codes "/tariff/"))) { kind = body.TariffFile }
 
@@ -111,7 +113,7 @@ page_of name = name
 abbrev pub commands : List ReportName
 commands = report.Statement ∷ report.Adjustments ∷ report.Details ∷ report.Bill ∷ report.Focus
     ∷ report.Coverage ∷ report.Page ∷ report.Disputes ∷ report.Record ∷ report.Periods
-    ∷ report.Rulings ∷ report.TariffText ∷ []
+    ∷ report.Rulings ∷ report.Journal ∷ report.TariffText ∷ []
 
 -- all reports: the page of another one, and those
 abbrev pub reports : List ReportName
@@ -134,7 +136,8 @@ abbrev pub kind_in : Row → StatementForm → BodyKind
 kind_in row form.Text = row.kind
 kind_in row form.Table = body.Csv
 
--- The report that a name makes of what it is about. Details are made only as they are written.
+-- The report that a name makes of what it is about. Details and the journal are made only as they are
+-- written.
 abbrev pub statement_in : StatementForm → PeriodReport
 statement_in form.Text = of_period.Statement
 statement_in form.Table = of_period.StatementTable

@@ -35,6 +35,8 @@ pub enum ReportName {
     Periods,
     /// The rulings.
     Rulings,
+    /// The journal: who ruled or imported, when, and from which file.
+    Journal,
     /// The file of a tariff.
     TariffText,
 }
@@ -228,6 +230,14 @@ pub const RULINGS: ReportRow = ReportRow {
     ..PLAIN
 };
 
+/// The journal, which is not served: clients need no names of persons.
+pub const JOURNAL: ReportRow = ReportRow {
+    word: "journal",
+    csv: true,
+    streamed: true,
+    ..PLAIN
+};
+
 pub const TARIFF_TEXT: ReportRow = ReportRow {
     word: "tariff-text",
     shape: Shape::OfDay,
@@ -254,6 +264,7 @@ pub fn row_of(name: ReportName) -> ReportRow
         ReportName::Record => RECORD,
         ReportName::Periods => PERIODS,
         ReportName::Rulings => RULINGS,
+        ReportName::Journal => JOURNAL,
         ReportName::TariffText => TARIFF_TEXT,
     }
 }
@@ -269,7 +280,7 @@ pub fn page_of(name: ReportName) -> ReportName
 }
 
 /// The reports that have a command of their own, in the order of the program's help.
-static COMMANDS: [ReportName; 12] = [
+static COMMANDS: [ReportName; 13] = [
     ReportName::Statement,
     ReportName::Adjustments,
     ReportName::Details,
@@ -281,11 +292,12 @@ static COMMANDS: [ReportName; 12] = [
     ReportName::Record,
     ReportName::Periods,
     ReportName::Rulings,
+    ReportName::Journal,
     ReportName::TariffText,
 ];
 
 /// All reports: the page of another one, and those.
-static REPORTS: [ReportName; 13] = [
+static REPORTS: [ReportName; 14] = [
     ReportName::BillPage,
     ReportName::Statement,
     ReportName::Adjustments,
@@ -298,6 +310,7 @@ static REPORTS: [ReportName; 13] = [
     ReportName::Record,
     ReportName::Periods,
     ReportName::Rulings,
+    ReportName::Journal,
     ReportName::TariffText,
 ];
 

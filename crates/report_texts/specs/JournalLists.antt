@@ -9,7 +9,7 @@ use Rattle.book_model.specs.Words.{ActSeen, EntrySeen, ImportDone, RulingDone, R
 use Rattle.book_model.specs.Words.{TariffSeen, day_text_of}
 use Rattle.report_texts.specs.Columns.{newline}
 use Rattle.report_texts.specs.Moments.{in_two_digits}
-use Rattle.report_texts.specs.RulingLists.{replacing_line, ruling_line}
+use Rattle.report_texts.specs.RulingLists.{replacing_words, ruling_words}
 
 abbrev pub seconds_per_day : ℕ
 seconds_per_day = 86_400
@@ -34,15 +34,15 @@ entry_time time =
     else decimal time
 
 -- a tariff that took another's place says which; any other ruling is shown as in the list of them
-unfoldable pub replaced_line : ℕ → RulingSeen → List ℕ
-replaced_line number (TariffSeen day text) = replacing_line day text number
-replaced_line number ruling = ruling_line ruling
+unfoldable pub replaced_words : ℕ → RulingSeen → List ℕ
+replaced_words number (TariffSeen day text) = replacing_words day text number
+replaced_words number ruling = ruling_words ruling
 
 -- a ruling that was found, by where it stands
-unfoldable pub ruled_line : Place → Option RulingSeen → List ℕ
-ruled_line place None = codes "-" ++ newline
-ruled_line (ReplacementOf number) (Some ruling) = replaced_line number ruling
-ruled_line place (Some ruling) = ruling_line ruling
+unfoldable pub ruled_words : Place → Option RulingSeen → List ℕ
+ruled_words place None = codes "-"
+ruled_words (ReplacementOf number) (Some ruling) = replaced_words number ruling
+ruled_words place (Some ruling) = ruling_words ruling
 
 -- a count, behind a blank and its word
 unfoldable pub entry_count : List ℕ → ℕ → List ℕ
@@ -78,7 +78,7 @@ import_line reading ending kept =
     ++ newline
 
 unfoldable pub act_line : ActSeen → List ℕ
-act_line (RulingDone place found) = ruled_line place found
+act_line (RulingDone place found) = ruled_words place found ++ newline
 act_line (ImportDone reading ending kept) = import_line reading ending kept
 
 -- a part of a note has a line of its own, where it says something

@@ -1,11 +1,11 @@
--- The text of a record: which it is, how its price came about, its rivals, the choices among them,
--- and its life.
+-- The text of a record: which it is, by which entry of the journal it came, how its price came about,
+-- its rivals, the choices among them, and its life.
 use Rattle.std.specs.Prelude.{ℕ, not, if◌then◌else◌, List, [], ◌++◌, codes, filter, flat_map}
-use Rattle.std.specs.Prelude.{length, decimal}
+use Rattle.std.specs.Prelude.{length, decimal, Option}
 use Rattle.hex.specs.Hex.{encode_lower}
 use Rattle.book_model.specs.declared.dispute.Variant.{Variant}
 use Rattle.book_model.specs.declared.trail.NamedChoice.{NamedChoice}
-use Rattle.book_model.specs.Words.{TrailSeen, same_bytes}
+use Rattle.book_model.specs.Words.{EntrySeen, TrailSeen, same_bytes}
 use Rattle.report_texts.specs.Columns.{newline}
 use Rattle.report_texts.specs.DisputeLists.{member_line}
 use Rattle.report_texts.specs.RulingLists.{period_column}
@@ -38,11 +38,11 @@ unfoldable pub choice_lines : List NamedChoice → List ℕ
 choice_lines choices =
     codes "CHOICES " ++ decimal (length choices) ++ newline ++ flat_map choice_line choices
 
--- the text of the record of a name, by its trail
-abbrev pub record_text : List ℕ → TrailSeen → List ℕ
-record_text name trail =
+-- the text of the record of a name, by its trail and the entry by which it came
+abbrev pub record_text : List ℕ → Option EntrySeen → TrailSeen → List ℕ
+record_text name entry trail =
     record_line name
-    ++ usage_lines trail.bytes trail.period
+    ++ usage_lines trail.bytes trail.period entry
     ++ reckoning_lines trail.reckoning
     ++ rival_lines (rivals_of name trail.members)
     ++ choice_lines trail.choices

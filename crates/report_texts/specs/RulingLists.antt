@@ -31,28 +31,33 @@ unfoldable pub reasoned_credit : List ℕ → ℤ → List ℕ → List ℕ
 reasoned_credit centre amount reason =
     centre ++ codes " " ++ credit_text amount ++ codes " " ++ reason
 
--- the line of a tariff that took the place of another, by the number of that
-unfoldable pub replacing_line : ℤ → List ℕ → ℕ → List ℕ
-replacing_line day text number =
-    codes "TARIFF " ++ day_text_of day ++ codes " " ++ file_columns text ++ codes " REPLACES "
-    ++ decimal number ++ newline
+-- the words of a tariff,
+unfoldable pub tariff_words : ℤ → List ℕ → List ℕ
+tariff_words day text = codes "TARIFF " ++ day_text_of day ++ codes " " ++ file_columns text
 
--- the line of a ruling
-unfoldable pub ruling_line : RulingSeen → List ℕ
-ruling_line (TariffSeen day text) =
-    codes "TARIFF " ++ day_text_of day ++ codes " " ++ file_columns text ++ newline
-ruling_line (CloseSeen period through) = close_words period through ++ newline
-ruling_line (ChoiceSeen number period name) =
-    codes "CHOICE " ++ choice_columns number period name ++ newline
-ruling_line (AdoptionSeen period) = codes "ADOPTED " ++ period_column period ++ newline
-ruling_line (WithheldSeen number period name) =
-    codes "NONE " ++ choice_columns number period name ++ newline
-ruling_line (ReplacedSeen day period text) =
+-- and of one that took the place of another, by the number of that
+unfoldable pub replacing_words : ℤ → List ℕ → ℕ → List ℕ
+replacing_words day text number = tariff_words day text ++ codes " REPLACES " ++ decimal number
+
+-- the words of a ruling
+unfoldable pub ruling_words : RulingSeen → List ℕ
+ruling_words (TariffSeen day text) = tariff_words day text
+ruling_words (CloseSeen period through) = close_words period through
+ruling_words (ChoiceSeen number period name) =
+    codes "CHOICE " ++ choice_columns number period name
+ruling_words (AdoptionSeen period) = codes "ADOPTED " ++ period_column period
+ruling_words (WithheldSeen number period name) =
+    codes "NONE " ++ choice_columns number period name
+ruling_words (ReplacedSeen day period text) =
     codes "REPLACED " ++ day_text_of day ++ codes " " ++ period_column period ++ codes " "
-    ++ file_columns text ++ newline
-ruling_line (CreditSeen number period centre amount reason) =
+    ++ file_columns text
+ruling_words (CreditSeen number period centre amount reason) =
     codes "CREDIT " ++ decimal number ++ codes " " ++ period_column period ++ codes " "
-    ++ reasoned_credit centre amount reason ++ newline
+    ++ reasoned_credit centre amount reason
+
+-- its line
+unfoldable pub ruling_line : RulingSeen → List ℕ
+ruling_line ruling = ruling_words ruling ++ newline
 
 -- what stands above the lines
 abbrev pub ruling_list_head : List ℕ

@@ -1,12 +1,13 @@
--- What a record of usage says, as a record's text shows it: when it was written, which work it
--- measures, how that ran, and its accounting fields.
+-- What a record of usage says, as a record's text shows it: when it was written, and by which entry of
+-- the journal it came; which work it measures, how that ran, and its accounting fields.
 use Rattle.std.specs.Prelude.{ℕ, List, [], ◌++◌, flat_map, codes, Option, Some, None, decimal}
 use Rattle.smf_type30.specs.Accounts.{accounts_of}
 use Rattle.smf_type30.specs.Layout.{accounting}
 use Rattle.smf_type30.specs.Section.{count_of}
 use Rattle.book_model.specs.Words.{completion_of, day_of, ended_step_of, identity_of, initiation_of}
-use Rattle.book_model.specs.Words.{job_id_of, program_of, subtype_of, time_of, part, show_text}
+use Rattle.book_model.specs.Words.{EntrySeen, job_id_of, program_of, subtype_of, time_of, part, show_text}
 use Rattle.report_texts.specs.Columns.{newline, number_text}
+use Rattle.report_texts.specs.JournalLists.{came_line}
 use Rattle.report_texts.specs.DisputeLists.{completion_text, job_text, moment_text, reader_text}
 use Rattle.report_texts.specs.Moments.{day_time_text}
 
@@ -54,7 +55,7 @@ accounts_text bytes =
     ++ account_lines (accounts_of bytes)
 
 -- all of it
-unfoldable pub usage_lines : List ℕ → ℕ → List ℕ
-usage_lines bytes period =
-    dated_line bytes period ++ work_line bytes
+unfoldable pub usage_lines : List ℕ → ℕ → Option EntrySeen → List ℕ
+usage_lines bytes period entry =
+    dated_line bytes period ++ came_line entry ++ work_line bytes
     ++ start_columns bytes ++ program_columns bytes ++ accounts_text bytes

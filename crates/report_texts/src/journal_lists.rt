@@ -9,7 +9,7 @@ ghost use Rattle.report_texts.specs.JournalLists as spec;
 
 use crate::columns::push_draft;
 use crate::moments::push_two_digits;
-use crate::ruling_lists::{push_replacing, push_ruling};
+use crate::ruling_lists::{push_replacing, push_ruling_words};
 use book_model::{Ending, ListedAct, ListedEntry, ListedRuling, Note, Place, Reading};
 use smf_text::LAST_DAY;
 use std::alloc::{AllocError, Global};
@@ -32,7 +32,7 @@ fn push_clock(out: &mut Draft, seconds: u32)
 
 /// Appends a moment, given in seconds since the beginning of 1970.
 #[tactic(auto, unfolding(crate::specs::JournalLists::entry_time))]
-fn push_entry_time(out: &mut Draft, time: u64)
+pub(crate) fn push_entry_time(out: &mut Draft, time: u64)
     ensures { out.new ≡ out.old ++ spec.entry_time time }
 {
     let day = time / SECONDS_PER_DAY;
@@ -46,49 +46,49 @@ fn push_entry_time(out: &mut Draft, time: u64)
     out.push('Z');
 }
 
-/// Appends the line of a ruling that stands under the number of a tariff that was replaced.
-#[tactic(auto, unfolding(crate::specs::JournalLists::replaced_line))]
+/// Appends the words of a ruling that stands under the number of a tariff that was replaced.
+#[tactic(auto, unfolding(crate::specs::JournalLists::replaced_words))]
 fn push_in_place(out: &mut Draft, number: u32, ruling: &ListedRuling)
     requires { HasDays (ruling_shown ruling.now) }
-    ensures { out.new ≡ out.old ++ spec.replaced_line number (ruling_shown ruling.now) }
+    ensures { out.new ≡ out.old ++ spec.replaced_words number (ruling_shown ruling.now) }
 {
     match ruling {
         ListedRuling::Tariff { day, text } => push_replacing(out, *day, text.as_str(), number),
-        ListedRuling::Close { .. } => push_ruling(out, ruling),
-        ListedRuling::Choice { .. } => push_ruling(out, ruling),
-        ListedRuling::Withheld { .. } => push_ruling(out, ruling),
-        ListedRuling::Adoption { .. } => push_ruling(out, ruling),
-        ListedRuling::Replaced { .. } => push_ruling(out, ruling),
-        ListedRuling::Credit { .. } => push_ruling(out, ruling),
+        ListedRuling::Close { .. } => push_ruling_words(out, ruling),
+        ListedRuling::Choice { .. } => push_ruling_words(out, ruling),
+        ListedRuling::Withheld { .. } => push_ruling_words(out, ruling),
+        ListedRuling::Adoption { .. } => push_ruling_words(out, ruling),
+        ListedRuling::Replaced { .. } => push_ruling_words(out, ruling),
+        ListedRuling::Credit { .. } => push_ruling_words(out, ruling),
     }
 }
 
-/// Appends the line of a ruling that was found, by where it stands.
-#[tactic(auto, unfolding(crate::specs::JournalLists::ruled_line))]
+/// Appends the words of a ruling that was found, by where it stands.
+#[tactic(auto, unfolding(crate::specs::JournalLists::ruled_words))]
 fn push_found(out: &mut Draft, place: Place, ruling: &ListedRuling)
     requires { HasDays (ruling_shown ruling.now) }
     ensures { out.new
-        ≡ out.old ++ spec.ruled_line (place_shown place) (Some (ruling_shown ruling.now)) }
+        ≡ out.old ++ spec.ruled_words (place_shown place) (Some (ruling_shown ruling.now)) }
 {
     match place {
         Place::Replacement(number) => push_in_place(out, number, ruling),
-        Place::Tariff(_) => push_ruling(out, ruling),
-        Place::Close(_) => push_ruling(out, ruling),
-        Place::Choice(_) => push_ruling(out, ruling),
-        Place::Adoption => push_ruling(out, ruling),
-        Place::Credit(_) => push_ruling(out, ruling),
+        Place::Tariff(_) => push_ruling_words(out, ruling),
+        Place::Close(_) => push_ruling_words(out, ruling),
+        Place::Choice(_) => push_ruling_words(out, ruling),
+        Place::Adoption => push_ruling_words(out, ruling),
+        Place::Credit(_) => push_ruling_words(out, ruling),
     }
 }
 
-/// Appends the line of a ruling.
-#[tactic(auto, unfolding(crate::specs::JournalLists::ruled_line))]
-fn push_ruled(out: &mut Draft, place: Place, found: &Option<ListedRuling>)
+/// Appends the words of a ruling.
+#[tactic(auto, unfolding(crate::specs::JournalLists::ruled_words))]
+pub(crate) fn push_ruled(out: &mut Draft, place: Place, found: &Option<ListedRuling>)
     requires { ShowsDays found.now }
     ensures { out.new ≡ out.old
-        ++ spec.ruled_line (place_shown place) (option_map ruling_shown found.now) }
+        ++ spec.ruled_words (place_shown place) (option_map ruling_shown found.now) }
 {
     match found {
-        None => out.push_str("-\n"),
+        None => out.push_str("-"),
         Some(ruling) => push_found(out, place, ruling),
     }
 }
@@ -106,7 +106,7 @@ fn push_entry_count(out: &mut Draft, word: &str, count: u64)
 
 /// Appends why an import ended.
 #[tactic(auto, unfolding(crate::specs::JournalLists::ending_text))]
-fn push_ending(out: &mut Draft, ending: Option<Ending>)
+pub(crate) fn push_ending(out: &mut Draft, ending: Option<Ending>)
     ensures { out.new ≡ out.old ++ spec.ending_text (option_map ending_shown ending) }
 {
     match ending {
@@ -172,7 +172,10 @@ fn push_act(out: &mut Draft, act: &ListedAct)
     ensures { out.new ≡ out.old ++ spec.act_line (act_listed act.now) }
 {
     match act {
-        ListedAct::Ruling(place, found) => push_ruled(out, *place, found),
+        ListedAct::Ruling(place, found) => {
+            push_ruled(out, *place, found);
+            out.push('\n');
+        }
         ListedAct::Import(reading, ending, kept) => push_import(out, reading, *ending, *kept),
     }
 }
@@ -230,7 +233,7 @@ fn push_file_column(out: &mut Draft, file: &str)
 
 /// Appends the line of a record that names the entry by which it came.
 #[tactic(auto, unfolding(crate::specs::JournalLists::came_line))]
-pub fn push_came_line(out: &mut Draft, entry: &Option<ListedEntry>)
+pub(crate) fn push_came_line(out: &mut Draft, entry: &Option<ListedEntry>)
     ensures { out.new ≡ out.old ++ spec.came_line (option_map entry_shown entry.now) }
 {
     let Some(entry) = entry else {

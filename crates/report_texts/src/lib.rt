@@ -16,6 +16,7 @@ mod fields;
 mod figures;
 mod focus_tables;
 mod journal_lists;
+mod journal_tables;
 mod life_lines;
 mod midnights;
 mod moments;
@@ -59,7 +60,8 @@ pub use fields::{
 };
 pub use figures::{Figures, figures_of, record_count, record_count_from, record_count_under};
 pub use focus_tables::{FocusHead, focus_table};
-pub use journal_lists::{push_came_line, push_entry_lines, push_journal_head};
+pub use journal_lists::{push_entry_lines, push_journal_head};
+pub use journal_tables::{entry_row, journal_table_head};
 pub use life_lines::is_charge;
 pub use moments::push_time;
 pub use period_lists::period_list_text;

@@ -1,7 +1,7 @@
 //! The text of one record: what stands behind its price, and what became of it.
 
-ghost use Rattle.std.specs.Prelude.{◌≡◌, ◌++◌, All, IfOk, string_bytes};
-ghost use Rattle.book_model.specs.Words.{IsDay, IsTrail, trail_shown};
+ghost use Rattle.std.specs.Prelude.{◌≡◌, ◌++◌, All, IfOk, option_map, string_bytes};
+ghost use Rattle.book_model.specs.Words.{IsDay, IsTrail, entry_shown, trail_shown};
 ghost use Rattle.report_texts.specs.RecordTexts as spec;
 
 use crate::dispute_lists::push_members;
@@ -9,7 +9,7 @@ use crate::life_lines::push_life;
 use crate::reckoning_lines::push_reckoning;
 use crate::ruling_lists::push_period;
 use crate::usage_lines::push_usage;
-use book_model::{NamedChoice, Trail, Variant};
+use book_model::{ListedEntry, NamedChoice, Trail, Variant};
 use std::alloc::{AllocError, Global};
 use text_drafts::Draft;
 
@@ -72,15 +72,20 @@ fn push_choices(out: &mut Draft, choices: &[NamedChoice])
     }
 }
 
-/// The text of the record of a name, by its trail.
-pub fn record_text(alloc: Global, name: &[u8; 32], mut trail: Trail) -> Result<String, AllocError>
+/// The text of the record of a name, by its trail and the entry by which it came.
+pub fn record_text(
+    alloc: Global,
+    name: &[u8; 32],
+    entry: &Option<ListedEntry>,
+    mut trail: Trail,
+) -> Result<String, AllocError>
     requires { IsTrail (trail_shown trail) }
-    ensures { IfOk result (λ text.
-        string_bytes text ≡ spec.record_text name.now (trail_shown trail)) }
+    ensures { IfOk result (λ text. string_bytes text
+        ≡ spec.record_text name.now (option_map entry_shown entry.now) (trail_shown trail)) }
 {
     let mut out = Draft::new(alloc);
     push_record(&mut out, name);
-    push_usage(&mut out, &trail.bytes, trail.period);
+    push_usage(&mut out, &trail.bytes, trail.period, entry);
     push_reckoning(&mut out, &trail.reckoning);
     keep_rivals(&mut trail.members, name);
     push_rivals(&mut out, &trail.members);

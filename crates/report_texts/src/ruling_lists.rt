@@ -39,32 +39,27 @@ pub(crate) fn push_period(out: &mut Draft, period: u16)
     out.push_number(u64::from(period));
 }
 
-/// Appends the line of a tariff.
-#[tactic(auto, unfolding(crate::specs::RulingLists::ruling_line))]
+/// Appends the words of a tariff.
+#[tactic(auto, unfolding(crate::specs::RulingLists::tariff_words))]
 fn push_tariff(out: &mut Draft, day: i32, text: &str)
     requires { IsDay day }
-    ensures { out.new ≡ out.old ++ spec.ruling_line (TariffSeen day text.now) }
+    ensures { out.new ≡ out.old ++ spec.tariff_words day text.now }
 {
     out.push_str("TARIFF ");
     out.push_day(day);
     out.push(' ');
     push_file(out, text);
-    out.push('\n');
 }
 
-/// Appends the line of a tariff that took the place of another, by the number of that.
-#[tactic(auto, unfolding(crate::specs::RulingLists::replacing_line))]
+/// Appends the words of a tariff that took the place of another, by the number of that.
+#[tactic(auto, unfolding(crate::specs::RulingLists::replacing_words))]
 pub(crate) fn push_replacing(out: &mut Draft, day: i32, text: &str, number: u32)
     requires { IsDay day }
-    ensures { out.new ≡ out.old ++ spec.replacing_line day text.now number }
+    ensures { out.new ≡ out.old ++ spec.replacing_words day text.now number }
 {
-    out.push_str("TARIFF ");
-    out.push_day(day);
-    out.push(' ');
-    push_file(out, text);
+    push_tariff(out, day, text);
     out.push_str(" REPLACES ");
     out.push_number(u64::from(number));
-    out.push('\n');
 }
 
 /// Appends a close, by its period and its day.
@@ -91,31 +86,29 @@ fn push_named(out: &mut Draft, number: u32, period: u16, name: &[u8])
     out.push_lower_hex(name);
 }
 
-/// Appends the line of a choice.
-#[tactic(auto, unfolding(crate::specs::RulingLists::ruling_line))]
+/// Appends the words of a choice.
+#[tactic(auto, unfolding(crate::specs::RulingLists::ruling_words))]
 fn push_choice(out: &mut Draft, number: u32, period: u16, name: &[u8])
-    ensures { out.new ≡ out.old ++ spec.ruling_line (ChoiceSeen number period name.now) }
+    ensures { out.new ≡ out.old ++ spec.ruling_words (ChoiceSeen number period name.now) }
 {
     out.push_str("CHOICE ");
     push_named(out, number, period, name);
-    out.push('\n');
 }
 
-/// Appends the line of a choice of none.
-#[tactic(auto, unfolding(crate::specs::RulingLists::ruling_line))]
+/// Appends the words of a choice of none.
+#[tactic(auto, unfolding(crate::specs::RulingLists::ruling_words))]
 fn push_withheld(out: &mut Draft, number: u32, period: u16, name: &[u8])
-    ensures { out.new ≡ out.old ++ spec.ruling_line (WithheldSeen number period name.now) }
+    ensures { out.new ≡ out.old ++ spec.ruling_words (WithheldSeen number period name.now) }
 {
     out.push_str("NONE ");
     push_named(out, number, period, name);
-    out.push('\n');
 }
 
-/// Appends the line of a tariff that was replaced.
-#[tactic(auto, unfolding(crate::specs::RulingLists::ruling_line))]
+/// Appends the words of a tariff that was replaced.
+#[tactic(auto, unfolding(crate::specs::RulingLists::ruling_words))]
 fn push_replaced(out: &mut Draft, day: i32, period: u16, text: &str)
     requires { IsDay day }
-    ensures { out.new ≡ out.old ++ spec.ruling_line (ReplacedSeen day period text.now) }
+    ensures { out.new ≡ out.old ++ spec.ruling_words (ReplacedSeen day period text.now) }
 {
     out.push_str("REPLACED ");
     out.push_day(day);
@@ -123,7 +116,6 @@ fn push_replaced(out: &mut Draft, day: i32, period: u16, text: &str)
     push_period(out, period);
     out.push(' ');
     push_file(out, text);
-    out.push('\n');
 }
 
 /// Appends a credit, by its centre and its amount, with its reason.
@@ -138,11 +130,11 @@ fn push_reasoned_credit(out: &mut Draft, centre: Name, amount: i64, reason: &str
     out.push_str(reason);
 }
 
-/// Appends the line of a credit.
-#[tactic(auto, unfolding(crate::specs::RulingLists::ruling_line))]
+/// Appends the words of a credit.
+#[tactic(auto, unfolding(crate::specs::RulingLists::ruling_words))]
 fn push_credit(out: &mut Draft, number: u32, period: u16, centre: Name, amount: i64, reason: &str)
     ensures { out.new
-        ≡ out.old ++ spec.ruling_line (CreditSeen number period centre amount reason.now) }
+        ≡ out.old ++ spec.ruling_words (CreditSeen number period centre amount reason.now) }
 {
     out.push_str("CREDIT ");
     out.push_number(u64::from(number));
@@ -150,21 +142,17 @@ fn push_credit(out: &mut Draft, number: u32, period: u16, centre: Name, amount: 
     push_period(out, period);
     out.push(' ');
     push_reasoned_credit(out, centre, amount, reason);
-    out.push('\n');
 }
 
-/// Appends the line of a ruling.
-#[tactic(auto, unfolding(crate::specs::RulingLists::ruling_line))]
-pub(crate) fn push_ruling(out: &mut Draft, ruling: &ListedRuling)
+/// Appends the words of a ruling.
+#[tactic(auto, unfolding(crate::specs::RulingLists::ruling_words))]
+pub(crate) fn push_ruling_words(out: &mut Draft, ruling: &ListedRuling)
     requires { HasDays (ruling_shown ruling.now) }
-    ensures { out.new ≡ out.old ++ spec.ruling_line (ruling_shown ruling.now) }
+    ensures { out.new ≡ out.old ++ spec.ruling_words (ruling_shown ruling.now) }
 {
     match ruling {
         ListedRuling::Tariff { day, text } => push_tariff(out, *day, text.as_str()),
-        ListedRuling::Close { period, through } => {
-            push_close_words(out, *period, *through);
-            out.push('\n');
-        }
+        ListedRuling::Close { period, through } => push_close_words(out, *period, *through),
         ListedRuling::Choice {
             number,
             period,
@@ -173,7 +161,6 @@ pub(crate) fn push_ruling(out: &mut Draft, ruling: &ListedRuling)
         ListedRuling::Adoption { period } => {
             out.push_str("ADOPTED ");
             push_period(out, *period);
-            out.push('\n');
         }
         ListedRuling::Withheld {
             number,
@@ -191,6 +178,16 @@ pub(crate) fn push_ruling(out: &mut Draft, ruling: &ListedRuling)
             reason,
         } => push_credit(out, *number, *period, *centre, *amount, reason.as_str()),
     }
+}
+
+/// Appends the line of a ruling.
+#[tactic(auto, unfolding(crate::specs::RulingLists::ruling_line))]
+fn push_ruling(out: &mut Draft, ruling: &ListedRuling)
+    requires { HasDays (ruling_shown ruling.now) }
+    ensures { out.new ≡ out.old ++ spec.ruling_line (ruling_shown ruling.now) }
+{
+    push_ruling_words(out, ruling);
+    out.push('\n');
 }
 
 /// Appends the line of a ruling to a text.

@@ -1,13 +1,15 @@
 //! What a record of usage says, as a record's text shows it.
 
-ghost use Rattle.std.specs.Prelude.{◌≡◌, ◌++◌, IsSome};
+ghost use Rattle.std.specs.Prelude.{◌≡◌, ◌++◌, IsSome, option_map};
 ghost use Rattle.smf_type30.specs.Accounts.{fields_in};
-ghost use Rattle.book_model.specs.Words.{IsUsage};
+ghost use Rattle.book_model.specs.Words.{IsUsage, entry_shown};
 ghost use Rattle.report_texts.specs.UsageLines as spec;
 
 use crate::columns::push_number_or_dash;
 use crate::dispute_lists::{push_completion, push_job, push_moment};
+use crate::journal_lists::push_came_line;
 use crate::moments::push_day_time;
+use book_model::ListedEntry;
 use smf_type30::{Type30, split_account};
 use text_drafts::Draft;
 
@@ -97,14 +99,17 @@ fn push_accounts(out: &mut Draft, usage: &Type30<'_>)
     push_fields(out, count, usage.accounts());
 }
 
-/// Appends what a usage record says, and the period that its day belongs to.
+/// Appends what a usage record says, the period that its day belongs to, and the entry by which it
+/// came.
 #[tactic(auto, unfolding(crate::specs::UsageLines::usage_lines))]
-pub(crate) fn push_usage(out: &mut Draft, bytes: &[u8], period: u16)
+pub(crate) fn push_usage(out: &mut Draft, bytes: &[u8], period: u16, entry: &Option<ListedEntry>)
     requires { IsUsage bytes.now }
-    ensures { out.new ≡ out.old ++ spec.usage_lines bytes.now period }
+    ensures { out.new ≡ out.old
+        ++ spec.usage_lines bytes.now period (option_map entry_shown entry.now) }
 {
     let usage = Type30::of_usage(bytes);
     push_dated(out, &usage, period);
+    push_came_line(out, entry);
     push_work(out, &usage);
     push_start(out, &usage);
     push_program(out, &usage);

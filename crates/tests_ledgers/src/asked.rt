@@ -29,7 +29,7 @@ fn close_by(period: &str, day: &str) -> LineResult<Asked>
 {
     let (period, day) = (period.parse::<u16>()?, Day::of(day)?);
     let through = day.number;
-    Ok(Asked::Rule(OwnedRuling::Close { period, through }))
+    Ok(Asked::Rule(OwnedRuling::Close { period, through }, None))
 }
 
 /// The centre of a credit, and its amount in ten-thousandths of the money unit.
@@ -65,7 +65,7 @@ fn credit_by(
         centre: said.0,
         amount: said.1,
         reason: text,
-    }))
+    }, None))
 }
 
 /// What is asked of a period by another tariff: of all centres, or of the one that is named after a
@@ -96,9 +96,9 @@ fn asked_by_word(named: &Named, ask: Ask<'_>) -> LineResult<Asked>
         return Err(LineFault::NotUnderstood);
     };
     match ask.verb {
-        "choose" => Ok(Asked::Rule(OwnedRuling::Choose(name_in(named, word)?))),
-        "withhold" => Ok(Asked::Rule(OwnedRuling::Withhold(name_in(named, word)?))),
-        "adopt" => Ok(Asked::Rule(OwnedRuling::Adopt(word.parse::<u8>()?))),
+        "choose" => Ok(Asked::Rule(OwnedRuling::Choose(name_in(named, word)?), None)),
+        "withhold" => Ok(Asked::Rule(OwnedRuling::Withhold(name_in(named, word)?), None)),
+        "adopt" => Ok(Asked::Rule(OwnedRuling::Adopt(word.parse::<u8>()?), None)),
         "what-if" | "what-if-table" => {
             let report = what_if_of(ask.verb, word)?;
             let tariff = named.read_texts(names, ask.body)?;
@@ -116,15 +116,19 @@ pub(crate) fn asked_by(named: &Named, layout: Layout, ask: Ask<'_>) -> LineResul
     match (ask.verb, ask.words) {
         ("tariff", names) => {
             let text = named.read_texts(names, ask.body)?;
-            Ok(Asked::Rule(OwnedRuling::Tariff(text)))
+            Ok(Asked::Rule(OwnedRuling::Tariff(text), None))
         }
         ("replace", names) => {
             let text = named.read_texts(names, ask.body)?;
-            Ok(Asked::Rule(OwnedRuling::Replace(text)))
+            Ok(Asked::Rule(OwnedRuling::Replace(text), None))
         }
         ("import", parts) => {
             let bytes = named.read_dump(parts)?;
-            Ok(Asked::ImportBytes { layout, bytes })
+            Ok(Asked::ImportBytes {
+                layout,
+                bytes,
+                note: None,
+            })
         }
         ("close", [period, day]) => close_by(period, day),
         ("credit", [period, centre, amount, reason]) => {

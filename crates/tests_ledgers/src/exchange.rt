@@ -56,7 +56,7 @@ impl Exchange {
     ) -> Exchange {
         let mut source = Source::new(connection.reader(request));
         let mut sink = Sink::new(LimitedWriter::new(alloc, connection.writes));
-        let served = serve_one(alloc, &mut source, &mut sink, ledger);
+        let served = serve_one(alloc, &mut source, &mut sink, ledger, None);
         Exchange {
             served,
             writer: sink.into_inner(),

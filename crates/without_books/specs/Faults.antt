@@ -80,9 +80,13 @@ status_by ended =
 abbrev pub unclear_line : Unclear → List ℕ
 unclear_line unclear.Choice = codes "error: choose takes either SHA256 or --from FILE\n"
 unclear_line unclear.Dump = codes "error: choose takes --dump FILE with --none, and alone\n"
+unclear_line unclear.Import =
+    codes "error: choose takes --import NUMBER with --none, and alone\n"
 unclear_line unclear.Prices = codes "error: trial takes either rates or --tariff FILE\n"
 unclear_line unclear.Period = codes "error: PERIOD is a number without a sign or a leading 0\n"
 unclear_line unclear.Form = codes "error: bill takes either --csv or --html\n"
+unclear_line unclear.Note =
+    codes "error: NAME has up to 40 printable characters, and TEXT up to 200\n"
 
 -- words that are no amount, or no reason, of a credit
 abbrev pub amount_line : List ℕ

@@ -95,9 +95,11 @@ fn unclear_text(why: Unclear) -> &'static str
     match why {
         Unclear::Choice => "error: choose takes either SHA256 or --from FILE\n",
         Unclear::Dump => "error: choose takes --dump FILE with --none, and alone\n",
+        Unclear::Import => "error: choose takes --import NUMBER with --none, and alone\n",
         Unclear::Prices => "error: trial takes either rates or --tariff FILE\n",
         Unclear::Period => "error: PERIOD is a number without a sign or a leading 0\n",
         Unclear::Form => "error: bill takes either --csv or --html\n",
+        Unclear::Note => "error: NAME has up to 40 printable characters, and TEXT up to 200\n",
     }
 }
 

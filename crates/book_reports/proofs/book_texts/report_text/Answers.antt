@@ -3,7 +3,6 @@ use Rattle.book_model.proofs.Std.{to_z-of_z}
 use Rattle.report_texts.specs.DisputeLists.{dispute_list_text}
 use Rattle.report_texts.specs.DisputeTables.{dispute_table}
 use Rattle.report_texts.specs.PeriodLists.{period_list_text}
-use Rattle.report_texts.specs.RecordTexts.{record_text}
 use Rattle.book_reports.proofs.MadeLemmas.{call_made}
 use Rattle.book_reports.proofs.book_texts.report_text.Goals as goal
 
@@ -24,10 +23,9 @@ returns-in-PeriodList g c =
     rw c.in-PeriodList.is (call_made period_list_text (λ book. refl) c.periods.ensures.days
     c.made_of-in-PeriodList.ensures λ closes text made. search rules)
 
+-- so is that of a record
 pub returns-in-Record : goal.returns-in-Record
-returns-in-Record g c =
-    rw c.in-Record.is (call_made (record_text c.in-Record.name) (λ book. refl)
-    c.trail_of.ensures.trail c.made_of-in-Record.ensures λ trail text made. search rules)
+returns-in-Record g c = rw c.in-Record.is c.record_report.ensures
 
 -- so is the text of a tariff that was replaced
 pub returns-in-ReplacedText : goal.returns-in-ReplacedText

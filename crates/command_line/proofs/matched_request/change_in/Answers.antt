@@ -22,7 +22,7 @@ unfolding known_table
 returns-in-tariff-clause-some c =
     λ has others.
     let words = subst (λ n. HasWordsOf n (rows_in c.args.found.now)) c.in-tariff.is has in
-    c.of_books_in.ensures.some words.0 words.1.1.1.1.1.0
+    c.of_books_in.ensures.some words.0 words.1.1.1.1.1.1.1.0
     (c.tariff_in.ensures.some words.1.0 words.1.1.0 words.1.1.1.0 words.1.1.1.1.0)
 
 pub returns-in-import-clause-request : goal.returns-in-import-clause-request
@@ -36,7 +36,7 @@ unfolding known_table
 returns-in-import-clause-some c =
     λ has others.
     let words = subst (λ n. HasWordsOf n (rows_in c.args.found.now)) c.in-import.is has in
-    c.of_books_in-in-import.ensures.some words.0 words.1.1.1.1.1.0
+    c.of_books_in-in-import.ensures.some words.0 words.1.1.1.1.1.1.1.0
     (c.import_in.ensures.some words.1.0 words.1.1.0 words.1.1.1.0 words.1.1.1.1.0)
 
 pub returns-in-close-clause-request : goal.returns-in-close-clause-request
@@ -50,7 +50,7 @@ unfolding known_table
 returns-in-close-clause-some c =
     λ has others.
     let words = subst (λ n. HasWordsOf n (rows_in c.args.found.now)) c.in-close.is has in
-    c.of_books_in-in-close.ensures.some words.0 words.1.1.1.1.1.0
+    c.of_books_in-in-close.ensures.some words.0 words.1.1.1.1.1.1.1.0
     (c.close_in.ensures.some words.1.0 words.1.1.0 words.1.1.1.0 words.1.1.1.1.0)
 
 pub returns-in-choose-clause-some : goal.returns-in-choose-clause-some
@@ -58,8 +58,8 @@ unfolding known_table
 returns-in-choose-clause-some c =
     λ has others.
     let words = subst (λ n. HasWordsOf n (rows_in c.args.found.now)) c.in-choose.is has in
-    c.choice_in.ensures.some words.0 words.1.1.1.1.0 words.1.1.1.1.1.0 words.1.1.1.1.1.1.0
-    words.1.1.1.1.1.1.1.0
+    c.choice_in.ensures.some words.0 words.1.1.1.1.0 words.1.1.1.1.1.1.0 words.1.1.1.1.1.1.1.0
+    words.1.1.1.1.1.1.1.1.1.1.0
 
 pub returns-in-adopt-clause-request : goal.returns-in-adopt-clause-request
 returns-in-adopt-clause-request c =
@@ -71,7 +71,8 @@ unfolding known_table
 returns-in-adopt-clause-some c =
     λ has others.
     let words = subst (λ n. HasWordsOf n (rows_in c.args.found.now)) c.in-adopt.is has in
-    c.of_books_in-in-adopt.ensures.some words.0 words.1.1.0 (c.ruling_in.ensures.some words.1.0)
+    c.of_books_in-in-adopt.ensures.some words.0 words.1.1.1.1.0
+    (c.ruling_in.ensures.some words.1.0)
 
 pub returns-in-credit-clause-request : goal.returns-in-credit-clause-request
 returns-in-credit-clause-request c =
@@ -84,6 +85,6 @@ unfolding known_table
 returns-in-credit-clause-some c =
     λ has others.
     let words = subst (λ n. HasWordsOf n (rows_in c.args.found.now)) c.in-credit.is has in
-    c.of_books_in-in-credit.ensures.some words.0 words.1.1.1.1.1.1.0
+    c.of_books_in-in-credit.ensures.some words.0 words.1.1.1.1.1.1.1.1.0
     (c.credit_in.ensures.some words.1.0 words.1.1.0 words.1.1.1.0 words.1.1.1.1.0
     words.1.1.1.1.1.0)

@@ -20,11 +20,11 @@ returns-then-tried-clause-request c = λ given. (
 )
 
 -- or records are named beside the dump
-pub returns-then-names_some-clause-request : goal.returns-then-names_some-clause-request
-returns-then-names_some-clause-request c = λ given. (
+pub returns-then-names_others-clause-request : goal.returns-then-names_others-clause-request
+returns-then-names_others-clause-request c = λ given. (
   refl,
   ap is_some given,
-  inr (inr (sym c.names_some.ensures ∙ c.if-names_some.true)),
+  inr (inr (sym c.names_others.ensures ∙ c.if-names_others.true)),
 )
 
 pub returns-clause-request : goal.returns-clause-request
@@ -35,7 +35,7 @@ returns-clause-request c =
       refl,
       given,
       c.in_ok-layout.ensures.layout,
-      sym c.names_some.ensures ∙ c.if-names_some.false,
+      sym c.names_others.ensures ∙ c.if-names_others.false,
       subst (IsFlag rows (codes "none")) c.if-not-none.false c.in_ok-none.ensures.flag,
       subst (IsDryRun rows) c.if-tried.false c.in_ok-tried.ensures.flag,
     )

@@ -2,11 +2,10 @@ use Rattle.std.proofs.Common.{refl, subst, sym}
 use Rattle.std.specs.Prelude.{None, List, ℕ, Vec}
 use Rattle.std.specs.Global.{Global}
 use Rattle.streams.specs.InputOutput.{reader_seen}
-use Rattle.book_model.specs.Words.{MayBeAsked, RulingAsked, rule_outcome}
+use Rattle.book_model.specs.Words.{MayBeAsked, RulingAsked, note_given, rule_outcome}
 use Rattle.book_core.specs.Calls.{Calls}
 use Rattle.book_core.specs.Transition.{IsTransition}
-use Rattle.book_import.specs.Imports.{Imports}
-use Rattle.book_import.specs.ReadLimits.{cut_of}
+use Rattle.book_import.specs.ImportEntries.{ImportsOf}
 use Rattle.book_reports.specs.WhatIfTexts.{what_if_report}
 use Rattle.office.specs.declared.request.Asked.{Asked}
 use Rattle.office.specs.declared.request.Asked.TheVariants.{Import, ImportBytes, Report, Rule}
@@ -25,43 +24,36 @@ pub returns-in-Rule : goal.returns-in-Rule
 returns-in-Rule g c =
     let old = g.L.Ledger.seen c.args.ledger.now in
     let new = g.L.Ledger.seen c.rule.new.self in
-    as_asked (Rule c.in-Rule.ruling) c.in-Rule.is
+    as_asked (Rule c.in-Rule.ruling c.in-Rule.note) c.in-Rule.is
     (unread no_dump (record { is = refl; same = refl })
     (work_told Ruling c.ruled.ensures
     (subst (λ (ruling : RulingAsked).
     IsTransition old new
-    (Calls (λ ruled. ruled) (rule_outcome old.naming None ruling) c.rule.result))
+    (Calls (λ ruled. ruled) (rule_outcome old.naming (note_given c.in-Rule.note) ruling)
+    c.rule.result))
     c.lent.ensures c.rule.ensures.work)))
 
 pub returns-in-Import : goal.returns-in-Import
 returns-in-Import g c =
-    let booked = c.import.ensures.booked in
-    as_asked (Import c.in-Import.layout) c.in-Import.is (record {
-      dump = record {
-        layout = c.in-Import.layout;
-        cut = cut_of c.import.new.source;
-        bytes = booked.0;
-      };
-      given = record {
-        form = refl;
-        cut = refl;
-        read = booked.1;
-        at_end = c.import.ensures.left;
-        reads = c.import.ensures.asked;
-      };
-      work = booked.2;
+    let received = c.import_noted.ensures in
+    as_asked (Import c.in-Import.layout c.in-Import.note) c.in-Import.is (record {
+      dump = received.dump;
+      given = received.given;
+      work = received.work;
     })
 
 pub returns-in-ImportBytes : goal.returns-in-ImportBytes
 returns-in-ImportBytes g c =
     let old = g.L.Ledger.seen c.args.ledger.now in
-    let new = g.L.Ledger.seen c.import_bytes.new.ledger in
-    as_asked (ImportBytes c.in-ImportBytes.layout c.in-ImportBytes.bytes) c.in-ImportBytes.is
+    let new = g.L.Ledger.seen c.bytes_noted.new.ledger in
+    as_asked (ImportBytes c.in-ImportBytes.layout c.in-ImportBytes.bytes c.in-ImportBytes.note)
+    c.in-ImportBytes.is
     (unread (whole_dump c.in-ImportBytes.layout c.in-ImportBytes.bytes.items)
     (record { is = refl; same = refl })
-    (subst (λ (bytes : List ℕ).
-    IsTransition old new (Imports old.naming c.in-ImportBytes.layout None bytes c.import_bytes.result))
-    c.as_slice.ensures.value c.import_bytes.ensures.booked))
+    (subst (λ (bytes : List ℕ). IsTransition old new
+    (ImportsOf (note_given c.in-ImportBytes.note) old.naming c.in-ImportBytes.layout None bytes
+    c.bytes_noted.result))
+    c.as_slice.ensures.value c.bytes_noted.ensures))
 
 pub returns-in-Report : goal.returns-in-Report
 returns-in-Report g c =

@@ -1,4 +1,5 @@
 use Rattle.std.proofs.Common.{[], None, arith, rules}
+use Rattle.book_model.specs.Words.{note_given}
 use Rattle.book_core.proofs.TransitionLemmas.{no_work, work_as}
 use Rattle.office.specs.Choices.{ChoosesEach}
 use Rattle.office.proofs.ChoiceLemmas.{choice_kept, choice_refused, none_chosen}
@@ -8,9 +9,11 @@ pub loop-name-init : goal.loop-name-init
 loop-name-init g c =
     let seen = g.L.Ledger.seen c.args.ledger.now in
     record {
-      chosen = work_as seen seen _ (ChoosesEach c.args.withheld seen.naming []
+      chosen = work_as seen seen _ (ChoosesEach (note_given c.args.note.now) c.args.withheld
+          seen.naming []
           c.in_ok-answers.answers.items None)
-          (none_chosen c.args.withheld seen.naming c.in_ok-answers.answers.items
+          (none_chosen (note_given c.args.note.now) c.args.withheld seen.naming
+          c.in_ok-answers.answers.items
           c.in_ok-answers.ensures.items)
           (no_work seen);
       count = search rules;
@@ -20,7 +23,8 @@ loop-name-init g c =
 pub loop-name-preserved : goal.loop-name-preserved
 loop-name-preserved g c =
     record {
-      chosen = choice_kept c.args.withheld (g.L.Ledger.seen c.args.ledger.now)
+      chosen = choice_kept (note_given c.args.note.now) c.args.withheld
+          (g.L.Ledger.seen c.args.ledger.now)
           (g.L.Ledger.seen c.loop-name.ledger)
           (g.L.Ledger.seen c.choose_named.new.ledger) c.args.names.now c.loop-name.answers.items
           c.push.new.self.items c.loop-name.name-index _ c.in-Ok.ruled c.loop-name-test.true
@@ -32,7 +36,8 @@ loop-name-preserved g c =
 pub returns-in-Err : goal.returns-in-Err
 returns-in-Err g c =
     record {
-      chosen = choice_refused c.args.withheld (g.L.Ledger.seen c.args.ledger.now)
+      chosen = choice_refused (note_given c.args.note.now) c.args.withheld
+          (g.L.Ledger.seen c.args.ledger.now)
           (g.L.Ledger.seen c.loop-name.ledger)
           (g.L.Ledger.seen c.choose_named.new.ledger) c.args.names.now c.loop-name.answers.items
           c.loop-name.name-index _ c.in-Err.fault c.loop-name-test.true c.loop-name.invariant.chosen

@@ -2,6 +2,7 @@ use Rattle.std.proofs.Common.{◌≡◌, ◌∙◌, ◌+◌, ◌<◌, ℕ, zero,
 use Rattle.std.proofs.Common.{length-append, refl, sym, true≢false}
 use Rattle.std.specs.Prelude.{◌==◌}
 use Rattle.std.proofs.lemmas.Bool.{eqb-true}
+use Rattle.book_model.specs.Words.{note_given}
 use Rattle.office.proofs.WithholdingLemmas.{all_passed, none_passed, passes, stopped_at}
 use Rattle.office.proofs.withholding.withhold_each.Goals as goal
 
@@ -11,7 +12,8 @@ some_left zero is = absurd (true≢false is)
 some_left (suc less) is = omega arith
 
 pub loop-rest-init : goal.loop-rest-init
-loop-rest-init g c = none_passed (g.L.Ledger.seen c.args.ledger.now) c.args.names.now _ refl
+loop-rest-init g c = none_passed (note_given c.args.note.now)
+    (g.L.Ledger.seen c.args.ledger.now) c.args.names.now _ refl
 
 pub withhold_many-requires : goal.withhold_many-requires
 withhold_many-requires g c =

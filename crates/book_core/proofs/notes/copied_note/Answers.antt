@@ -1,4 +1,4 @@
-use Rattle.plain_ledger.proofs.copies.copied_note.Goals as goal
+use Rattle.book_core.proofs.notes.copied_note.Goals as goal
 
 pub returns : goal.returns
 returns c = λ i. record {
