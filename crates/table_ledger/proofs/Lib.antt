@@ -64,6 +64,7 @@ mod PostedDetails
 mod OpenLemmas
 mod LoadLemmas
 mod RulingReads
+mod EntryTries
 mod TraceLemmas
 mod ChosenOrder
 mod TrailTries

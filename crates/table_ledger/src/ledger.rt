@@ -18,6 +18,7 @@ use crate::disputes::{try_dispute, try_disputes};
 use crate::ends::try_end;
 use crate::finish::finish;
 use crate::given_credits::try_credit_given;
+use crate::listed_entries::try_entry;
 use crate::listed_rulings::try_ruling;
 use crate::named_records::try_record;
 use crate::other_prices::try_charges_under;
@@ -29,8 +30,8 @@ use crate::trails::try_trail_of;
 use crate::withheld_together::try_withhold_many;
 use crate::withholding::try_withhold;
 use book_core::{
-    Accepted, ChargeRow, Credit, Detail, Dispute, Ledger, LedgerFault, Line, ListedRuling, Name,
-    Naming, Note, Ruled, Ruling, Share, Stop, Trail, Withheld,
+    Accepted, ChargeRow, Credit, Detail, Dispute, Ledger, LedgerFault, Line, ListedEntry,
+    ListedRuling, Name, Naming, Note, Ruled, Ruling, Share, Stop, Trail, Withheld,
 };
 use sqlite_trees::store::Store;
 use std::alloc::Global;
@@ -265,6 +266,14 @@ impl<S: Store, N: Naming + Drop> Ledger for TableLedger<S, N> {
             return Err(LedgerFault::Reopen);
         }
         let tried = try_credit_given(&mut self.tables, &self.summary, self.alloc, number);
+        finish(&mut self.tables, &mut self.must_reopen, tried)
+    }
+
+    fn entry(&mut self, number: u64) -> Result<Option<ListedEntry>, LedgerFault> {
+        if self.must_reopen {
+            return Err(LedgerFault::Reopen);
+        }
+        let tried = try_entry(&mut self.tables, &self.summary, self.alloc, number);
         finish(&mut self.tables, &mut self.must_reopen, tried)
     }
 

@@ -24,6 +24,7 @@ mod finish;
 mod given_credits;
 mod groups;
 mod ledger;
+mod listed_entries;
 mod listed_rulings;
 mod load;
 mod many;

@@ -1,0 +1,42 @@
+use Rattle.std.proofs.Common.{SFits, rules, w32}
+use Rattle.book_model.proofs.Std.{to_z-of_z}
+use Rattle.table_ledger.proofs.LooksRefused.{look_given_up}
+use Rattle.table_ledger.proofs.TryLemmas.{looks_known, saw_none}
+use Rattle.table_ledger.proofs.listed_entries.look_for_place.Goals as goal
+
+pub returns-in-Tariff-clause-looks : goal.returns-in-Tariff-clause-looks
+returns-in-Tariff-clause-looks g c =
+    let day = c.in-Tariff.day in
+    let fits : SFits w32 day = search rules in
+    rw c.in-Tariff.is
+    (rw (to_z-of_z w32 day fits) at c.look_for_brought-in-Tariff.ensures.looks)
+
+-- a close is remembered
+pub returns-in_ok-listed_close-in-Close-clause-looks :
+    goal.returns-in_ok-listed_close-in-Close-clause-looks
+returns-in_ok-listed_close-in-Close-clause-looks g c =
+    rw c.in-Close.is
+    (looks_known saw_none (λ tables nothing. c.in_ok-listed_close-in-Close.ensures.shown))
+
+pub returns-in_err-listed_close-in-Close-clause-looks :
+    goal.returns-in_err-listed_close-in-Close-clause-looks
+returns-in_err-listed_close-in-Close-clause-looks g c =
+    look_given_up _ c.from_residual.ensures.0 saw_none
+
+pub returns-in-Choice-clause-looks : goal.returns-in-Choice-clause-looks
+returns-in-Choice-clause-looks g c =
+    rw c.in-Choice.is c.look_for_numbered-in-Choice.ensures.looks
+
+-- so is the adoption
+pub returns-in-Adoption-clause-looks : goal.returns-in-Adoption-clause-looks
+returns-in-Adoption-clause-looks g c =
+    rw c.in-Adoption.is
+    (looks_known saw_none (λ tables nothing. c.listed_adoption-in-Adoption.ensures.shown))
+
+pub returns-in-Replacement-clause-looks : goal.returns-in-Replacement-clause-looks
+returns-in-Replacement-clause-looks g c =
+    rw c.in-Replacement.is c.look_for_replacement-in-Replacement.ensures.looks
+
+pub returns-in-Credit-clause-looks : goal.returns-in-Credit-clause-looks
+returns-in-Credit-clause-looks g c =
+    rw c.in-Credit.is c.look_for_numbered_credit-in-Credit.ensures.looks
