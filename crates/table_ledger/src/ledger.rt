@@ -9,6 +9,7 @@ mod opening;
 use crate::accept::{alone, first_answer, try_accept_many};
 use crate::adjustments::try_adjustments;
 use crate::adoption::try_adopt;
+use crate::arrivals::try_arrival;
 use crate::charges::try_charges;
 use crate::choices::try_choose;
 use crate::close::try_close;
@@ -30,7 +31,7 @@ use crate::trails::try_trail_of;
 use crate::withheld_together::try_withhold_many;
 use crate::withholding::try_withhold;
 use book_core::{
-    Accepted, ChargeRow, Credit, Detail, Dispute, Ledger, LedgerFault, Line, ListedEntry,
+    Accepted, Arrival, ChargeRow, Credit, Detail, Dispute, Ledger, LedgerFault, Line, ListedEntry,
     ListedRuling, Name, Naming, Note, Ruled, Ruling, Share, Stop, Trail, Withheld,
 };
 use sqlite_trees::store::Store;
@@ -274,6 +275,14 @@ impl<S: Store, N: Naming + Drop> Ledger for TableLedger<S, N> {
             return Err(LedgerFault::Reopen);
         }
         let tried = try_entry(&mut self.tables, &self.summary, self.alloc, number);
+        finish(&mut self.tables, &mut self.must_reopen, tried)
+    }
+
+    fn arrival_from(&mut self, from: &[u8]) -> Result<Option<Arrival>, LedgerFault> {
+        if self.must_reopen {
+            return Err(LedgerFault::Reopen);
+        }
+        let tried = try_arrival(&mut self.tables, &self.summary, from);
         finish(&mut self.tables, &mut self.must_reopen, tried)
     }
 

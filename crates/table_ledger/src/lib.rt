@@ -5,6 +5,7 @@
 mod accept;
 mod adjustments;
 mod adoption;
+mod arrivals;
 mod charges;
 mod choices;
 mod chosen;

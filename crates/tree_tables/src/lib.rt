@@ -2,6 +2,7 @@
 //! step of a change, says what it is of the tables of `table_model`.
 #![tactic(auto)]
 
+mod arrivals;
 mod book_row;
 mod charged_rows;
 mod choice_rows;
