@@ -65,6 +65,7 @@ mod OpenLemmas
 mod LoadLemmas
 mod RulingReads
 mod EntryTries
+mod ArrivalTries
 mod TraceLemmas
 mod ChosenOrder
 mod TrailTries
