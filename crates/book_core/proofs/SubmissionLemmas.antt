@@ -298,7 +298,7 @@ none_told None whole answers = refl
 none_told (Some share) whole answers = no_end share.ending whole
 
 -- the events of records that were kept
-abbrev AreKept : List Event → Type 0
+abbrev pub AreKept : List Event → Type 0
 AreKept [] = Unit {0}
 AreKept (RecordKept bytes ∷ older) = AreKept older
 AreKept (event ∷ older) = ⊥
@@ -313,7 +313,7 @@ both_kept (ImportRead reading ∷ late) early of_late of_early = absurd of_late
 both_kept (ImportEnded ending ∷ late) early of_late of_early = absurd of_late
 
 -- an answer to a record keeps that one, or none
-one_kept : (bytes : List ℕ) (answer : Result Accepted LedgerFault)
+pub one_kept : (bytes : List ℕ) (answer : Result Accepted LedgerFault)
     → AreKept (listed (accept_event bytes answer))
 one_kept bytes (Ok Kept) = tt
 one_kept bytes (Ok Known) = tt
@@ -321,7 +321,7 @@ one_kept bytes (Ok Unpriced) = tt
 one_kept bytes (Err fault) = tt
 
 -- so do the answers to some
-all_kept : (naming : Naming) (records : List (List ℕ)) (answers : List Accepted) (was : Bool)
+pub all_kept : (naming : Naming) (records : List (List ℕ)) (answers : List Accepted) (was : Bool)
     (before : Book) (events : List Event) (is : Bool)
     → Accepts naming records answers was before events is → AreKept events
 all_kept naming records [] was before events is accepts = subst AreKept (sym accepts.none) tt

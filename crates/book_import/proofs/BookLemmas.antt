@@ -7,7 +7,7 @@ use Rattle.book_model.specs.Words.{class_of, Book, Event, after_any, after_all, 
 use Rattle.book_model.specs.Words.{Naming}
 use Rattle.book_model.specs.declared.answer.Accepted.{Accepted}
 use Rattle.book_model.specs.declared.fault.LedgerFault.{LedgerFault}
-use Rattle.book_import.specs.declared.receipt.Stop.{Stop}
+use Rattle.book_model.specs.declared.note.Stop.{Stop}
 use Rattle.book_import.specs.Handled.{Imported, Answering, after_answer, handle_by, handle, continue_with}
 use Rattle.book_import.specs.Handled.{handle_all, nothing_imported}
 use Rattle.book_import.specs.Laws.{import_of_records, book_after_import}

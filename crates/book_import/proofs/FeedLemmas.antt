@@ -12,7 +12,7 @@ use Rattle.smf_frames.specs.Front.{Lasts}
 use Rattle.smf_frames.specs.Joining.{bytes_seen}
 use Rattle.book_model.specs.Words.{Front, front, front_from, prepend, Joining, HasTaken}
 use Rattle.book_model.specs.Words.{broken_by, released, Feeds}
-use Rattle.book_import.specs.declared.receipt.Stop.{Stop}
+use Rattle.book_model.specs.declared.note.Stop.{Stop}
 use Rattle.book_import.specs.Dumps.{stop_after, frame_stop}
 use Rattle.book_import.specs.Pieces.{TakesAll}
 

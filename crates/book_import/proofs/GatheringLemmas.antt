@@ -1,12 +1,14 @@
 -- The group of the records that a piece of a dump completes, as it is gathered.
 use Rattle.std.proofs.Common.{◌≡◌, ◌∙◌, ℕ, List, [], ◌∷◌, ◌++◌, refl, sym, ap, append_assoc, append-nil}
-use Rattle.std.proofs.Common.{Vec, Global}
+use Rattle.std.proofs.Common.{Vec, Global, ◌+◌, ◌<◌, add-one, drop, drop-cons, get_or, length}
 use Rattle.std.proofs.lemmas.List.{map-append}
 use Rattle.smf_type30.specs.declared.record_class.Class.{Class}
 use Rattle.smf_type30.specs.declared.record_class.Class.TheVariants.{Usage}
 use Rattle.book_model.specs.Words.{class_of}
 use Rattle.book_core.specs.Submissions.{records_in}
 use Rattle.book_import.specs.declared.group.Group.{Group}
+use Rattle.book_import.specs.declared.receipt.Receipt.{Receipt}
+use Rattle.book_import.specs.Receipts.{count_ahead, count_class}
 use Rattle.book_import.specs.Groups.{usage_by, usage_of, IsGroup}
 use Rattle.book_import.proofs.FeedLemmas.{Doing}
 
@@ -78,3 +80,12 @@ completes_more {bytes = bytes} more first found done = (
   more done.0 done.1,
   ap (λ all. all ++ bytes ∷ []) done.2 ∙ append_assoc first done.0 (bytes ∷ []),
 )
+
+-- classes are counted ahead one after another
+pub ahead_step : (classes : List Class) (i : ℕ) (d : Class) (receipt : Receipt)
+    → i < length classes
+    → count_ahead (drop i classes) receipt
+    ≡ count_ahead (drop (i + 1) classes) (count_class (get_or classes i d) receipt)
+ahead_step classes i d receipt within =
+    ap (λ classes. count_ahead classes receipt)
+    (drop-cons classes i d within ∙ ap (λ n. get_or classes i d ∷ drop n classes) (sym (add-one i)))

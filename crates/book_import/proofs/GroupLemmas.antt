@@ -1,11 +1,14 @@
 -- Records of a group: those that were counted, and those that wait for their answers.
 use Rattle.std.proofs.Common.{◌≡◌, ◌∙◌, ℕ, Bool, false, List, [], ◌∷◌, ◌++◌}
 use Rattle.std.proofs.Common.{length, take, refl, sym, ap, subst, arith, Ok, Err}
-use Rattle.std.proofs.Common.{append_assoc, append-nil, length-append}
+use Rattle.std.proofs.Common.{append_assoc, append-nil, length-append, map}
 use Rattle.smf_type30.specs.declared.record_class.Class.{Class}
+use Rattle.smf_type30.specs.declared.record_class.Class.TheVariants.{Continuation, Damaged, DataLost}
+use Rattle.smf_type30.specs.declared.record_class.Class.TheVariants.{DumpHeader, DumpTrailer, Other}
 use Rattle.smf_type30.specs.declared.record_class.Class.TheVariants.{Usage}
-use Rattle.book_model.specs.Words.{class_of, Naming, Book, Event}
+use Rattle.book_model.specs.Words.{Book, Event, Naming, class_of, read_with}
 use Rattle.book_model.specs.declared.answer.Accepted.{Accepted}
+use Rattle.book_model.specs.declared.answer.Accepted.TheVariants.{Kept, Known, Unpriced}
 use Rattle.book_model.specs.declared.fault.LedgerFault.{LedgerFault}
 use Rattle.book_model.specs.declared.fault.LedgerFault.TheVariants.{Store}
 use Rattle.book_core.specs.Transition.{Transition, Then}
@@ -14,11 +17,12 @@ use Rattle.book_core.proofs.ThenLemmas.{first_two, last_two, next_as, first_as, 
 use Rattle.book_core.proofs.ThenLemmas.{nothing_then}
 use Rattle.book_core.proofs.TransitionLemmas.{Implies}
 use Rattle.book_import.specs.declared.receipt.Receipt.{Receipt}
-use Rattle.book_import.specs.declared.receipt.Stop.{Stop}
-use Rattle.book_import.specs.declared.receipt.Stop.TheVariants.{Ledger}
-use Rattle.book_import.specs.Receipts.{count_accepted, count_class}
+use Rattle.book_model.specs.declared.note.Stop.{Stop}
+use Rattle.book_model.specs.declared.note.Stop.TheVariants.{Ledger}
+use Rattle.book_import.specs.Receipts.{count_accepted, count_ahead, count_class}
 use Rattle.book_import.specs.Handled.{Imported, answers_of, handle_all, nothing_imported}
 use Rattle.book_import.specs.Imports.{Handles, store_failed}
+use Rattle.book_import.specs.ImportEntries.{reading_of}
 use Rattle.book_import.specs.Pieces.{LeadsTo}
 use Rattle.book_import.specs.Groups.{usage_by, usage_of, Asks, StopsAmong}
 use Rattle.book_import.proofs.GatheringLemmas.{usage_one}
@@ -92,26 +96,100 @@ fault_left naming waiting (first ∷ later) left fault was before events is both
 
 -- ---- a stop among the records of a group
 
--- Some first records of a group to which all answers were given, and the receipt with them.
-record AreCounted (naming : Naming) (front records : List (List ℕ)) (was : Bool) (before : Book)
-    (events : List Event) (is : Bool) : Type 0 where
-  first : List (List ℕ)
-  rest : List (List ℕ)
-  parts : first ++ rest ≡ records
-  receipt : Receipt
-  leads : LeadsTo naming (front ++ first) receipt was before events is
+-- an answer is counted before records of other classes as behind them
+one_commutes : (class : Class) (answer : Accepted) (receipt : Receipt)
+    → count_class class (count_accepted answer receipt)
+    ≡ count_accepted answer (count_class class receipt)
+one_commutes Usage answer receipt = refl
+one_commutes DumpHeader Kept receipt = refl
+one_commutes DumpHeader Known receipt = refl
+one_commutes DumpHeader Unpriced receipt = refl
+one_commutes DumpTrailer Kept receipt = refl
+one_commutes DumpTrailer Known receipt = refl
+one_commutes DumpTrailer Unpriced receipt = refl
+one_commutes DataLost Kept receipt = refl
+one_commutes DataLost Known receipt = refl
+one_commutes DataLost Unpriced receipt = refl
+one_commutes Other Kept receipt = refl
+one_commutes Other Known receipt = refl
+one_commutes Other Unpriced receipt = refl
+one_commutes Continuation Kept receipt = refl
+one_commutes Continuation Known receipt = refl
+one_commutes Continuation Unpriced receipt = refl
+one_commutes (Damaged damage) Kept receipt = refl
+one_commutes (Damaged damage) Known receipt = refl
+one_commutes (Damaged damage) Unpriced receipt = refl
 
--- one more record before them
-counted_more : (naming : Naming) (front records : List (List ℕ)) (bytes : List ℕ)
-    → Implies (AreCounted naming (front ++ bytes ∷ []) records)
-    (AreCounted naming front (bytes ∷ records))
-counted_more naming front records bytes was before events is counted = record {
+commutes : (classes : List Class) (answer : Accepted) (receipt : Receipt)
+    → count_ahead classes (count_accepted answer receipt)
+    ≡ count_accepted answer (count_ahead classes receipt)
+commutes [] answer receipt = refl
+commutes (class ∷ later) answer receipt =
+    ap (count_ahead later) (one_commutes class answer receipt)
+    ∙ commutes later answer (count_class class receipt)
+
+pub count_answer : (classes : List Class) (answer : Accepted) (ahead receipt : Receipt)
+    → ahead ≡ count_ahead classes receipt
+    → count_accepted answer ahead ≡ count_ahead classes (count_accepted answer receipt)
+count_answer classes answer ahead receipt is =
+    ap (count_accepted answer) is ∙ sym (commutes classes answer receipt)
+
+-- so what is read with some answers does not depend on when the first of them is counted
+read_more : (answer : Accepted) (later : List Accepted) (bytes : List ℕ) (receipt : Receipt)
+    → read_with later (reading_of bytes (count_accepted answer receipt))
+    ≡ read_with (answer ∷ later) (reading_of bytes receipt)
+read_more Kept later bytes receipt = refl
+read_more Known later bytes receipt = refl
+read_more Unpriced later bytes receipt = refl
+
+-- Some first records of a group to which all answers were given, the receipt with them, and what is
+-- read with the answers: from this receipt on.
+pub record AreCounted (naming : Naming) (front records : List (List ℕ)) (answers : List Accepted)
+    (start : Receipt) (was : Bool) (before : Book) (events : List Event) (is : Bool) : Type 0 where
+  pub first : List (List ℕ)
+  pub rest : List (List ℕ)
+  pub parts : first ++ rest ≡ records
+  pub receipt : Receipt
+  pub leads : LeadsTo naming (front ++ first) receipt was before events is
+  pub ahead : (bytes : List ℕ) → reading_of bytes (count_ahead (map class_of rest) receipt)
+      ≡ read_with answers (reading_of bytes (count_ahead (map class_of records) start))
+
+-- one more record before them, of another class,
+counted_other : (naming : Naming) (front records : List (List ℕ)) (bytes : List ℕ) (class : Class)
+    (answers : List Accepted) (start : Receipt) → class_of bytes ≡ class
+    → Implies (AreCounted naming (front ++ bytes ∷ []) records answers (count_class class start))
+    (AreCounted naming front (bytes ∷ records) answers start)
+counted_other naming front records bytes class answers start of was before events is counted = record {
   first = bytes ∷ counted.first;
   rest = counted.rest;
   parts = ap (λ rest. bytes ∷ rest) counted.parts;
   receipt = counted.receipt;
   leads = subst (λ all. LeadsTo naming all counted.receipt was before events is)
       (append_assoc front (bytes ∷ []) counted.first) counted.leads;
+  ahead = λ read. counted.ahead read
+      ∙ ap (λ class. read_with answers
+      (reading_of read (count_ahead (map class_of records) (count_class class start)))) (sym of);
+}
+
+-- or of usage
+counted_usage : (naming : Naming) (front records : List (List ℕ)) (bytes : List ℕ)
+    (answer : Accepted) (later : List Accepted) (start : Receipt) → class_of bytes ≡ Usage
+    → Implies
+    (AreCounted naming (front ++ bytes ∷ []) records later (count_accepted answer start))
+    (AreCounted naming front (bytes ∷ records) (answer ∷ later) start)
+counted_usage naming front records bytes answer later start of was before events is counted = record {
+  first = bytes ∷ counted.first;
+  rest = counted.rest;
+  parts = ap (λ rest. bytes ∷ rest) counted.parts;
+  receipt = counted.receipt;
+  leads = subst (λ all. LeadsTo naming all counted.receipt was before events is)
+      (append_assoc front (bytes ∷ []) counted.first) counted.leads;
+  ahead = λ read. counted.ahead read
+      ∙ ap (λ counts. read_with later (reading_of read counts))
+      (commutes (map class_of records) answer start)
+      ∙ read_more answer later read (count_ahead (map class_of records) start)
+      ∙ ap (λ class. read_with (answer ∷ later)
+      (reading_of read (count_ahead (map class_of records) (count_class class start)))) (sym of);
 }
 
 -- the next record is counted by its class, and those after it likewise
@@ -119,26 +197,26 @@ counts_by_class : (naming : Naming) (bytes : List ℕ) (records front : List (Li
     (answer : Accepted) (pending : List Accepted) (receipt : Receipt)
     → ((front : List (List ℕ)) (pending : List Accepted) (receipt : Receipt)
     → Implies (Ahead naming front (usage_of records) pending receipt)
-    (AreCounted naming front records))
+    (AreCounted naming front records pending receipt))
     → (class : Class) → class_of bytes ≡ class
     → Implies (Ahead naming front (usage_by class bytes (usage_of records)) (answer ∷ pending) receipt)
-    (AreCounted naming front (bytes ∷ records))
+    (AreCounted naming front (bytes ∷ records) (answer ∷ pending) receipt)
 counts_by_class naming bytes records front answer pending receipt others Usage of was before events is ahead =
-    counted_more naming front records bytes was before events is
+    counted_usage naming front records bytes answer pending receipt of was before events is
     (others (front ++ bytes ∷ []) pending (count_accepted answer receipt) was before events is
     (usage_ahead naming front (usage_of records) pending receipt (count_accepted answer receipt) bytes
     answer of refl was before events is ahead))
 counts_by_class naming bytes records front answer pending receipt others class of was before events is ahead =
-    counted_more naming front records bytes was before events is
+    counted_other naming front records bytes class (answer ∷ pending) receipt of was before events is
     (others (front ++ bytes ∷ []) (answer ∷ pending) (count_class class receipt) was before events is
     (other_ahead naming front (usage_of records) (answer ∷ pending) receipt (count_class class receipt)
     bytes class of (λ is. cc) refl was before events is ahead))
 
 -- all records to which answers were given are counted
-counts_all : (naming : Naming) (records front : List (List ℕ)) (pending : List Accepted)
+pub counts_all : (naming : Naming) (records front : List (List ℕ)) (pending : List Accepted)
     (receipt : Receipt)
     → Implies (Ahead naming front (usage_of records) pending receipt)
-    (AreCounted naming front records)
+    (AreCounted naming front records pending receipt)
 counts_all naming records front [] receipt was before events is ahead = record {
   first = [];
   rest = records;
@@ -146,6 +224,7 @@ counts_all naming records front [] receipt was before events is ahead = record {
   receipt = receipt;
   leads = subst (λ all. LeadsTo naming all receipt was before events is) (sym (append-nil front))
       (then_nothing (LeadsTo naming front receipt) was before events is ahead);
+  ahead = λ read. refl;
 }
 counts_all naming [] front (answer ∷ pending) receipt was before events is ahead = absurd ahead.next
 counts_all naming (bytes ∷ records) front (answer ∷ pending) receipt was before events is ahead =

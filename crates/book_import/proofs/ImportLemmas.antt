@@ -13,8 +13,8 @@ use Rattle.book_core.specs.Transition.{NoEvent, Then}
 use Rattle.book_core.specs.Calls.{Calls, listed}
 use Rattle.book_core.proofs.TransitionLemmas.{Implies}
 use Rattle.book_import.specs.declared.receipt.Receipt.{Receipt}
-use Rattle.book_import.specs.declared.receipt.Stop.{Stop}
-use Rattle.book_import.specs.declared.receipt.Stop.TheVariants.{End, Ledger}
+use Rattle.book_model.specs.declared.note.Stop.{Stop}
+use Rattle.book_model.specs.declared.note.Stop.TheVariants.{End, Ledger}
 use Rattle.book_import.specs.Receipts.{receipt_stopped, count_accepted, count_class}
 use Rattle.book_import.specs.Handled.{Imported, Answering, answers_of, after_answer, handle_by}
 use Rattle.book_import.specs.Handled.{handle, continue_with, handle_all, nothing_imported, with_stop}

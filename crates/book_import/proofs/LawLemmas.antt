@@ -22,7 +22,7 @@ use Rattle.book_model.specs.declared.answer.Accepted.TheVariants.{Kept, Known}
 use Rattle.book_model.specs.declared.fault.LedgerFault.{LedgerFault}
 use Rattle.book_model.specs.declared.fault.LedgerFault.TheVariants.{Full, DigestClash}
 use Rattle.book_model.proofs.SetLemmas.{has-with, same_set, those-set_of}
-use Rattle.book_import.specs.declared.receipt.Stop.{Stop}
+use Rattle.book_model.specs.declared.note.Stop.{Stop}
 use Rattle.book_import.specs.Handled.{Imported, after_answer, handle_by, handle, continue_with, handle_all}
 use Rattle.book_import.specs.Handled.{nothing_imported}
 use Rattle.book_import.specs.Laws.{is_class_of_usage, is_priced_usage, priced_usage, IsUnrefused}

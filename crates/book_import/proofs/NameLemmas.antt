@@ -11,8 +11,8 @@ use Rattle.book_model.specs.Records.{name_of}
 use Rattle.book_model.specs.Words.{Front, Joining, HasTaken, Naming, broken_by, class_of, front}
 use Rattle.book_model.specs.Words.{nothing_found, nothing_joined}
 use Rattle.book_import.specs.declared.group.Group.{Group}
-use Rattle.book_import.specs.declared.receipt.Stop.{Stop}
-use Rattle.book_import.specs.declared.receipt.Stop.TheVariants.{Frame}
+use Rattle.book_model.specs.declared.note.Stop.{Stop}
+use Rattle.book_model.specs.declared.note.Stop.TheVariants.{Frame}
 use Rattle.book_import.specs.DumpNames.{NamesMore, names_of}
 use Rattle.book_import.specs.Dumps.{stop_after}
 use Rattle.book_import.specs.Groups.{Breaks, Gathers, usage_by, usage_of}

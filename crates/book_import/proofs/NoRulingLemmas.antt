@@ -10,18 +10,13 @@ use Rattle.book_model.specs.declared.answer.Accepted.TheVariants.{Kept}
 use Rattle.book_model.specs.declared.fault.LedgerFault.{LedgerFault}
 use Rattle.book_model.specs.declared.fault.LedgerFault.TheVariants.{Memory, Store}
 use Rattle.book_core.specs.Calls.{listed}
+use Rattle.book_core.proofs.SubmissionLemmas.{AreKept}
 use Rattle.book_import.specs.declared.receipt.Receipt.{Receipt}
-use Rattle.book_import.specs.declared.receipt.Stop.{Stop}
-use Rattle.book_import.specs.declared.receipt.Stop.TheVariants.{Ledger}
+use Rattle.book_model.specs.declared.note.Stop.{Stop}
+use Rattle.book_model.specs.declared.note.Stop.TheVariants.{Ledger}
 use Rattle.book_import.specs.Handled.{Imported, answers_of, after_answer, handle_by, handle, continue_with}
 use Rattle.book_import.specs.Handled.{handle_all, nothing_imported}
 use Rattle.book_import.specs.Imports.{Handles, whole, out_of_memory, store_failed}
-
--- records that were kept, and nothing else
-abbrev pub AreKept : List Event → Type 0
-AreKept [] = Unit {0}
-AreKept (RecordKept bytes ∷ older) = AreKept older
-AreKept (event ∷ older) = ⊥
 
 -- they leave the rulings as they are
 pub rulings_stay : (events : List Event) → AreKept events → (book : Book)

@@ -14,7 +14,7 @@ use Rattle.book_model.specs.Words.{accept_outcome}
 use Rattle.book_model.specs.declared.answer.Accepted.{Accepted}
 use Rattle.book_model.specs.declared.fault.LedgerFault.{LedgerFault}
 use Rattle.book_model.proofs.SetLemmas.{same_set}
-use Rattle.book_import.specs.declared.receipt.Stop.{Stop}
+use Rattle.book_model.specs.declared.note.Stop.{Stop}
 use Rattle.book_import.specs.Handled.{Imported, after_answer, after_accept, handle_by, handle}
 use Rattle.book_import.specs.Handled.{continue_with, handle_all}
 use Rattle.book_import.specs.Laws.{is_priced_usage}

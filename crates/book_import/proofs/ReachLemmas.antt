@@ -9,7 +9,7 @@ use Rattle.smf_frames.proofs.JoinerStates.{front_of_nothing}
 use Rattle.streams.specs.InputOutput.{Input}
 use Rattle.book_model.specs.Words.{Front, front}
 use Rattle.book_import.specs.declared.receipt.Receipt.{Receipt}
-use Rattle.book_import.specs.declared.receipt.Stop.{Stop}
+use Rattle.book_model.specs.declared.note.Stop.{Stop}
 use Rattle.book_import.specs.Receipts.{counted, is_stop_of_books}
 use Rattle.book_import.specs.Reach.{is_early_stop, EndsBy, IsNoFurther, IsReadFor}
 

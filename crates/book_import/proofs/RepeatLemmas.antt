@@ -5,8 +5,8 @@ use Rattle.book_model.specs.Words.{Book, Naming, Event, after_all, accept_outcom
 use Rattle.book_model.specs.declared.fault.LedgerFault.TheVariants.{Memory, Store}
 use Rattle.book_core.proofs.TransitionLemmas.{after_all-append}
 use Rattle.book_import.specs.declared.receipt.Receipt.{Receipt}
-use Rattle.book_import.specs.declared.receipt.Stop.{Stop}
-use Rattle.book_import.specs.declared.receipt.Stop.TheVariants.{Ledger}
+use Rattle.book_model.specs.declared.note.Stop.{Stop}
+use Rattle.book_model.specs.declared.note.Stop.TheVariants.{Ledger}
 use Rattle.book_import.specs.Handled.{Imported, Answering, handle, continue_with, handle_all, nothing_imported}
 use Rattle.book_import.specs.Imports.{GivesReceipt, Handles, whole, out_of_memory, store_failed}
 use Rattle.book_import.specs.Laws.{import_of_records, book_after_import}

@@ -14,8 +14,8 @@ use Rattle.book_model.specs.declared.fault.LedgerFault.{LedgerFault}
 use Rattle.book_model.specs.declared.fault.LedgerFault.TheVariants.{Memory, Store, Reopen, Full}
 use Rattle.book_model.specs.declared.fault.LedgerFault.TheVariants.{DigestClash}
 use Rattle.book_import.specs.declared.receipt.Receipt.{Receipt}
-use Rattle.book_import.specs.declared.receipt.Stop.{Stop}
-use Rattle.book_import.specs.declared.receipt.Stop.TheVariants.{Ledger}
+use Rattle.book_model.specs.declared.note.Stop.{Stop}
+use Rattle.book_model.specs.declared.note.Stop.TheVariants.{Ledger}
 use Rattle.book_import.specs.Receipts.{is_stop_of_books}
 use Rattle.book_import.specs.Handled.{Imported, answers_of, after_answer, handle_by, handle, continue_with}
 use Rattle.book_import.specs.Handled.{handle_all, nothing_imported}
@@ -160,6 +160,25 @@ all_untouched naming stop (bytes ∷ rest) so_far =
         either = inl (ap Ledger reopen);
       }
     ] (one_untouched naming bytes so_far (class_of bytes))
+
+-- so books that are to be reopened once no store failed keep nothing
+pub none_of_closed : (naming : Naming) (stop : Stop) (records : List (List ℕ)) (told : Receipt)
+    (was : Bool) (before : Book) (events : List Event) (is : Bool)
+    → Handles naming stop records told was before events is → is ≡ true
+    → told.stop ≢ Ledger Store → events ≡ []
+none_of_closed naming stop records told was before events is (whole same so) shut other =
+    let told = subst (λ b. (handle_all (answers_of b naming) stop records
+    (nothing_imported before)).events ≡ events) (sym same ∙ shut) so.events in
+    sym told ∙ (all_untouched naming stop records (nothing_imported before)).none
+none_of_closed naming stop records told was before events is (out_of_memory count same so) shut
+    other =
+    let told = subst (λ b. (handle_all (answers_of b naming) (Ledger Memory) (take count records)
+    (nothing_imported before)).events ≡ events) (sym same ∙ shut) so.events in
+    sym told
+    ∙ (all_untouched naming (Ledger Memory) (take count records) (nothing_imported before)).none
+none_of_closed naming stop records told was before events is
+    (store_failed count kept open_before reopen within either stopped so made) shut other =
+    absurd (other stopped)
 
 -- neither Reopen nor a calm stop is Store
 not_store : (stop other : Stop) → (stop ≡ Ledger Reopen) ⊎ (stop ≡ other) → IsCalm other

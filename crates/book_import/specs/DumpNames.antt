@@ -6,7 +6,7 @@ use Rattle.streams.specs.InputOutput.{Input}
 use Rattle.book_model.specs.Records.{name_of}
 use Rattle.book_model.specs.Words.{Naming, front}
 use Rattle.book_import.specs.declared.names_in_dumps.DumpNames.{DumpNames}
-use Rattle.book_import.specs.declared.receipt.Stop.{Stop}
+use Rattle.book_model.specs.declared.note.Stop.{Stop}
 use Rattle.book_import.specs.Dumps.{stop_after}
 use Rattle.book_import.specs.Groups.{usage_of}
 use Rattle.book_import.specs.Reach.{EndsBy}

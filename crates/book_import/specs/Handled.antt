@@ -10,8 +10,8 @@ use Rattle.book_model.specs.declared.fault.LedgerFault.{LedgerFault}
 use Rattle.book_model.specs.declared.fault.LedgerFault.TheVariants.{Reopen}
 use Rattle.book_core.specs.Calls.{listed}
 use Rattle.book_import.specs.declared.receipt.Receipt.{Receipt}
-use Rattle.book_import.specs.declared.receipt.Stop.{Stop}
-use Rattle.book_import.specs.declared.receipt.Stop.TheVariants.{End, Ledger}
+use Rattle.book_model.specs.declared.note.Stop.{Stop}
+use Rattle.book_model.specs.declared.note.Stop.TheVariants.{End, Ledger}
 use Rattle.book_import.specs.Receipts.{receipt_stopped, count_class, count_accepted}
 
 -- how a usage record is answered, by the book

@@ -1,11 +1,14 @@
 -- How far a dump is read: to its stop, and no further.
-use Rattle.std.specs.Prelude.{◌≡◌, ℕ, ◌+◌, ◌≤◌, Bool, true, false, ◌||◌, List, [], ◌++◌, length}
+use Rattle.std.specs.Prelude.{◌≡◌, ℕ, ◌+◌, ◌≤◌, Bool, true, false, ◌||◌, ◌⊎◌, List, [], ◌++◌}
+use Rattle.std.specs.Prelude.{length, Option, None, Some}
 use Rattle.std.specs.Io.KnownBytes.{Consumes}
 use Rattle.smf_frames.specs.declared.dump.Layout.{Layout}
 use Rattle.streams.specs.InputOutput.{Input}
-use Rattle.book_model.specs.Words.{Front, front}
+use Rattle.book_model.specs.Words.{Front, front, Note}
+use Rattle.book_model.specs.declared.fault.LedgerFault.{LedgerFault}
 use Rattle.book_import.specs.declared.receipt.Receipt.{Receipt}
-use Rattle.book_import.specs.declared.receipt.Stop.{Stop}
+use Rattle.book_model.specs.declared.note.Stop.{Stop}
+use Rattle.book_model.specs.declared.note.Stop.TheVariants.{Ledger}
 use Rattle.book_import.specs.Receipts.{counted, is_stop_of_books}
 
 -- the stop did not wait for the input's end: the books refused, or a descriptor has a fault that no
@@ -44,3 +47,15 @@ pub record IsReadFor (most : ℕ) (layout : Layout) (allowed : ℕ) (bytes : Lis
   pub ends : EndsBy allowed (is_early_stop (front layout bytes) told.stop) input
   pub no_further :
       IsNoFurther most layout bytes (λ records. length records ≤ counted told) input
+
+-- The receipt is the one with which the reading stopped. Or, of an import with a note, it says why the
+-- books could not take the end of its entry.
+abbrev pub EndsAs : Option Note → Receipt → Receipt → Type 0
+EndsAs None read told = told ≡ read
+EndsAs (Some note) read told =
+    (told ≡ read) ⊎ ((fault : LedgerFault) × (told ≡ record read { stop = Ledger fault }))
+
+-- these bytes were taken for such a receipt, and no more than it needed
+abbrev pub IsReadTo : Option Note → ℕ → Layout → ℕ → List ℕ → Receipt → Input → Type 0
+IsReadTo import most layout allowed bytes told input =
+    (read : Receipt) × EndsAs import read told × IsReadFor most layout allowed bytes read input

@@ -3,8 +3,8 @@ use Rattle.std.specs.Prelude.{◌≡◌, ◌≢◌, ℕ, Bool, false, List, ◌+
 use Rattle.book_model.specs.declared.fault.LedgerFault.TheVariants.{DigestClash, Memory, Store}
 use Rattle.book_model.specs.Words.{Naming, Book, Event, after_all}
 use Rattle.book_import.specs.declared.receipt.Receipt.{Receipt}
-use Rattle.book_import.specs.declared.receipt.Stop.{Stop}
-use Rattle.book_import.specs.declared.receipt.Stop.TheVariants.{Ledger}
+use Rattle.book_model.specs.declared.note.Stop.{Stop}
+use Rattle.book_model.specs.declared.note.Stop.TheVariants.{Ledger}
 use Rattle.book_import.specs.Imports.{Handles}
 use Rattle.book_import.specs.Laws.{book_after_import}
 

@@ -4,8 +4,8 @@ use Rattle.std.specs.List.{list_any}
 use Rattle.book_model.specs.Words.{class_of, Naming, Book, Event}
 use Rattle.book_model.specs.declared.fault.LedgerFault.TheVariants.{Memory, Store, Reopen}
 use Rattle.book_import.specs.declared.receipt.Receipt.{Receipt}
-use Rattle.book_import.specs.declared.receipt.Stop.{Stop}
-use Rattle.book_import.specs.declared.receipt.Stop.TheVariants.{Ledger}
+use Rattle.book_model.specs.declared.note.Stop.{Stop}
+use Rattle.book_model.specs.declared.note.Stop.TheVariants.{Ledger}
 use Rattle.book_import.specs.Receipts.{is_stop_of_books}
 use Rattle.book_import.specs.Imports.{Handles}
 use Rattle.book_import.specs.Laws.{is_class_of_usage}

@@ -13,10 +13,9 @@ ghost use Rattle.book_import.specs.Pieces.{TakesAll};
 ghost use Rattle.book_import.specs.ReadLimits.{cut_of, most_reads};
 
 use crate::gathering::gather;
-use crate::receipt::Stop;
 use crate::source_reads::{PIECE, read_piece};
 use crate::stop::reading_end;
-use book_core::{Naming, Source, name_of};
+use book_core::{Naming, Source, Stop, name_of};
 use smf_frames::{FrameFault, Joiner, Layout};
 use std::alloc::{AllocError, Global};
 use streams::Reader;

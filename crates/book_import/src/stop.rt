@@ -1,11 +1,11 @@
-ghost use Rattle.std.specs.Prelude.{◌≡◌, ℕ, List, IfSome, false, unwrap_or};
+ghost use Rattle.std.specs.Prelude.{◌≡◌, ℕ, List, IfSome, None, Some, false, unwrap_or};
 ghost use Rattle.book_model.specs.Words.{front, HasTaken};
 ghost use Rattle.book_import.specs.Dumps.{frame_stop};
 ghost use Rattle.book_import.specs.ReadLimits.{cut_of};
 ghost use Rattle.book_import.specs.Receipts.{is_stop_of_books};
 
-use crate::receipt::Stop;
-use book_core::Source;
+use crate::group::Group;
+use book_core::{Source, Stop};
 use smf_frames::Joiner;
 use streams::Reader;
 
@@ -32,6 +32,26 @@ pub(crate) fn dump_end(joiner: &Joiner) -> Stop
     match joiner.finish() {
         Ok(()) => Stop::End,
         Err(fault) => Stop::Frame(fault),
+    }
+}
+
+/// The stop with which the import ends after a group, if that is known: a descriptor has a fault, or
+/// the group is the last.
+pub(crate) fn group_end(joiner: &Joiner, group: &Group, is_last: bool) -> Option<Stop>
+    ensures broken { IfSome group.now.broken (λ fault. result ≡ Some (Stop.Frame fault)) }
+    ensures last { group.now.broken ≡ None → IfSome result (λ stop. (text : List ℕ)
+        → HasTaken text joiner.now → stop ≡ frame_stop (front joiner.now.layout text).fault) }
+    ensures unknown { is_last ≡ false → group.now.broken ≡ None → result ≡ None }
+{
+    match group.broken {
+        Some(fault) => Some(Stop::Frame(fault)),
+        None => {
+            if is_last {
+                Some(dump_end(joiner))
+            } else {
+                None
+            }
+        }
     }
 }
 

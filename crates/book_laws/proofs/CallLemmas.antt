@@ -6,6 +6,7 @@ use Rattle.book_model.specs.MadeByCalls.{AreMadeOf}
 use Rattle.book_model.specs.declared.fault.LedgerFault.TheVariants.{Store}
 use Rattle.book_model.specs.declared.note.Share.{Share}
 use Rattle.book_model.specs.Words.{accept_answer, Book, new_book, dispute_shown}
+use Rattle.book_model.specs.Words.{arrival_outcome, entry_outcome, entry_shown}
 use Rattle.book_model.specs.Words.{book_after, Outcome, accept_outcome, charges_outcome}
 use Rattle.book_model.specs.Words.{adjustments_outcome, disputes_outcome, periods_outcome, Naming}
 use Rattle.book_model.specs.Words.{dispute_outcome, ended_outcome, next_detail_outcome}
@@ -30,7 +31,8 @@ use Rattle.book_http.proofs.LawLemmas.{request_answered}
 use Rattle.book_laws.specs.CallLaws.{CallsFollowHistory}
 use Rattle.book_laws.specs.Calls.{Call, Request, RunRequests, AcceptRecord, ReadCharges}
 use Rattle.book_laws.specs.Calls.{AcceptRecords, ChooseEach, MakeRuling, HttpDetails, HttpRequest}
-use Rattle.book_laws.specs.Calls.{EndImport, ReadAdjustments, ReadCredit, WithholdEach}
+use Rattle.book_laws.specs.Calls.{EndImport, ReadAdjustments, ReadArrival, ReadCredit, ReadEntry}
+use Rattle.book_laws.specs.Calls.{WithholdEach}
 use Rattle.book_laws.specs.Calls.{WithholdWorks}
 use Rattle.book_laws.specs.Calls.{ReadDisputes, ReadPeriods, ReadChargesUnder, ReadDetail}
 use Rattle.book_laws.specs.Calls.{ReadDispute, ReadRecord, ReadRuling, ReadTrail, Step, AreDone}
@@ -81,8 +83,8 @@ takes_answered naming import records (Err fault) =
 call_answered : (naming : Naming) (call : Call) → MakesAnswered naming (work_of naming call)
 call_answered naming (Request asked dump told) = asks_answered naming asked dump told
 call_answered naming (RunRequests requests answers) = runs_answered naming requests answers
-call_answered naming (ChooseEach withheld names answers refusal) =
-    choices_answered withheld naming names answers refusal
+call_answered naming (ChooseEach said withheld names answers refusal) =
+    choices_answered said withheld naming names answers refusal
 call_answered naming (HttpRequest bytes reply) = request_answered naming bytes reply
 call_answered naming (HttpDetails bytes held holds served) = λ book was events is made.
     request_answered naming bytes made.reply book was events was made.answer.0
@@ -94,8 +96,8 @@ call_answered naming (AcceptRecords import records answers) =
 call_answered naming (EndImport stop answer) =
     calls_answered naming (λ (done : Unit {0}). done) (ended_outcome stop) answer (λ book. (tt, tt))
 call_answered naming (WithholdWorks said names told) = works_answered naming said names told
-call_answered naming (WithholdEach names counts refusal) =
-    so_answered naming names counts refusal
+call_answered naming (WithholdEach said names counts refusal) =
+    so_answered said naming names counts refusal
 call_answered naming (ReadCharges period answer) =
     readings_answered naming (λ rows. rows.items) (charges_outcome period) answer (λ book. refl)
 call_answered naming (ReadChargesUnder period terms answer) =
@@ -121,6 +123,11 @@ call_answered naming (ReadRuling number answer) =
 call_answered naming (ReadCredit number answer) =
     readings_answered naming (λ found. option_map credit_shown found) (credit_given_outcome number)
     answer (λ book. refl)
+call_answered naming (ReadEntry number answer) =
+    readings_answered naming (λ found. option_map entry_shown found) (entry_outcome naming number)
+    answer (λ book. refl)
+call_answered naming (ReadArrival from answer) =
+    readings_answered naming (λ found. found) (arrival_outcome naming from) answer (λ book. refl)
 call_answered naming (ReadRecord name answer) =
     readings_answered naming (λ bytes. bytes.items) (record_outcome naming name) answer
     (λ book. refl)

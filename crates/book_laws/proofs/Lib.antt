@@ -22,6 +22,7 @@ pub mod ReadLemmas
 pub mod LaterLemmas
 pub mod ClosedLemmas
 pub mod RunLemmas
+pub mod JournalLemmas
 pub mod CallLemmas
 pub mod ListLemmas
 pub mod WidthLemmas

@@ -11,7 +11,7 @@ use Rattle.book_model.specs.Words.{Priced, Class, Usage, accept_outcome, Book, c
 use Rattle.book_model.specs.Words.{has, is_full, members, Naming, price_in, with}
 use Rattle.book_model.proofs.Lemmas.{length-alike}
 use Rattle.book_model.proofs.SetChanges.{members_with}
-use Rattle.book_import.specs.declared.receipt.Stop.{Stop}
+use Rattle.book_model.specs.declared.note.Stop.{Stop}
 use Rattle.book_import.specs.Receipts.{counted}
 use Rattle.book_import.specs.Handled.{continue_with, handle, handle_all, handle_by, Imported}
 use Rattle.book_import.specs.Handled.{nothing_imported}

@@ -1,21 +1,22 @@
 -- Lists of requests on an open ledger.
-use Rattle.std.proofs.Common.{◌≡◌, ◌∙◌, ℕ, Bool, true, false, List, [], ◌∷◌, Result, Ok, Err, refl}
-use Rattle.std.proofs.Common.{sym, ap, subst, map, All}
+use Rattle.std.proofs.Common.{◌≡◌, ◌∙◌, ℕ, Bool, true, false, List, [], ◌∷◌, Option, Result, Ok, Err}
+use Rattle.std.proofs.Common.{refl, sym, ap, subst, All}
 use Rattle.book_model.proofs.Std.{All-head, All-tail}
-use Rattle.book_model.specs.Words.{front, Book, Event, after_all, Naming, Outcome}
-use Rattle.book_core.specs.Words.{Calls, Seen, IsOpenAt, IsTransition}
+use Rattle.book_model.specs.JournalLaws.{without_notes}
+use Rattle.book_model.specs.Words.{front, Book, Event, Note, after_all, Naming, Outcome, note_given}
+use Rattle.book_core.specs.Words.{Calls, Seen, IsTransition}
 use Rattle.book_import.specs.declared.receipt.Receipt.{Receipt}
-use Rattle.book_import.specs.declared.receipt.Stop.{Stop}
+use Rattle.book_model.specs.declared.note.Stop.{Stop}
 use Rattle.book_import.specs.Dumps.{stop_after}
 use Rattle.book_import.specs.Imports.{Handles, whole, out_of_memory, store_failed}
 use Rattle.office.specs.declared.request.Asked.{Asked}
 use Rattle.office.specs.declared.request.Asked.TheVariants.{Import, ImportBytes}
 use Rattle.office.specs.declared.request.Answer.{Answer}
-use Rattle.office.specs.Outcomes.{AskedOutcome, asked_outcome, is_hindered}
+use Rattle.office.specs.Outcomes.{is_hindered}
 use Rattle.office.specs.Requests.{Dump, Response, Ruling, Count, Text, Receives, Asks, response_by}
 use Rattle.office.specs.Runs.{AsksWithoutReader, Runs, dump_here}
 use Rattle.office.proofs.LawLemmas.{asks_done}
-use Rattle.book_laws.specs.RunAnswers.{responses_to, book_after_requests, OneRun}
+use Rattle.book_laws.specs.RunAnswers.{AreAsDefined, OneRun}
 use Rattle.book_laws.proofs.Words.{LedgerFault, after_all-append, work_leaves}
 
 -- books that are open after a call were open before it
@@ -38,24 +39,24 @@ import_opened naming stop records receipt was before events is (out_of_memory co
 import_opened naming stop records receipt was before events is
     (store_failed count kept open_before reopen within either stopped so made) is_open = open_before
 
-receipt_opened : (naming : Naming) (dump : Dump) (told : Result Response LedgerFault) (was : Bool)
-    (before : Book) (events : List Event) (is : Bool)
-    → Receives naming dump told was before events is → is ≡ false → was ≡ false
-receipt_opened naming dump (Ok (Count receipt)) was before events is made is_open =
+receipt_opened : (said : Option Note) (naming : Naming) (dump : Dump)
+    (told : Result Response LedgerFault) (was : Bool) (before : Book) (events : List Event)
+    (is : Bool) → Receives said naming dump told was before events is → is ≡ false → was ≡ false
+receipt_opened said naming dump (Ok (Count receipt)) was before events is made is_open =
     let found = front dump.layout dump.bytes in
-    import_opened naming (stop_after dump.cut found) found.records receipt was before events is
-    made is_open
-receipt_opened naming dump (Ok (Ruling ruled)) was before events is never is_open = absurd never
-receipt_opened naming dump (Ok (Text text)) was before events is never is_open = absurd never
-receipt_opened naming dump (Err fault) was before events is never is_open = absurd never
+    import_opened naming (stop_after dump.cut found) found.records receipt was before
+    (without_notes events) is made.booked is_open
+receipt_opened said naming dump (Ok (Ruling ruled)) was before events is never is_open = absurd never
+receipt_opened said naming dump (Ok (Text text)) was before events is never is_open = absurd never
+receipt_opened said naming dump (Err fault) was before events is never is_open = absurd never
 
 asked_opened : (naming : Naming) (asked : Asked) (dump : Dump) (told : Result Response LedgerFault)
     (was : Bool) (before : Book) (events : List Event) (is : Bool)
     → Asks naming asked dump told was before events is → is ≡ false → was ≡ false
-asked_opened naming (Import layout) dump told was before events is made is_open =
-    receipt_opened naming dump told was before events is made is_open
-asked_opened naming (ImportBytes layout bytes) dump told was before events is made is_open =
-    receipt_opened naming dump told was before events is made is_open
+asked_opened naming (Import layout said) dump told was before events is made is_open =
+    receipt_opened (note_given said) naming dump told was before events is made is_open
+asked_opened naming (ImportBytes layout bytes said) dump told was before events is made is_open =
+    receipt_opened (note_given said) naming dump told was before events is made is_open
 asked_opened naming other dump told was before events is made is_open =
     call_opened _ told was before events is made is_open
 
@@ -72,47 +73,35 @@ run_opened naming (asked ∷ requests) (answer ∷ answers) was before events is
     (run_opened naming requests answers made.between (after_all made.early before) made.late is
     made.next is_open)
 
--- requests on open books were answered so, and left this book
-record AreAs (naming : Naming) (requests : List Asked)
-    (answers : List (Result Answer LedgerFault)) (before : Book) (events : List Event) : Type 0
-  where
-    told : map response_by answers ≡ responses_to naming requests before
-    book : after_all events before ≡ book_after_requests naming requests before
-
+-- requests on open books were answered so
 requests_are : (naming : Naming) (requests : List Asked)
     (answers : List (Result Answer LedgerFault)) (was : Bool) (before : Book) (events : List Event)
     (is : Bool) → Runs naming requests answers was before events is → was ≡ false → is ≡ false
     → All (λ answer. is_hindered (response_by answer) ≡ false) answers
-    → AreAs naming requests answers before events
+    → AreAsDefined naming requests answers before (after_all events before)
 requests_are naming [] [] was before events is none shut is_open free =
-    record { told = refl; book = ap (λ events. after_all events before) none.none }
+    ap (λ events. after_all events before) none.none
 requests_are naming [] (answer ∷ answers) was before events is never shut is_open free =
     absurd never
 requests_are naming (asked ∷ requests) [] was before events is never shut is_open free =
     absurd never
 requests_are naming (asked ∷ requests) (answer ∷ answers) was before events is made shut is_open
     free =
+    let book = after_all made.early before in
     let between : made.between ≡ false =
-    run_opened naming requests answers made.between (after_all made.early before) made.late is
-    made.next is_open in
+    run_opened naming requests answers made.between book made.late is made.next is_open in
     let first = asks_done naming asked (dump_here asked) (response_by answer) before made.early
     made.between
     (subst (λ was. AsksWithoutReader naming asked answer was before made.early made.between) shut
     made.first) (All-head Free answer answers free) in
-    let next = requests_are naming requests answers made.between (after_all made.early before)
-    made.late is made.next between is_open (All-tail Free answer answers free) in
-    let book : after_all made.early before ≡ after_all (asked_outcome naming asked (dump_here asked)
-    before).events before =
-    ap (λ (done : AskedOutcome). after_all done.events before) (sym first) in
-    record {
-      told = (λ i. (sym first i).told ∷ next.told i)
-          ∙ ap (λ book. (asked_outcome naming asked (dump_here asked) before).told
-          ∷ responses_to naming requests book) book;
-      book = ap (λ events. after_all events before) made.all
-          ∙ after_all-append made.late made.early before
-          ∙ next.book
-          ∙ ap (book_after_requests naming requests) book;
-    }
+    let next = requests_are naming requests answers made.between book made.late is made.next between
+    is_open (All-tail Free answer answers free) in (
+      made.early,
+      first,
+      subst (λ end. AreAsDefined naming requests answers book end)
+          (sym (ap (λ events. after_all events before) made.all
+          ∙ after_all-append made.late made.early before)) next,
+    )
   where
     Free : Result Answer LedgerFault → Type 0
     Free answer = is_hindered (response_by answer) ≡ false
@@ -124,9 +113,9 @@ one_run seen naming start old new requests answers come =
     subst (λ naming. IsTransition (seen old) (seen new) (Runs naming requests answers)) come.opened.naming
     come.work in
     let gone = work_leaves come.opened work come.still in
-    let all = requests_are naming requests answers false start gone.events false gone.made refl refl
-    come.free in
     record {
-      told = all.told;
-      left = subst (λ book. IsOpenAt naming book (seen new)) all.book gone.left;
+      end = after_all gone.events start;
+      told = requests_are naming requests answers false start gone.events false gone.made refl refl
+          come.free;
+      left = gone.left;
     }

@@ -2,6 +2,8 @@
 use Rattle.std.proofs.Common.{◌≡◌, ◌∙◌, List, None, Ok, refl, sym, ap, subst, pos, ℤ}
 use Rattle.book_model.specs.Words.{IsMadeByCalls, Book, new_book, is_undisputed, Event, book_after}
 use Rattle.book_model.specs.Words.{Naming}
+use Rattle.book_model.specs.JournalLaws.{unjournaled}
+use Rattle.book_model.proofs.JournalLemmas.{imports_are_free}
 use Rattle.book_model.proofs.OrderLemmas.{order_is_free}
 use Rattle.book_model.proofs.Lemmas.{has_those, books_follow_history}
 use Rattle.book_laws.proofs.Words.{IsReadAlike, one_if, after_all-append, Statement}
@@ -11,22 +13,23 @@ use Rattle.book_laws.proofs.ClosedTexts.{HasSameCentres, centres_stay, period_st
 use Rattle.book_laws.proofs.NetLemmas.{charged_once}
 use Rattle.book_laws.proofs.ReadLemmas.{conserved}
 use Rattle.book_reports.specs.BookTexts.{open_statement, report_answer}
-use Rattle.book_reports.specs.declared.report.Report.TheVariants.{OfPeriod}
+use Rattle.book_reports.specs.declared.report.Report.{Report}
+use Rattle.book_reports.specs.declared.report.Report.TheVariants.{OfPeriod, Record}
 use Rattle.book_core.proofs.FollowLemmas.{history_goes_on}
 use Rattle.office.proofs.RunLemmas.{runs_answered}
 use Rattle.book_laws.specs.RunLaws.{RunsMakeHistory, RunsFollowHistory, ChargesOnce, RunsChargeOnce}
-use Rattle.book_laws.specs.RunLaws.{RunsConserve, RunOrderIsFree, ClosedStatementsStay}
-use Rattle.book_laws.specs.RunLaws.{OpenStatementIsFirst}
+use Rattle.book_laws.specs.RunLaws.{RunsConserve, RunCutsAreFree, RunOrderIsFree}
+use Rattle.book_laws.specs.RunLaws.{ClosedStatementsStay, OpenStatementIsFirst}
 use Rattle.book_laws.specs.Runs.{Run, IsRunAfter, book_after_run, history_with}
-use Rattle.book_laws.specs.Statements.{HaveSameTexts}
+use Rattle.book_laws.specs.Statements.{HaveSameTexts, ReadsNoEntry}
 
 -- the book that a run leaves is that of the history with it
-left_after : (history : List Event) (run : Run)
+pub left_after : (history : List Event) (run : Run)
     → book_after_run history run ≡ book_after (history_with history run)
 left_after history run = sym (after_all-append run.events history new_book)
 
 -- calls made the history that goes on with a run
-next_answered : (naming : Naming) (history : List Event) (run : Run)
+pub next_answered : (naming : Naming) (history : List Event) (run : Run)
     → IsRunAfter naming history run → IsMadeByCalls naming (history_with history run)
 next_answered naming history run after =
     history_goes_on naming run.events history
@@ -81,6 +84,34 @@ run_order_is_free naming before_one before_other one other after_one after_other
     ∙ order_is_free new_book (history_with before_one one) (history_with before_other other) ruled
     between
     ∙ sym (left_after before_other other))
+
+-- a report that says nothing of the journal does not depend on it
+pub texts_alone : (naming : Naming) (report : Report) (book : Book) → ReadsNoEntry report
+    → report_answer naming report (unjournaled book) ≡ report_answer naming report book
+texts_alone naming (Record name) book none = absurd none
+texts_alone naming report book none = refl
+
+-- so it is the same of books that differ in their journals alone
+pub texts_apart : (naming : Naming) (report : Report) (one other : Book) → ReadsNoEntry report
+    → unjournaled one ≡ unjournaled other
+    → report_answer naming report one ≡ report_answer naming report other
+texts_apart naming report one other none same =
+    sym (texts_alone naming report one none) ∙ ap (report_answer naming report) same
+    ∙ texts_alone naming report other none
+
+-- the law of cuts and notes
+pub run_cuts_are_free : RunCutsAreFree
+run_cuts_are_free naming before_one before_other one other after_one after_other ruled between =
+    let same = ap unjournaled (left_after before_one one)
+    ∙ imports_are_free new_book (history_with before_one one) (history_with before_other other) ruled
+    between
+    ∙ ap unjournaled (sym (left_after before_other other)) in
+    record {
+      book = same;
+      reports = λ naming report none.
+          texts_apart naming report (book_after_run before_one one)
+          (book_after_run before_other other) none same;
+    }
 
 -- the law of closed statements
 pub closed_statements_stay : ClosedStatementsStay

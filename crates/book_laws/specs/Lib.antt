@@ -1,7 +1,8 @@
 -- Read in this order. Whole histories: how often periods charge a record; what their rows and lines
 -- amount to; the lines of a period, each once; what is read of a closed period; the laws; and
 -- wrong definitions of a period, which the laws refuse. What is charged for
--- one work. Runs: what a run is, and on which books; the statement of a period; and the laws. Then
+-- one work. Runs: what a run is, and on which books; the statement of a period; the laws; and what
+-- runs do to the journal. Then
 -- calls one after another and what they leave, the lists of all periods, how wide the lines of a
 -- statement are, the reports on single centres, details, what is kept of them and that they stay,
 -- coverage, bills, what credits come to, a table of cost and usage, tariff files, and works that are
@@ -18,6 +19,7 @@ pub mod WorkLaws
 pub mod Runs
 pub mod Statements
 pub mod RunLaws
+pub mod JournalRuns
 pub mod Calls
 pub mod CallLaws
 pub mod ListLaws

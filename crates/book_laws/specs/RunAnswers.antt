@@ -1,27 +1,27 @@
 -- The law of lists of requests: each has one answer, and they leave one book.
-use Rattle.std.specs.Prelude.{◌≡◌, false, All, List, [], ◌∷◌, map, Result}
+use Rattle.std.specs.Prelude.{◌≡◌, false, All, List, [], ◌∷◌, Result}
 use Rattle.book_model.specs.declared.fault.LedgerFault.{LedgerFault}
-use Rattle.book_model.specs.Words.{Naming, Book, after_all}
+use Rattle.book_model.specs.Words.{Naming, Book, Event, after_all}
 use Rattle.book_core.specs.Words.{Books, Seen, IsOpenAt, books, IsTransition}
 use Rattle.office.specs.declared.request.Asked.{Asked}
 use Rattle.office.specs.declared.request.Answer.{Answer}
 use Rattle.office.specs.Outcomes.{asked_outcome, is_hindered}
-use Rattle.office.specs.Laws.{IsStillOpen}
-use Rattle.office.specs.Requests.{Response, response_by}
+use Rattle.office.specs.Laws.{IsStillOpen, but_for_entries}
+use Rattle.office.specs.Requests.{response_by}
 use Rattle.office.specs.Runs.{Runs, dump_here}
 
--- what the definitions answer to requests, one after another
-abbrev pub responses_to : Naming → List Asked → Book → List (Result Response LedgerFault)
-responses_to naming [] book = []
-responses_to naming (asked ∷ later) book =
-    let done = asked_outcome naming asked (dump_here asked) book in
-    done.told ∷ responses_to naming later (after_all done.events book)
-
--- the book after them
-abbrev pub book_after_requests : Naming → List Asked → Book → Book
-book_after_requests naming [] book = book
-book_after_requests naming (asked ∷ later) book =
-    book_after_requests naming later (after_all (asked_outcome naming asked (dump_here asked) book).events book)
+-- Requests were answered one after another, each as the definitions say of the book before it, and
+-- this is the book after them. What a request made is what the definitions say too, but for what an
+-- import says of itself.
+abbrev pub AreAsDefined : Naming → List Asked → List (Result Answer LedgerFault) → Book → Book
+    → Type 0
+AreAsDefined naming [] [] start end = end ≡ start
+AreAsDefined naming (asked ∷ requests) (answer ∷ answers) start end =
+    (made : List Event)
+    × (asked_outcome naming asked (dump_here asked) start
+    ≡ record { told = response_by answer; events = but_for_entries asked made })
+    × AreAsDefined naming requests answers (after_all made start) end
+AreAsDefined naming requests answers start end = ⊥
 
 -- Requests were run on a ledger that was open with this book, and is open now, on a store that is
 -- honest to the end. Neither a lack of memory nor the store hindered one.
@@ -35,8 +35,9 @@ pub record IsUnhinderedRun (naming : Naming) (start : Book) (books : Books) (req
 -- the answers are those of the definitions, and the ledger is open with the book after them
 pub record RunsAsDefined (naming : Naming) (start : Book) (new : Seen) (requests : List Asked)
     (answers : List (Result Answer LedgerFault)) : Type 0 where
-  pub told : map response_by answers ≡ responses_to naming requests start
-  pub left : IsOpenAt naming (book_after_requests naming requests start) new
+  pub end : Book
+  pub told : AreAsDefined naming requests answers start end
+  pub left : IsOpenAt naming end new
 
 -- This holds for all requests, including imports.
 abbrev pub OneRun : {L : Type 0} → (L → Seen) → Type 0

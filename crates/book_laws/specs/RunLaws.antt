@@ -1,5 +1,6 @@
 -- The laws of runs: what any list of requests leaves behind.
 use Rattle.std.specs.Prelude.{◌≡◌, ◌&&◌, ℕ, Bool, List, [], ◌∷◌, None, Ok, pos}
+use Rattle.book_model.specs.JournalLaws.{without_notes}
 use Rattle.book_model.specs.Words.{Terms, has, Naming, is_undisputed, Book, new_book, flat_book}
 use Rattle.book_model.specs.Words.{all_periods, Event, RulingGiven, TariffAccepted, book_after}
 use Rattle.book_model.specs.Words.{book_of, IsMadeByCalls, rulings_in, record_batches}
@@ -10,7 +11,7 @@ use Rattle.book_reports.specs.BookTexts.{open_statement, report_answer}
 use Rattle.book_reports.specs.declared.report.PeriodReport.TheVariants.{Statement}
 use Rattle.book_reports.specs.declared.report.Report.TheVariants.{OfPeriod}
 use Rattle.book_laws.specs.Runs.{Run, IsRunOn, IsRunAfter, book_after_run, history_with}
-use Rattle.book_laws.specs.Statements.{HaveSameTexts, StaysClosed}
+use Rattle.book_laws.specs.Statements.{HaveSameTexts, HaveSameTextsApart, StaysClosed}
 
 -- New books have no history, and new books under one tariff have only that tariff: any run on them
 -- is a run after it. And calls made the history that goes on with a run, so another run may follow.
@@ -51,9 +52,9 @@ RunsConserve =
     (naming : Naming) (history : List Event) (run : Run) → IsRunAfter naming history run
     → IsBalanced naming (book_after_run history run)
 
--- It makes no difference how records are cut into dumps, requests and runs, in which order they
--- come between two rulings, and how often: histories with the same rulings in the same order, and
--- the same sets of records between neighbouring rulings, leave books with the same reports.
+-- It makes no difference in which order records come between two rulings, and how often: histories
+-- with the same rulings in the same order, and the same sets of records between neighbouring rulings,
+-- leave books with the same reports. What imports say of themselves stands among the rulings here.
 abbrev pub RunOrderIsFree : Type 0
 RunOrderIsFree =
     (naming : Naming) (before_one before_other : List Event) (one other : Run)
@@ -62,6 +63,18 @@ RunOrderIsFree =
     → record_batches (history_with before_one one)
     ≡ record_batches (history_with before_other other)
     → HaveSameTexts (book_after_run before_one one) (book_after_run before_other other)
+
+-- Nor does it, but for the journal, how records are cut into dumps, requests and runs, and what notes
+-- say: the same of histories without their notes, and without what imports say of themselves.
+abbrev pub RunCutsAreFree : Type 0
+RunCutsAreFree =
+    (naming : Naming) (before_one before_other : List Event) (one other : Run)
+    → IsRunAfter naming before_one one → IsRunAfter naming before_other other
+    → rulings_in (without_notes (history_with before_one one))
+    ≡ rulings_in (without_notes (history_with before_other other))
+    → record_batches (without_notes (history_with before_one one))
+    ≡ record_batches (without_notes (history_with before_other other))
+    → HaveSameTextsApart (book_after_run before_one one) (book_after_run before_other other)
 
 -- Closed statements and adjustments never change, whatever requests are run after the close.
 abbrev pub ClosedStatementsStay : Type 0

@@ -43,7 +43,8 @@ pub fn one_refused_report<L: Ledger>()
     ensures { OneRefusedReport L.seen }
 {}
 
-/// The receipt of an import is the definitions' one, and so is the book after it.
+/// The receipt of an import is the definitions' one, and so is the book after it, but for what the
+/// import says of itself.
 pub fn one_receipt<L: Ledger>()
     ensures { OneReceipt L.seen }
 {}
@@ -54,7 +55,8 @@ pub fn receipts_count_records()
     ensures { ReceiptsCountRecords }
 {}
 
-/// The answers to a list of requests are the definitions' ones, and so is the book after them.
+/// The answers to a list of requests are the definitions' ones, and so is the book after them, but
+/// for what imports say of themselves.
 pub fn one_run<L: Ledger>()
     ensures { OneRun L.seen }
 {}

@@ -9,6 +9,7 @@ mod coverage;
 mod details;
 mod focus;
 mod histories;
+mod journal;
 mod other_prices;
 mod pages;
 mod records;
@@ -38,6 +39,10 @@ pub use histories::{
     books_charge_once, charged_once, closed_stays, closed_texts_stay, conserved, conserved_in_sets,
     dated_right, lines_once, named_once, posted_once, readable_stays, wrong_periods_fail,
 };
+pub use journal::{
+    notes_change_no_text, runs_enter_rulings, runs_keep_each_once, runs_keep_entries,
+    runs_keep_words,
+};
 pub use other_prices::{what_if, what_ifs_are_aligned};
 pub use pages::{open_is_open, page_totals_are_the_reports};
 pub use records::{
@@ -49,8 +54,8 @@ pub use rulings::{
 };
 pub use runs::{
     calls_follow_history, closed_statements_stay, lists_conserve, open_statement_is_first,
-    run_order_is_free, runs_charge_once, runs_conserve, runs_follow_history, runs_make_history,
-    statements_are_aligned,
+    run_cuts_are_free, run_order_is_free, runs_charge_once, runs_conserve, runs_follow_history,
+    runs_make_history, statements_are_aligned,
 };
 pub use tariffs::tariff_texts_stay;
 pub use works::{chosen_is_charged, work_is_charged_once};

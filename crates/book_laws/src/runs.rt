@@ -4,7 +4,8 @@
 ghost use Rattle.book_laws.specs.ListLaws.{BookListsConserve, ListsConserve};
 ghost use Rattle.book_laws.specs.CallLaws.{CallsFollowHistory};
 ghost use Rattle.book_laws.specs.RunLaws.{ClosedStatementsStay, OpenStatementIsFirst};
-ghost use Rattle.book_laws.specs.RunLaws.{RunOrderIsFree, RunsChargeOnce, RunsConserve};
+ghost use Rattle.book_laws.specs.RunLaws.{RunCutsAreFree, RunOrderIsFree, RunsChargeOnce};
+ghost use Rattle.book_laws.specs.RunLaws.{RunsConserve};
 ghost use Rattle.book_laws.specs.RunLaws.{RunsFollowHistory, RunsMakeHistory};
 ghost use Rattle.book_laws.specs.StatementWidths.{StatementsAreAligned};
 
@@ -33,10 +34,16 @@ pub fn runs_conserve()
     ensures { RunsConserve }
 {}
 
-/// However records are cut into dumps, requests and runs, repeated or reordered between two
-/// rulings: the books are the same, and so are all reports of them.
+/// However often records come between two rulings, and in which order: the books are the same, and
+/// so are all reports of them.
 pub fn run_order_is_free()
     ensures { RunOrderIsFree }
+{}
+
+/// However records are cut into dumps, requests and runs, and whatever notes say: the books are the
+/// same but for the journal, and so are all reports that say nothing of it.
+pub fn run_cuts_are_free()
+    ensures { RunCutsAreFree }
 {}
 
 /// Closed statements and adjustments never change, whatever requests are run after the close.

@@ -9,7 +9,7 @@ use Rattle.smf_type30.specs.declared.record_class.Class.{Class}
 use Rattle.smf_type30.specs.declared.record_class.Class.TheVariants.{DumpHeader, DumpTrailer, DataLost}
 use Rattle.smf_type30.specs.declared.record_class.Class.TheVariants.{Other, Continuation, Usage, Damaged}
 use Rattle.book_model.specs.Words.{type_of, class_of, damage_number, data_of}
-use Rattle.book_import.specs.declared.receipt.Stop.{Stop}
+use Rattle.book_model.specs.declared.note.Stop.{Stop}
 use Rattle.report_texts.specs.Columns.{newline}
 use Rattle.book_reports.specs.ReceiptLines.{fault_text, stop_text}
 

@@ -6,7 +6,8 @@ use Rattle.std.proofs.Common.{IfOk, IsErr, IsErrAnd, Vec, string_bytes, Global, 
 use Rattle.book_model.specs.declared.answer.Ruled.{Ruled}
 use Rattle.book_model.specs.declared.fault.LedgerFault.TheVariants.{Memory}
 use Rattle.book_model.specs.Words.{Book, Event, Naming, Outcome, adopt_outcome, after_all}
-use Rattle.book_model.specs.Words.{after_any, choose_outcome, close_outcome, tariff_answer}
+use Rattle.book_model.specs.Words.{after_any, choose_outcome, close_outcome, note_given}
+use Rattle.book_model.specs.Words.{tariff_answer}
 use Rattle.book_model.specs.Words.{rule_outcome, tariff_outcome, credit_outcome, replace_outcome}
 use Rattle.book_model.specs.Words.{replacing_answer, withhold_outcome}
 use Rattle.book_core.specs.Words.{Calls, IsCall, listed, Seen, IsTransition, Then, Transition}
@@ -51,7 +52,8 @@ no_refusal is = cc is
 
 -- an answer to a ruling is no receipt and no text
 no_count : {ruled : Ruled} {receipt : Receipt}
-    → ◌≡◌ {A = Result Response LedgerFault} (Ok (office.Ruling ruled)) (Ok (office.Count receipt)) → ⊥
+    → ◌≡◌ {A = Result Response LedgerFault} (Ok (office.Ruling ruled))
+    (Ok (office.Count receipt)) → ⊥
 no_count is = cc is
 
 no_text : {ruled : Ruled} {text : List ℕ}
@@ -77,7 +79,8 @@ pub handed_on : {old new : Seen} {naming : Naming} {today : Option ℤ} {asked :
 handed_on (Ok shown) is work = absurd is
 handed_on {old = old} {new = new} {naming = naming} {today = today} {asked = asked} (Err given) is
     work =
-    subst (λ fault. IsTransition old new (TriesOnce naming today asked (Err fault) None)) (sym is) work
+    subst (λ fault. IsTransition old new (TriesOnce naming today asked (Err fault) None))
+    (sym is) work
 
 -- what a visit to a copy told is a text or a fault
 pub form_told : (Same : Type 0) (told : Result DatedAnswer RepositoryFault)
@@ -114,10 +117,12 @@ refused_only (to_reopen reopen was is none) fresh free = absurd (true≢false (s
 refused_only (refused answer was is none) fresh free = answer
 
 -- a call that reads makes no event
-none_made : {V A : Type 0} {view : V → A} {outcome : Book → Outcome A} {result : Result V LedgerFault}
+none_made : {V A : Type 0} {view : V → A} {outcome : Book
+    → Outcome A} {result : Result V LedgerFault}
     {was is : Bool} {before : Book} {events : List Event} → IsReading outcome
     → Calls view outcome result was before events is → events ≡ []
-none_made {view = view} {outcome = outcome} {result = result} {before = before} {events = events} none
+none_made {view = view} {outcome = outcome} {result = result} {before = before} {events = events}
+    none
     called =
     elim (called_events view (outcome before) result events called.makes) [
       | inl is ↦ is
@@ -129,21 +134,25 @@ module _ (naming : Naming) where
   unnamed_shows : (today : Option ℤ) (asked : Asked) (book : Book) (fault : LedgerFault)
       → IsUnnamed asked fault
       → ShowsDry naming today asked book (Err fault) None
-  unnamed_shows today (asks.Rule (owned.Tariff text)) book fault why =
+  unnamed_shows today (asks.Rule (owned.Tariff text) said) book fault why =
       let bytes = string_bytes text in
       record {
         told_so = ap Err why.2
-            ∙ sym (ap (λ said. shown_by Text (tariff_tried naming bytes said book)) why.1);
-        notice = sym (ap (λ said. notice_by (is_far_asked today (asks.Rule (owned.Tariff text)) book)
-            (shown_by office.Ruling (tariff_answer book bytes said))) why.1);
+            ∙ sym (ap (λ read. shown_by Text (tariff_tried naming
+            (note_given said) bytes read book)) why.1);
+        notice = sym (ap (λ read. notice_by
+            (is_far_asked today (asks.Rule (owned.Tariff text) said) book)
+            (shown_by office.Ruling (tariff_answer book bytes read))) why.1);
       }
-  unnamed_shows today (asks.Rule (owned.Replace text)) book fault why =
+  unnamed_shows today (asks.Rule (owned.Replace text) said) book fault why =
       let bytes = string_bytes text in
       record {
         told_so = ap Err why.2
-            ∙ sym (ap (λ said. shown_by Text (replacement_tried naming bytes said book)) why.1);
-        notice = sym (ap (λ said. notice_by (is_far_asked today (asks.Rule (owned.Replace text)) book)
-            (shown_by office.Ruling (replacing_answer book bytes said))) why.1);
+            ∙ sym (ap (λ read. shown_by Text (replacement_tried naming
+            (note_given said) bytes read book)) why.1);
+        notice = sym (ap (λ read. notice_by
+            (is_far_asked today (asks.Rule (owned.Replace text) said) book)
+            (shown_by office.Ruling (replacing_answer book bytes read))) why.1);
       }
   unnamed_shows today asked book fault why = absurd why
 
@@ -178,34 +187,48 @@ module _ (naming : Naming) where
       (book : Book) (events : List Event) (is : Bool) → IsNamedBy asked ruling
       → AsksWithoutReader naming asked (Err fault) was book events is → was ≡ false
       → is_hindered (Err fault) ≡ false → TellsDry naming asked book (Err fault)
-  refused_tells (asks.Rule (owned.Tariff text)) ruling fault was book events is named called fresh free =
-      ap (shown_by Text) (refused_by (tariff_outcome None (string_bytes text)) fault
+  refused_tells (asks.Rule (owned.Tariff text) said) ruling fault was book events is named called
+      fresh free =
+      ap (shown_by Text) (refused_by (tariff_outcome (note_given said) (string_bytes text)) fault
       (tried.Tariff named.0.effective) was book events is called fresh free
-      ∙ sym (ap (λ said. tariff_tried naming (string_bytes text) said book) named.1))
-  refused_tells (asks.Rule (owned.Close period through)) ruling fault was book events is named called fresh free =
-      ap (shown_by Text) (refused_by (close_outcome None period through) fault
+      ∙ sym (ap (λ read. tariff_tried naming (note_given said) (string_bytes text) read book)
+      named.1))
+  refused_tells (asks.Rule (owned.Close period through) said) ruling fault was book events is named
+      called fresh free =
+      ap (shown_by Text) (refused_by (close_outcome (note_given said) period through) fault
       (tried.Close period through) was book events is called fresh free)
-  refused_tells (asks.Rule (owned.Choose name)) ruling fault was book events is named called fresh free =
-      ap (shown_by Text) (refused_by (choose_outcome naming None name) fault (tried.Choose name) was book
+  refused_tells (asks.Rule (owned.Choose name) said) ruling fault was book events is named called
+      fresh free =
+      ap (shown_by Text) (refused_by (choose_outcome naming (note_given said) name) fault
+      (tried.Choose name) was book
       events is called fresh free)
-  refused_tells (asks.Rule (owned.Adopt rule)) ruling fault was book events is named called fresh free =
-      ap (shown_by Text) (refused_by (adopt_outcome None rule) fault tried.Adopt was book events is called
+  refused_tells (asks.Rule (owned.Adopt rule) said) ruling fault was book events is named called
+      fresh free =
+      ap (shown_by Text) (refused_by (adopt_outcome (note_given said) rule) fault tried.Adopt was
+      book events is called
       fresh free)
-  refused_tells (asks.Rule (owned.Replace text)) ruling fault was book events is named called fresh free =
-      ap (shown_by Text) (refused_by (replace_outcome None (string_bytes text)) fault
+  refused_tells (asks.Rule (owned.Replace text) said) ruling fault was book events is named called
+      fresh free =
+      ap (shown_by Text) (refused_by (replace_outcome (note_given said) (string_bytes text)) fault
       (tried.Replace named.0.effective) was book events is called fresh free
-      ∙ sym (ap (λ said. replacement_tried naming (string_bytes text) said book) named.1))
-  refused_tells (asks.Rule (owned.Withhold name)) ruling fault was book events is named called fresh free =
-      ap (shown_by Text) (refused_by (withhold_outcome naming None name) fault (tried.Withhold name) was
+      ∙ sym (ap (λ read. replacement_tried naming (note_given said) (string_bytes text) read book)
+      named.1))
+  refused_tells (asks.Rule (owned.Withhold name) said) ruling fault was book events is named called
+      fresh free =
+      ap (shown_by Text) (refused_by (withhold_outcome naming (note_given said) name) fault
+      (tried.Withhold name) was
       book events is called fresh free)
-  refused_tells (asks.Rule (owned.Credit period centre amount reason)) ruling fault was book events is
+  refused_tells (asks.Rule (owned.Credit period centre amount reason) said) ruling fault was book
+      events is
       named called fresh free =
-      ap (shown_by Text) (refused_by (credit_outcome None period centre amount (string_bytes reason)) fault
+      ap (shown_by Text) (refused_by (credit_outcome (note_given said) period centre amount
+      (string_bytes reason)) fault
       (tried.Credit period centre) was book events is called fresh free)
   refused_tells asked ruling fault was book events is named called fresh free = absurd named
 
   -- the book after the event of a ruling
-  after_listed : (event : Option Event) (book : Book) → after_all (listed event) book ≡ after_any event book
+  after_listed : (event : Option Event) (book : Book)
+      → after_all (listed event) book ≡ after_any event book
   after_listed None book = refl
   after_listed (Some event) book = refl
 
@@ -217,7 +240,8 @@ module _ (naming : Naming) where
 
   ruled_by : (outcome : Book → Outcome Ruled) (ruled : Ruled) (ruling : TriedRuling) (was : Bool)
       (book : Book) (events : List Event) (is : Bool)
-      → Calls (λ told. told) (response_outcome office.Ruling outcome) (Ok (office.Ruling ruled)) was book
+      → Calls (λ told. told) (response_outcome office.Ruling outcome)
+      (Ok (office.Ruling ruled)) was book
       events is
       → Ok (dry_run_of naming ruling ruled book (after_all events book))
       ≡ dry_answer naming ruling (outcome book) book
@@ -234,41 +258,50 @@ module _ (naming : Naming) where
       → AsksWithoutReader naming asked (Ok (answers.Ruled ruled)) was book events is
       → TellsDry naming asked book
       (Ok (Text (dry_run_of naming ruling ruled book (after_all events book))))
-  ruled_tells (asks.Rule (owned.Tariff text)) ruling ruled was book events is named called =
+  ruled_tells (asks.Rule (owned.Tariff text) said) ruling ruled was book events is named called =
       ap (λ ruling. Ok (Text (dry_run_of naming ruling ruled book (after_all events book)))) named.2
-      ∙ ap (shown_by Text) (ruled_by (tariff_outcome None (string_bytes text)) ruled
+      ∙ ap (shown_by Text) (ruled_by (tariff_outcome (note_given said) (string_bytes text)) ruled
       (tried.Tariff named.0.effective) was book events is called
-      ∙ sym (ap (λ said. tariff_tried naming (string_bytes text) said book) named.1))
-  ruled_tells (asks.Rule (owned.Close period through)) ruling ruled was book events is named called =
+      ∙ sym (ap (λ read. tariff_tried naming (note_given said) (string_bytes text) read book)
+      named.1))
+  ruled_tells (asks.Rule (owned.Close period through) said) ruling ruled was book events is named
+      called =
       ap (λ ruling. Ok (Text (dry_run_of naming ruling ruled book (after_all events book)))) named
-      ∙ ap (shown_by Text) (ruled_by (close_outcome None period through) ruled
+      ∙ ap (shown_by Text) (ruled_by (close_outcome (note_given said) period through) ruled
       (tried.Close period through) was book events is called)
-  ruled_tells (asks.Rule (owned.Choose name)) ruling ruled was book events is named called =
+  ruled_tells (asks.Rule (owned.Choose name) said) ruling ruled was book events is named called =
       ap (λ ruling. Ok (Text (dry_run_of naming ruling ruled book (after_all events book)))) named
-      ∙ ap (shown_by Text) (ruled_by (choose_outcome naming None name) ruled (tried.Choose name) was book
+      ∙ ap (shown_by Text) (ruled_by (choose_outcome naming (note_given said) name) ruled
+      (tried.Choose name) was book
       events is called)
-  ruled_tells (asks.Rule (owned.Adopt rule)) ruling ruled was book events is named called =
+  ruled_tells (asks.Rule (owned.Adopt rule) said) ruling ruled was book events is named called =
       ap (λ ruling. Ok (Text (dry_run_of naming ruling ruled book (after_all events book)))) named
-      ∙ ap (shown_by Text) (ruled_by (adopt_outcome None rule) ruled tried.Adopt was book events is called)
-  ruled_tells (asks.Rule (owned.Replace text)) ruling ruled was book events is named called =
+      ∙ ap (shown_by Text) (ruled_by (adopt_outcome (note_given said) rule) ruled tried.Adopt was
+      book events is called)
+  ruled_tells (asks.Rule (owned.Replace text) said) ruling ruled was book events is named called =
       ap (λ ruling. Ok (Text (dry_run_of naming ruling ruled book (after_all events book)))) named.2
-      ∙ ap (shown_by Text) (ruled_by (replace_outcome None (string_bytes text)) ruled
+      ∙ ap (shown_by Text) (ruled_by (replace_outcome (note_given said) (string_bytes text)) ruled
       (tried.Replace named.0.effective) was book events is called
-      ∙ sym (ap (λ said. replacement_tried naming (string_bytes text) said book) named.1))
-  ruled_tells (asks.Rule (owned.Withhold name)) ruling ruled was book events is named called =
+      ∙ sym (ap (λ read. replacement_tried naming (note_given said) (string_bytes text) read book)
+      named.1))
+  ruled_tells (asks.Rule (owned.Withhold name) said) ruling ruled was book events is named called =
       ap (λ ruling. Ok (Text (dry_run_of naming ruling ruled book (after_all events book)))) named
-      ∙ ap (shown_by Text) (ruled_by (withhold_outcome naming None name) ruled (tried.Withhold name) was book
+      ∙ ap (shown_by Text) (ruled_by (withhold_outcome naming (note_given said) name) ruled
+      (tried.Withhold name) was book
       events is called)
-  ruled_tells (asks.Rule (owned.Credit period centre amount reason)) ruling ruled was book events is
+  ruled_tells (asks.Rule (owned.Credit period centre amount reason) said) ruling ruled was book
+      events is
       named called =
       ap (λ ruling. Ok (Text (dry_run_of naming ruling ruled book (after_all events book)))) named
-      ∙ ap (shown_by Text) (ruled_by (credit_outcome None period centre amount (string_bytes reason)) ruled
+      ∙ ap (shown_by Text) (ruled_by (credit_outcome (note_given said) period centre amount
+      (string_bytes reason)) ruled
       (tried.Credit period centre) was book events is called)
   ruled_tells asked ruling ruled was book events is named called = absurd named
 
   -- nothing else is answered to one
   not_told : (answer : Result Ruled LedgerFault) (other : Answer)
-      → shown_by office.Ruling answer ≡ Ok (response_of other) → (ruled : Ruled) × (other ≡ answers.Ruled ruled)
+      → shown_by office.Ruling answer ≡ Ok (response_of other)
+      → (ruled : Ruled) × (other ≡ answers.Ruled ruled)
   not_told answer (answers.Ruled ruled) is = (ruled, refl)
   not_told (Ok ruled) (answers.Receipt receipt) is = absurd (no_count is)
   not_told (Ok ruled) (answers.Text text) is = absurd (no_text is)
@@ -283,7 +316,8 @@ module _ (naming : Naming) where
 
   answers_by : (outcome : Book → Outcome Ruled) (answer : Answer) (was : Bool) (book : Book)
       (events : List Event) (is : Bool)
-      → Calls (λ told. told) (response_outcome office.Ruling outcome) (Ok (response_of answer)) was book
+      → Calls (λ told. told) (response_outcome office.Ruling outcome)
+      (Ok (response_of answer)) was book
       events is
       → Answers answer was is
   answers_by outcome answer was book events is called =
@@ -294,25 +328,29 @@ module _ (naming : Naming) where
         same = goes_on (response_of answer) was is called.reopens;
       }
 
-  answers_ruling : (asked : Asked) (answer : Answer) (was : Bool) (book : Book) (events : List Event)
+  answers_ruling : (asked : Asked) (answer : Answer) (was : Bool) (book : Book)
+      (events : List Event)
       (is : Bool) → IsAskableRuling asked
       → AsksWithoutReader naming asked (Ok answer) was book events is → Answers answer was is
-  answers_ruling (asks.Rule ruling) answer was book events is may called =
-      answers_by (rule_outcome naming None (office.ruling_of ruling)) answer was book events is called
+  answers_ruling (asks.Rule ruling said) answer was book events is may called =
+      answers_by (rule_outcome naming (note_given said) (office.ruling_of ruling)) answer was book
+      events is called
   answers_ruling asked answer was book events is may called = absurd may
 
 -- the ruling, and then a reading: the ruling alone made events
 ruled_then : {naming : Naming} {asked : Asked} (answer : Answer) {V A : Type 0} {view : V → A}
     {outcome : Book → Outcome A} {result : Result V LedgerFault} {was is : Bool} {before : Book}
     {events : List Event} → IsReading outcome
-    → Then (AsksWithoutReader naming asked (Ok answer)) (Calls view outcome result) was before events is
+    → Then (AsksWithoutReader naming asked (Ok answer)) (Calls view outcome result) was before
+    events is
     → IsRuled naming asked was before events
-ruled_then {naming = naming} {asked = asked} answer {was = was} {before = before} none both = record {
-  answer = Ok answer;
-  left = both.between;
-  made = subst (λ events. AsksWithoutReader naming asked (Ok answer) was before events both.between)
-      (sym (both.all ∙ ap (λ late. late ++ both.early) (none_made none both.next))) both.first;
-}
+ruled_then {naming = naming} {asked = asked} answer {was = was} {before = before} none both =
+    record {
+      answer = Ok answer;
+      left = both.between;
+      made = subst (λ events. AsksWithoutReader naming asked (Ok answer) was before events both.between)
+          (sym (both.all ∙ ap (λ late. late ++ both.early) (none_made none both.next))) both.first;
+    }
 
 -- a hindrance that is told is none of those that are not
 not_hindered : {fault : LedgerFault} → fault ≡ Memory → is_hindered (Err fault) ≡ false → ⊥
@@ -326,10 +364,12 @@ pub reading_failed : {V A : Type 0} {view : V → A} {outcome : Book → Outcome
     → IsTransition old new (TriesOnce old.naming today asked (Err fault) None)
 reading_failed {view = view} {outcome = outcome} {old = old} {new = new} {fault = fault}
     {today = today} asked none never call =
-    work_as old new (Calls view outcome (Err fault)) (TriesOnce old.naming today asked (Err fault) None)
+    work_as old new (Calls view outcome (Err fault)) (TriesOnce old.naming today asked
+    (Err fault) None)
     (λ was book events is called. record {
       shows = λ fresh free.
-          absurd (never book (refused_only (fails view outcome fault was book events is called) fresh
+          absurd (never book (refused_only (fails view outcome fault was book events is called)
+          fresh
           free));
       made = inl (none_made none called);
     }) call.work
@@ -346,19 +386,24 @@ after_reading {view = view} {outcome = outcome} {one = one} {two = two} {end = e
     (Then (Calls view outcome (Ok value)) (TriesOnce one.naming today asked told noticed))
     (TriesOnce one.naming today asked told noticed)
     (λ was book events is.
-    read_first (TriesOnce one.naming today asked told noticed) none was book events is (λ said tries. tries))
-    (work_then one two end (Calls view outcome (Ok value)) (TriesOnce one.naming today asked told noticed)
+    read_first (TriesOnce one.naming today asked told noticed) none was book events is
+    (λ said tries. tries))
+    (work_then one two end (Calls view outcome (Ok value)) (TriesOnce one.naming today asked told
+    noticed)
     call.work
-    (subst (λ naming. IsTransition two end (TriesOnce naming today asked told noticed)) call.work.naming work))
+    (subst (λ naming. IsTransition two end (TriesOnce naming today asked told noticed))
+    call.work.naming work))
 
 -- the ruling has no name
 pub name_failed : {V A : Type 0} {view : V → A} {outcome : Book → Outcome A} {old new : Seen}
     {value : V} {fault : LedgerFault} {today : Option ℤ} (asked : Asked) → IsReading outcome
     → IsCall view old new (Ok value) outcome → (fault ≡ Memory) ⊎ IsUnnamed asked fault
     → IsTransition old new (TriesOnce old.naming today asked (Err fault) None)
-name_failed {view = view} {outcome = outcome} {old = old} {new = new} {value = value} {fault = fault}
+name_failed {view = view} {outcome = outcome} {old = old} {new = new} {value = value} {fault =
+    fault}
     {today = today} asked none call why =
-    work_as old new (Calls view outcome (Ok value)) (TriesOnce old.naming today asked (Err fault) None)
+    work_as old new (Calls view outcome (Ok value)) (TriesOnce old.naming today asked
+    (Err fault) None)
     (λ was book events is called. record {
       shows = λ fresh free. elim why [
         | inl memory ↦ absurd (not_hindered memory free)
@@ -377,7 +422,8 @@ ruling_failed {old = old} {new = new} {fault = fault} {today = today} asked ruli
     (TriesOnce old.naming today asked (Err fault) None)
     (λ was book events is called. record {
       shows = λ fresh free. record {
-        told_so = refused_tells old.naming asked ruling fault was book events is named called fresh free;
+        told_so = refused_tells old.naming asked ruling fault was book events is named called fresh
+            free;
         notice = sym (ap (notice_by (is_far_asked today asked book)) (told_by old.naming asked
             (Err fault) was book events is called fresh free));
       };
@@ -391,11 +437,13 @@ read_after : {old mid new : Seen} {result : Result Figures LedgerFault} (asked :
     → IsCall (λ figures. figures) mid new result (figures_outcome mid.naming ruling period)
     → IsTransition old new (Then (AsksWithoutReader old.naming asked (Ok answer))
     (Calls (λ figures. figures) (figures_outcome old.naming ruling period) result))
-read_after {old = old} {mid = mid} {new = new} {result = result} asked answer ruling period work last =
+read_after {old = old} {mid = mid} {new = new} {result = result} asked answer ruling period work
+    last =
     work_then old mid new (AsksWithoutReader old.naming asked (Ok answer))
     (Calls (λ figures. figures) (figures_outcome old.naming ruling period) result) work
     (subst (λ naming. IsTransition mid new
-    (Calls (λ figures. figures) (figures_outcome naming ruling period) result)) work.naming last.work)
+    (Calls (λ figures. figures) (figures_outcome naming ruling period) result)) work.naming
+    last.work)
 
 -- the figures after the ruling were not read
 pub later_failed : {old mid new : Seen} {fault : LedgerFault} {today : Option ℤ} (asked : Asked)
@@ -424,17 +472,21 @@ later_failed {old = old} {mid = mid} {new = new} {fault = fault} {today = today}
 -- what was read before the ruling and after it is what is shown
 module _ {naming : Naming} {today : Option ℤ} {asked : Asked} (ruling : TriedRuling)
     (answer : Answer) {period : ℕ}
-    {before after : Figures} {far : Bool} (may : IsAskableRuling asked) (named : IsNamedBy asked ruling)
-    {was is : Bool} {book : Book} {events : List Event} (is_far : is_far_asked today asked book ≡ far)
+    {before after : Figures} {far : Bool} (may : IsAskableRuling asked)
+    (named : IsNamedBy asked ruling)
+    {was is : Bool} {book : Book} {events : List Event} (is_far : is_far_asked today asked book ≡
+    far)
     (number : period_open book ≡ period) (read : figures naming ruling period book ≡ before)
     (both : Then (AsksWithoutReader naming asked (Ok answer))
-    (Calls (λ figures. figures) (figures_outcome naming ruling period) (Ok after)) was book events is)
+    (Calls (λ figures. figures) (figures_outcome naming ruling period)
+    (Ok after)) was book events is)
   where
     shown_dry : (shown : Vec ℕ Global × Option Notice)
         → IsShown ruling period before after far answer (Ok shown) → was ≡ false
         → ShowsDry naming today asked book (Ok (Text shown.0.items)) shown.1
     shown_dry shown is_shown fresh =
-        let found = answers_ruling naming asked answer was book both.early both.between may both.first in
+        let found = answers_ruling naming asked answer was book both.early both.between may
+        both.first in
         let ruled = found.ruled in
         let text = dry_run_text ruling ruled period before after in
         let later = after_all both.early book in
@@ -446,7 +498,8 @@ module _ {naming : Naming} {today : Option ℤ} {asked : Asked} (ruling : TriedR
         ∙ (λ i. dry_run_text ruling ruled period (read i) (same_value both.next.makes.0 i)) in
         let told : far_notice today asked book (ruled_told naming asked book)
         ≡ notice_by far (Ok (office.Ruling ruled)) =
-        λ i. notice_by (is_far i) (told_by naming asked (Ok (answers.Ruled ruled)) was book both.early
+        λ i. notice_by (is_far i) (told_by naming asked (Ok (answers.Ruled ruled)) was book
+        both.early
         both.between first fresh refl i) in
         let says = subst (λ answer. IsShown ruling period before after far answer (Ok shown))
         found.answered is_shown in
@@ -485,15 +538,18 @@ pub all_shown : {one two three four five six : Seen} {far : Bool} {period : Open
     (figures_outcome five.naming ruling period.number)
     → IsShown ruling period.number before after far answer result
     → IsTransition one six (TriesOnceBy one.naming today asked (dated_by result))
-all_shown {one = one} {two = two} {three = three} {four = four} {six = six} {far = far} {period = period}
-    {before = before} {after = after} {today = today} asked ruling answer result may named looked opened
+all_shown {one = one} {two = two} {three = three} {four = four} {six = six} {far = far} {period =
+    period}
+    {before = before} {after = after} {today = today} asked ruling answer result may named looked
+    opened
     read work last text =
     let names : four.naming ≡ one.naming =
     read.work.naming ∙ opened.work.naming ∙ looked.work.naming in
     let first : Transition = Calls (λ far. far) (far_outcome today asked) (Ok far) in
     let second : Transition = Calls (λ found. found) open_outcome (Ok period) in
     let third : Naming → Transition =
-    λ naming. Calls (λ figures. figures) (figures_outcome naming ruling period.number) (Ok before) in
+    λ naming. Calls (λ figures. figures) (figures_outcome naming ruling period.number)
+    (Ok before) in
     let rest : Naming → Transition = λ naming. Then (AsksWithoutReader naming asked (Ok answer))
     (Calls (λ figures. figures) (figures_outcome naming ruling period.number) (Ok after)) in
     let all : Transition = TriesOnceBy one.naming today asked (dated_by result) in
@@ -502,12 +558,15 @@ all_shown {one = one} {two = two} {three = three} {four = four} {six = six} {far
     read_first all (λ book. refl) was book events is (λ number later.
     read_first all (λ book. refl) was book events is (λ shown both.
     shown_so ruling answer may named (same_value is_far)
-    (ap (λ (found : OpenPeriod). found.number) (same_value number)) (same_value shown) both result text)
+    (ap (λ (found : OpenPeriod). found.number) (same_value number))
+    (same_value shown) both result text)
     later) later))
-    (work_then one two six first (Then second (Then (third one.naming) (rest one.naming))) looked.work
+    (work_then one two six first (Then second (Then (third one.naming)
+    (rest one.naming))) looked.work
     (work_then two three six second (Then (third one.naming) (rest one.naming)) opened.work
     (work_then three four six (third one.naming) (rest one.naming)
-    (subst (λ naming. IsTransition three four (third naming)) (opened.work.naming ∙ looked.work.naming)
+    (subst (λ naming. IsTransition three four (third naming))
+    (opened.work.naming ∙ looked.work.naming)
     read.work)
     (subst (λ naming. IsTransition four six (rest naming)) names
     (read_after asked answer ruling period.number work last)))))

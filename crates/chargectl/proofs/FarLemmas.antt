@@ -25,7 +25,7 @@ use Rattle.chargectl.proofs.Words.{response_by, IsDoneTo, IsOpened, Shelf, done_
 
 -- a ruling may be asked for with any reader
 pub ruling_unread : (asked : Asked) → IsAskableRuling asked → IsAskableUnread asked
-ruling_unread (Rule ruling) may = may
+ruling_unread (Rule ruling said) may = may
 ruling_unread asked may = absurd may
 
 -- ---- what is read
@@ -158,10 +158,10 @@ pub failed_of : (naming : Naming) (today : Option ℤ) (asked : Asked) (fault : 
     → IsAskableRuling asked → (was : Bool) (before : Book) (events : List Event) (is : Bool)
     → Calls (λ (far : Bool). far) (far_outcome today asked) (Err fault) was before events is
     → AsksDated naming today asked (Err fault) None was before events is
-failed_of naming today (Rule ruling) fault may was before events is called =
-    not_asked_for naming today (Rule ruling) fault was before events is
+failed_of naming today (Rule ruling said) fault may was before events is called =
+    not_asked_for naming today (Rule ruling said) fault was before events is
     (record { is = refl; same = refl })
-    (unread _ today (Rule ruling) fault was before events is called)
+    (unread _ today (Rule ruling said) fault was before events is called)
 failed_of naming today asked fault may was before events is called = absurd may
 
 pub failed_dated : (old new : Seen) (today : Option ℤ) (asked : Asked) (fault : LedgerFault)
@@ -179,7 +179,8 @@ once_done : (today : Option ℤ) (asked : Asked) (book : List ℕ) (old new : Sh
     → IsDoneTo book (AsksOnceBy old.naming asked (Some []) dated.answer) old new
 once_done today asked book old new dated done =
     done_as book (AsksDatedBy old.naming today asked dated)
-    (AsksOnceBy old.naming asked (Some []) dated.answer) old new (λ before events is made. made.once)
+    (AsksOnceBy old.naming asked (Some []) dated.answer) old new
+    (λ before events is made. made.once)
     done
 
 -- whatever is told of it, there are such books, or the name is still free

@@ -4,7 +4,7 @@ use Rattle.std.proofs.Common.{◌++◌, Option, Some, None, Result, Ok, Err, ap,
 use Rattle.std.proofs.Common.{sym, IfErr, IfOk, ℤ}
 use Rattle.std.specs.declared.alloc.AllocError.{AllocError}
 use Rattle.book_model.proofs.Std.{bytes_decides}
-use Rattle.book_model.specs.Words.{same_bytes, Book, Event, IsMadeByCalls, Naming, Outcome}
+use Rattle.book_model.specs.Words.{same_bytes, Book, Event, IsMadeByCalls, Naming, Note, Outcome}
 use Rattle.book_model.specs.Words.{book_after, book_of}
 use Rattle.book_model.specs.declared.fault.LedgerFault.TheVariants.{Memory, Store, Reopen}
 use Rattle.book_core.specs.Words.{Calls, listed, MakesAnswered, Transition, NoEvent}
@@ -17,10 +17,12 @@ use Rattle.book_audit.specs.declared.audited.Audited.TheVariants.{Sound, Unsound
 use Rattle.book_lists.specs.Streamed.{WritesAnswerUntil, WritesUntilOrRefuses}
 use Rattle.office.specs.declared.choosing.Chosen.{Chosen}
 use Rattle.office.specs.declared.request.Asked.TheVariants.{Import, ImportBytes, Report, WhatIf}
+use Rattle.office.specs.ImportWorks.{WithholdsImport}
 use Rattle.office.specs.Outcomes.{is_hindered}
 use Rattle.office.specs.Requests.{Asks, Dump, Response}
 use Rattle.named_books.specs.Shelves.{IsTried, IsUntouched}
 use Rattle.office.proofs.ChoiceLemmas.{choices_done}
+use Rattle.office.proofs.ImportWorkLemmas.{import_answered}
 use Rattle.office.proofs.LawLemmas.{asks_done}
 use Rattle.office.proofs.WithholdingLemmas.{so_answered}
 use Rattle.office.specs.declared.withholding.WorksTold.{WorksTold}
@@ -30,7 +32,7 @@ use Rattle.command_line.specs.declared.request.Ruling.{Ruling}
 use Rattle.command_line.specs.declared.fault.ArgumentFault.{ArgumentFault}
 use Rattle.program_output.specs.declared.status.Status.{Status}
 use Rattle.without_books.specs.declared.ended.Ended.{Ended}
-use Rattle.without_books.specs.Faults.{settled_as}
+use Rattle.without_books.specs.Faults.{settled_as, status_by}
 use Rattle.without_books.specs.Inputs.{Files}
 use Rattle.chargectl.specs.declared.choices.ListAnswered.{ListAnswered}
 use Rattle.chargectl.specs.declared.dated_rulings.DatedAnswer.{DatedAnswer}
@@ -51,12 +53,14 @@ use Rattle.chargectl.specs.CommandLaws.{ListOfHistory, ListTriedBy, ListTriedOfH
 use Rattle.chargectl.specs.CommandLaws.{ListsHistoryBy, ListsAskedOfHistory}
 use Rattle.chargectl.specs.CommandLaws.{ListsOfHistory, OpenedSo, RunsOn, ServesEach}
 use Rattle.chargectl.specs.CommandLaws.{ServesHistoryBy, TriedBy, TriesOfHistory, place_after}
-use Rattle.chargectl.specs.CommandLaws.{DumpBy, DumpOfHistory, WorksMade}
+use Rattle.chargectl.specs.CommandLaws.{DumpBy, DumpOfHistory, EntryBy, EntryOfHistory}
+use Rattle.chargectl.specs.CommandLaws.{EntryWorksBy, EntryWorksMade, OnBooksIfNoted, WorksMade}
 use Rattle.chargectl.specs.DryRuns.{ComesOfDryRun, ShowsDry, TriesAndTells, TriesOnceBy}
 use Rattle.chargectl.specs.Far.{is_far_asked}
+use Rattle.chargectl.specs.ImportWorks.{ComesOfEntry, ComesOfWorks, WithholdsEntry, entry_number}
 use Rattle.chargectl.specs.NearRulings.{AsksNear, ComesNear, RulesNear, near_answered}
 use Rattle.chargectl.specs.Requests.{Answering, Does, DoesOrRefuses, IsServiceFault, ServesBy}
-use Rattle.chargectl.specs.Requests.{SettlesBy}
+use Rattle.chargectl.specs.Requests.{SettlesBy, UnlessUnnoted, WaitsAndDoes, wait_for}
 use Rattle.chargectl.specs.StreamedLists.{ListsAsked, ListsBy, WritesSomeOf, list_answer, list_of}
 use Rattle.chargectl.specs.StreamedLists.{listing_answered}
 use Rattle.chargectl.specs.Upgrades.{UpgradesBy}
@@ -149,13 +153,15 @@ called_unmade outcome fault book events is called apart = called.makes.1
 asked_unmade : (naming : Naming) (asked : Asked) (dump : Dump) (fault : LedgerFault) (book : Book)
     (events : List Event) (is : Bool) → Asks naming asked dump (Err fault) false book events is
     → fault ≢ Store → events ≡ []
-asked_unmade naming (Import layout) dump fault book events is made apart = absurd made
-asked_unmade naming (ImportBytes layout bytes) dump fault book events is made apart = absurd made
+asked_unmade naming (Import layout said) dump fault book events is made apart = absurd made
+asked_unmade naming (ImportBytes layout bytes said) dump fault book events is made apart =
+    absurd made
 asked_unmade naming other dump fault book events is made apart =
     called_unmade _ fault book events is made apart
 
 -- what has no event makes none, whatever is told
-called_reads : (outcome : Book → Outcome Response) (told : Result Response LedgerFault) (book : Book)
+called_reads : (outcome : Book → Outcome Response) (told : Result Response LedgerFault)
+    (book : Book)
     (events : List Event) (is : Bool) → (outcome book).event ≡ None
     → Calls (λ (told : Response). told) outcome told false book events is → events ≡ []
 called_reads outcome (Ok value) book events is none called = called.makes.1 ∙ ap listed none
@@ -166,7 +172,8 @@ called_reads outcome (Err Reopen) book events is none called = called.makes
 called_reads outcome (Err fault) book events is none called = called.makes.1
 
 asked_reads : (naming : Naming) (asked : Asked) (dump : Dump) (told : Result Response LedgerFault)
-    (book : Book) (events : List Event) (is : Bool) → Asks naming asked dump told false book events is
+    (book : Book) (events : List Event) (is : Bool)
+    → Asks naming asked dump told false book events is
     → may_change asked ≡ false → events ≡ []
 asked_reads naming (Report report) dump told book events is made read =
     called_reads _ told book events is refl made
@@ -228,7 +235,8 @@ module _ (naming : Naming) (history : List Event) (name : List ℕ) (old new : S
         work = work;
         unmade = λ fault same apart.
             asked_unmade naming asked once.dump fault (book_of history) made it.is
-            (subst (λ told. Asks naming asked once.dump (response_by told) false (book_of history) made
+            (subst (λ told. Asks naming asked once.dump (response_by told) false
+            (book_of history) made
             it.is) same work)
             apart;
         reads = λ read.
@@ -238,7 +246,8 @@ module _ (naming : Naming) (history : List Event) (name : List ℕ) (old new : S
       }
 
   -- the office was asked once
-  asked_on : (book : List ℕ) (asked : Asked) (had : Option (List ℕ)) (told : Result Answer LedgerFault)
+  asked_on : (book : List ℕ) (asked : Asked) (had : Option (List ℕ))
+      (told : Result Answer LedgerFault)
       → IsDoneTo book (AsksOnceBy naming asked had told) old new
       → Step naming history name old new (Where book name (Follows naming history asked had told))
   asked_on book asked had told done =
@@ -249,7 +258,8 @@ module _ (naming : Naming) (history : List Event) (name : List ℕ) (old new : S
   -- it was asked for a ruling whose day had to be near, or not
   near_on : (book : List ℕ) (today : Option ℤ) (asked : Asked) (near : NearAnswer)
       → IsDoneTo book (AsksNear naming today asked near) old new
-      → Step naming history name old new (Where book name (NearFollows naming today history asked near))
+      → Step naming history name old new (Where book name (NearFollows naming today history asked
+      near))
   near_on book today asked (nears.Told told) done =
       step_where
       (λ made it. (
@@ -285,47 +295,69 @@ module _ (naming : Naming) (history : List Event) (name : List ℕ) (old new : S
       (listing_answered answer naming held_bytes holds told) done)
 
   -- what chose records follows the history
-  choices_followed : (withheld : Bool) (names : List (List ℕ)) (told : Result Chosen AllocError)
-      (made : List Event) → Makes (ChoosesBy withheld naming names told) history made
+  choices_followed : (said : Option Note) (withheld : Bool) (names : List (List ℕ))
+      (told : Result Chosen AllocError) (made : List Event)
+      → Makes (ChoosesBy said withheld naming names told) history made
       → ChoicesFollow withheld naming history names told made
-  choices_followed withheld names (Ok chosen) made it =
-      let work = subst (λ book. ChoosesBy withheld naming names (Ok chosen) false book made it.is)
+  choices_followed said withheld names (Ok chosen) made it =
+      let work = subst
+      (λ book. ChoosesBy said withheld naming names (Ok chosen) false book made it.is)
       (books_follow_history history) it.made_so in
       record {
+        said = said;
         left = it.is;
         work = work;
-        is = choices_done withheld naming names chosen.answers.items chosen.refusal (book_of history)
-            made it.is work;
+        is = choices_done said withheld naming names chosen.answers.items chosen.refusal
+            (book_of history) made it.is work;
       }
-  choices_followed withheld names (Err none) made it = it.made_so.none
+  choices_followed said withheld names (Err none) made it = it.made_so.none
 
   -- records were chosen, one after the other
-  chosen_on : (withheld : Bool) (book : List ℕ) (names : List (List ℕ))
-      (told : Result Chosen AllocError) → IsDoneTo book (ChoosesBy withheld naming names told) old new
+  chosen_on : (said : Option Note) (withheld : Bool) (book : List ℕ) (names : List (List ℕ))
+      (told : Result Chosen AllocError)
+      → IsDoneTo book (ChoosesBy said withheld naming names told) old new
       → Step naming history name old new
       (Where book name (ChoicesFollow withheld naming history names told))
-  chosen_on withheld book names told done =
-      step_where (choices_followed withheld names told)
-      (work_on book (ChoosesBy withheld naming names told) (list_answered withheld naming names told)
-      done)
+  chosen_on said withheld book names told done =
+      step_where (choices_followed said withheld names told)
+      (work_on book (ChoosesBy said withheld naming names told)
+      (list_answered said withheld naming names told) done)
 
   -- what withheld works follows the history
-  works_followed : (names : List (List ℕ)) (told : WorksTold) (made : List Event)
-      → Makes (WorksBy naming names told) history made → WorksMade naming history names told made
-  works_followed names told made it = record {
+  works_followed : (said : Option Note) (names : List (List ℕ)) (told : WorksTold)
+      (made : List Event) → Makes (WorksBy said naming names told) history made
+      → WorksMade naming history names told made
+  works_followed said names told made it = record {
+    said = said;
     left = it.is;
-    work = subst (λ book. WorksBy naming names told false book made it.is)
+    work = subst (λ book. WorksBy said naming names told false book made it.is)
         (books_follow_history history) it.made_so;
   }
 
   -- the works of records were withheld, one change after the other
-  withheld_on : (book : List ℕ) (names : List (List ℕ)) (told : WorksTold)
-      → IsDoneTo book (WorksBy naming names told) old new
+  withheld_on : (said : Option Note) (book : List ℕ) (names : List (List ℕ)) (told : WorksTold)
+      → IsDoneTo book (WorksBy said naming names told) old new
       → Step naming history name old new (Where book name (WorksMade naming history names told))
-  withheld_on book names told done =
-      step_where (works_followed names told)
-      (work_on book (WorksBy naming names told)
-      (so_answered naming names told.counts told.refusal) done)
+  withheld_on said book names told done =
+      step_where (works_followed said names told)
+      (work_on book (WorksBy said naming names told)
+      (so_answered said naming names told.counts told.refusal) done)
+
+  -- so were those of the records that came by an entry
+  entry_withheld_on : (said : Option Note) (book : List ℕ) (entry : ℕ)
+      (told : Result WorksTold LedgerFault)
+      → IsDoneTo book (WithholdsImport said naming entry told) old new
+      → Step naming history name old new (Where book name (EntryWorksMade naming history entry
+      told))
+  entry_withheld_on said book entry told done =
+      step_where (λ made it. record {
+        said = said;
+        left = it.is;
+        work = subst (λ book. WithholdsImport said naming entry told false book made it.is)
+            (books_follow_history history) it.made_so;
+      })
+      (work_on book (WithholdsImport said naming entry told)
+      (import_answered said naming entry told) done)
 
   -- or the place refused them, for such a reason
   opened_on : {A : Type 0} (book : List ℕ) (Refuses : RepositoryFault → Type 0)
@@ -383,7 +415,8 @@ module _ (history : List Event) (name : List ℕ) (old new : Shelf)
       (none_on old.naming history name old new answered held book comes.1)
 
   asks_on : (files : Files) (book : List ℕ) (request : BookRequest) (has holds : Option (List ℕ))
-      (Failed : Type 0) (ended : Ended) → AsksAndTells files request book old new has holds Failed ended
+      (Failed : Type 0) (ended : Ended) → AsksAndTells files request book old new has holds Failed
+      ended
       → Step old.naming history name old new
       (Where book name
       (AsksOfHistory files old.naming history (Refuses book) request has holds Failed ended))
@@ -440,9 +473,10 @@ module _ (history : List Event) (name : List ℕ) (old new : Shelf)
         says = comes.came.says;
       })
       (opened_on old.naming history name old new answered held book (Refuses book) (follow book)
-      (ChoosesBy withheld old.naming comes.names)
+      (ChoosesBy comes.came.said withheld old.naming comes.names)
       (ChoicesFollow withheld old.naming history comes.names)
-      (chosen_on old.naming history name old new answered held withheld book comes.names)
+      (chosen_on old.naming history name old new answered held comes.came.said withheld book
+      comes.names)
       comes.came.told comes.came.done)
   list_comes_on withheld had book (Err why) comes =
       step_as (λ made is. (
@@ -456,9 +490,11 @@ module _ (history : List Event) (name : List ℕ) (old new : Shelf)
       (none_on old.naming history name old new answered held book comes.1)
 
   list_on : (withheld : Bool) (had : Option (List ℕ)) (book : List ℕ) (has holds : Option (List ℕ))
-      (Failed : Type 0) (ended : Ended) → ChoosesListed false withheld had book old new has holds Failed ended
+      (Failed : Type 0) (ended : Ended) → ChoosesListed false withheld had book old new has holds
+      Failed ended
       → Step old.naming history name old new
-      (Where book name (ListOfHistory withheld had old.naming history (Refuses book) has holds Failed
+      (Where book name (ListOfHistory withheld had old.naming history
+      (Refuses book) has holds Failed
       ended))
   list_on withheld had book has holds Failed ended it =
       step_where (λ made so. record { came = it.answered; listed = so; tells = it.tells })
@@ -477,9 +513,10 @@ module _ (history : List Event) (name : List ℕ) (old new : Shelf)
         stop = comes.came.stop;
       })
       (opened_on old.naming history name old new answered held book (Refuses book) (follow book)
-      (WorksBy old.naming comes.named.names.items)
+      (WorksBy comes.came.said old.naming comes.named.names.items)
       (WorksMade old.naming history comes.named.names.items)
-      (withheld_on old.naming history name old new answered held book comes.named.names.items)
+      (withheld_on old.naming history name old new answered held comes.came.said book
+      comes.named.names.items)
       told.told comes.came.done)
   dump_comes_on layout had book (Err why) comes =
       step_as (λ made is. (
@@ -501,10 +538,52 @@ module _ (history : List Event) (name : List ℕ) (old new : Shelf)
       step_where (λ made so. record { came = it.answered; withheld = so; tells = it.tells })
       (dump_comes_on layout had book it.answered it.comes)
 
+  -- the works of the records that came by an entry, if the place does not refuse the books,
+  works_come_on : (entry : ℕ) (book : List ℕ) (came : Result WorksAnswered CommandFault)
+      → ComesOfWorks entry book old new came
+      → Step old.naming history name old new
+      (Where book name (EntryWorksBy entry old.naming history (Refuses book) came))
+  works_come_on entry book (Ok told) comes =
+      step_where (λ made follows. record {
+        told = comes.told;
+        follows = follows;
+        says = comes.says;
+        stop = comes.stop;
+      })
+      (opened_on old.naming history name old new answered held book (Refuses book) (follow book)
+      (WithholdsImport comes.said old.naming entry) (EntryWorksMade old.naming history entry)
+      (entry_withheld_on old.naming history name old new answered held comes.said book entry)
+      comes.told comes.done)
+  works_come_on entry book (Err why) comes =
+      step_as (λ made is. (
+        λ _. (shelf_as (old.refuses book) (Refuses book) (follow book) why comes.0, is),
+        λ _. is,
+      ))
+      (none_on old.naming history name old new answered held book comes.1)
+
+  -- if its number is one
+  entry_comes_on : (number : Option ℕ) (book : List ℕ) (came : Result WorksAnswered CommandFault)
+      → ComesOfEntry number book old new came
+      → Step old.naming history name old new
+      (Where book name (EntryBy number old.naming history (Refuses book) came))
+  entry_comes_on (Some entry) book came comes = works_come_on entry book came comes
+  entry_comes_on None book came comes =
+      step_as (λ made is. (λ _. (comes.0, is), λ _. is))
+      (none_on old.naming history name old new answered held book comes.1)
+
+  entry_on : (number : Option ℕ) (book : List ℕ) (has holds : Option (List ℕ)) (Failed : Type 0)
+      (ended : Ended) → WithholdsEntry number book old new has holds Failed ended
+      → Step old.naming history name old new
+      (Where book name
+      (EntryOfHistory number old.naming history (Refuses book) has holds Failed ended))
+  entry_on number book has holds Failed ended it =
+      step_where (λ made so. record { came = it.answered; withheld = so; tells = it.tells })
+      (entry_comes_on number book it.answered it.comes)
+
   -- or they were tried
   names_tried : (withheld : Bool) (book : List ℕ) (names : List (List ℕ))
       (told : Result (Result Chosen AllocError) RepositoryFault)
-      → IsTried (ChoosesBy withheld old.naming names) book old new told
+      → IsTried (ChoosesBy None withheld old.naming names) book old new told
       → Step old.naming history name old new (λ made. (book ≡ name
       → IfOk told (λ chosen. (events : List Event)
       × ChoicesFollow withheld old.naming history names chosen events))
@@ -518,15 +597,18 @@ module _ (history : List Event) (name : List ℕ) (old new : Shelf)
       follows same =
           let found = tried.1 history (subst (λ name. old.holds name history) (sym same) held) in (
             found.0,
-            choices_followed old.naming history name old new answered held withheld names chosen
+            choices_followed old.naming history name old new answered held None withheld names
+                chosen
                 found.0 (record { is = found.1; made_so = found.2 }),
           )
   names_tried withheld book names (Err fault) tried =
       step_as (λ made is. (λ _. tt, follow book fault tried.0, is))
       (none_on old.naming history name old new answered held book tried.1)
 
-  list_tried : (withheld : Bool) (had : Option (List ℕ)) (book : List ℕ) (has holds : Option (List ℕ))
-      (Failed : Type 0) (ended : Ended) → ChoosesListed true withheld had book old new has holds Failed ended
+  list_tried : (withheld : Bool) (had : Option (List ℕ)) (book : List ℕ)
+      (has holds : Option (List ℕ))
+      (Failed : Type 0) (ended : Ended) → ChoosesListed true withheld had book old new has holds
+      Failed ended
       → Step old.naming history name old new
       (Where book name
       (ListTriedOfHistory withheld had old.naming history (Refuses book) has holds Failed ended))
@@ -580,7 +662,8 @@ module _ (history : List Event) (name : List ℕ) (old new : Shelf)
       (none_on old.naming history name old new answered held touched done)
 
   -- a list was written, or why not
-  list_written : (list : StreamedList) (book : List ℕ) (has holds : Option (List ℕ)) (Failed : Type 0)
+  list_written : (list : StreamedList) (book : List ℕ) (has holds : Option (List ℕ))
+      (Failed : Type 0)
       (ended : Ended) → SettlesBy (ListsBy list book old new has holds Failed) ended
       → Step old.naming history name old new
       (Where book name (ListsOfHistory list old.naming history (Refuses book) has holds ended))
@@ -604,11 +687,13 @@ module _ (history : List Event) (name : List ℕ) (old new : Shelf)
           → IsListed list (list_answer list old.naming (book_of history)) (Refuses book) has holds
           told) × (made ≡ []))
       by_told (Ok written) done some =
-          listed_on old.naming history name old new answered held (list_answer list) book has holds written
+          listed_on old.naming history name old new answered held
+          (list_answer list) book has holds written
           done
       by_told (Err Unseen) (refused, inl seen) some =
           step_as (λ made so. (λ _. (follow book Unseen refused, some), so.1))
-          (listed_on old.naming history name old new answered held (list_answer list) book has holds seen.0
+          (listed_on old.naming history name old new answered held
+          (list_answer list) book has holds seen.0
           seen.1)
       by_told (Err Unseen) (refused, inr none) some =
           step_as (λ made is. (λ _. (follow book Unseen refused, some), is))
@@ -671,17 +756,20 @@ module _ (history : List Event) (name : List ℕ) (old new : Shelf)
       (none_on old.naming history name old new answered held book tried.0)
     where
       follows : book ≡ name → is_hindered (response_by dated.answer) ≡ false
-          → ShowsDry old.naming today asked (book_of history) (response_by dated.answer) dated.notice
+          → ShowsDry old.naming today asked (book_of history)
+          (response_by dated.answer) dated.notice
       follows same free =
           let found = tried.1 history (subst (λ name. old.holds name history) (sym same) held) in
-          subst (λ book. ShowsDry old.naming today asked book (response_by dated.answer) dated.notice)
+          subst (λ book. ShowsDry old.naming today asked book
+          (response_by dated.answer) dated.notice)
           (books_follow_history history) (found.2.shows refl free)
   tried_on book today asked (Err fault) tried =
       step_as (λ made is. (λ _. tt, follow book fault tried.0, is))
       (none_on old.naming history name old new answered held book tried.1)
 
   tries_on : (files : Files) (book : List ℕ) (ruling : Ruling) (has holds : Option (List ℕ))
-      (Failed : Type 0) (ended : Ended) → TriesAndTells files ruling book old new has holds Failed ended
+      (Failed : Type 0) (ended : Ended) → TriesAndTells files ruling book old new has holds Failed
+      ended
       → Step old.naming history name old new
       (Where book name
       (TriesOfHistory files old.naming history (Refuses book) ruling has holds Failed ended))
@@ -762,7 +850,8 @@ module _ (history : List Event) (name : List ℕ) (old new : Shelf)
 
 -- from one place to another
 module _ {S : Type 0} (shelf : S → Shelf) (history : List Event) (name : List ℕ) (before after : S)
-    (answered : IsMadeByCalls (shelf before).naming history) (held : (shelf before).holds name history)
+    (answered : IsMadeByCalls (shelf before).naming history) (held :
+    (shelf before).holds name history)
     (Refuses : List ℕ → RepositoryFault → Type 0)
     (follow : (book : List ℕ) (fault : RepositoryFault) → (shelf before).refuses book fault
     → Refuses book fault) where
@@ -772,7 +861,8 @@ module _ {S : Type 0} (shelf : S → Shelf) (history : List Event) (name : List 
       → IfErr served (IsServiceFault (Refuses book))
   cause_as book (Ok failed) cause = tt
   cause_as book (Err why) cause =
-      either_as ((shelf before).refuses book) (Refuses book) (follow book) (IsFileFault why) why cause
+      either_as ((shelf before).refuses book) (Refuses book) (follow book)
+      (IsFileFault why) why cause
 
   -- connections in turn, or none
   serves_on : (book : List ℕ) (requests : ℕ) (has holds : Option (List ℕ)) (Failed : Type 0)
@@ -780,7 +870,8 @@ module _ {S : Type 0} (shelf : S → Shelf) (history : List Event) (name : List 
       → ServesBy shelf requests book before after has holds Failed came
       → Step (shelf before).naming history name (shelf before) (shelf after)
       (Where book name
-      (λ made. ServesHistoryBy (shelf before).naming history (Refuses book) requests has holds Failed
+      (λ made. ServesHistoryBy (shelf before).naming history (Refuses book) requests has holds
+      Failed
       came made))
   serves_on book requests has holds Failed (Ok ended) it =
       step_where (λ made made_it. record {
@@ -798,34 +889,46 @@ module _ {S : Type 0} (shelf : S → Shelf) (history : List Event) (name : List 
       (turn_done shelf book before after it.told it.turn))
   serves_on book requests has holds Failed (Err why) it =
       step_as (λ made is. (
-        λ _. (shelf_as ((shelf before).refuses book) (Refuses book) (follow book) why it.0, it.2, is),
+        λ _. (
+          shelf_as ((shelf before).refuses book) (Refuses book)
+              (follow book) why it.0,
+          it.2,
+          is,
+        ),
         λ _. is,
       ))
-      (none_on (shelf before).naming history name (shelf before) (shelf after) answered held book it.1)
+      (none_on (shelf before).naming history name (shelf before)
+      (shelf after) answered held book it.1)
 
   does_on : (files : Files) (book : List ℕ) (request : BookRequest) (has holds : Option (List ℕ))
-      (Failed : Type 0) (ended : Ended) → Does files shelf request book before after has holds Failed ended
+      (Failed : Type 0) (ended : Ended) → Does files shelf request book before after has holds
+      Failed ended
       → Step (shelf before).naming history name (shelf before) (shelf after)
       (Where book name
-      (DoesToHistory files (shelf before).naming history (Refuses book) request has holds Failed ended))
+      (DoesToHistory files (shelf before).naming history (Refuses book) request has holds Failed
+      ended))
   does_on files book asks.Init has holds Failed ended does =
       still_on history name (shelf before) (shelf after) answered held Refuses follow book book
       does.done.kept
   does_on files book asks.Upgrade has holds Failed ended does =
-      upgrades_on history name (shelf before) (shelf after) answered held Refuses follow book has holds
+      upgrades_on history name (shelf before) (shelf after) answered held Refuses follow book has
+      holds
       Failed does.came does.does
   does_on files book (asks.Audit quiet) has holds Failed ended does =
       step_where (λ made so. record { came = does.came; audits = so; ends = does.ends })
-      (audits_on history name (shelf before) (shelf after) answered held Refuses follow book has holds
+      (audits_on history name (shelf before) (shelf after) answered held Refuses follow book has
+      holds
       Failed does.came does.does)
   does_on files book (asks.BackUp copy quiet) has holds Failed ended does =
-      backs_up_on history name (shelf before) (shelf after) answered held Refuses follow book copy.now
+      backs_up_on history name (shelf before) (shelf after) answered held Refuses follow book
+      copy.now
       has holds Failed does.came does.does
   does_on files book (asks.Serve port requests) has holds Failed ended does =
       step_where (λ made so. record { came = does.came; serves = so; ends = does.ends })
       (serves_on book requests has holds Failed does.came does.does)
   does_on files book (asks.List asked) has holds Failed ended does =
-      list_asked history name (shelf before) (shelf after) answered held Refuses follow (list_of asked)
+      list_asked history name (shelf before) (shelf after) answered held Refuses follow
+      (list_of asked)
       book has holds Failed ended does
   does_on files book (asks.ChooseListed withheld file) has holds Failed ended does =
       list_on history name (shelf before) (shelf after) answered held Refuses follow withheld
@@ -836,14 +939,20 @@ module _ {S : Type 0} (shelf : S → Shelf) (history : List Event) (name : List 
   does_on files book (asks.WithholdDump file layout) has holds Failed ended does =
       dump_on history name (shelf before) (shelf after) answered held Refuses follow layout
       (files.holds file.now) book has holds Failed ended does
+  does_on files book (asks.WithholdImport number) has holds Failed ended does =
+      entry_on history name (shelf before) (shelf after) answered held Refuses follow
+      (entry_number number.now) book has holds Failed ended does
   does_on files book (asks.DryRun ruling) has holds Failed ended does =
-      tries_on history name (shelf before) (shelf after) answered held Refuses follow files book ruling
+      tries_on history name (shelf before) (shelf after) answered held Refuses follow files book
+      ruling
       has holds Failed ended does
   does_on files book (asks.RuleNear ruling) has holds Failed ended does =
-      near_rules_on history name (shelf before) (shelf after) answered held Refuses follow files book
+      near_rules_on history name (shelf before) (shelf after) answered held Refuses follow files
+      book
       ruling has holds Failed ended does
   does_on files book request has holds Failed ended does =
-      asks_on history name (shelf before) (shelf after) answered held Refuses follow files book request
+      asks_on history name (shelf before) (shelf after) answered held Refuses follow files book
+      request
       has holds Failed ended does
 
 -- the place of the books is as it was
@@ -858,6 +967,40 @@ same_place shelf history name old new answered held same = record {
   named = ap (λ place. (shelf place).naming) same;
 }
 
+-- a request on books was done, or there was no memory for its note
+noted_on : {S : Type 0} (files : Files) (shelf : S → Shelf) (waits : S → ℕ → Type 0)
+    (history : List Event) (name : List ℕ) (old new : S)
+    → IsMadeByCalls (shelf old).naming history → (shelf old).holds name history
+    → (book : List ℕ) (seconds : ℕ) (asked : BookRequest) (has holds : Option (List ℕ))
+    (Failed : Type 0) (ended : Ended) (status : Status)
+    → status ≡ status_by ended
+    → UnlessUnnoted old new has holds ended
+    (WaitsAndDoes files shelf waits old new seconds asked book has holds Failed ended)
+    → Step (shelf old).naming history name (shelf old) (shelf new)
+    (OnBooksIfNoted files (shelf old).naming name book history ((shelf old).refuses book) asked has
+    holds Failed status)
+noted_on files shelf waits history name old new answered held book seconds asked has holds Failed
+    ended
+    status ends (inr none) =
+    step_as (λ made is. inr is) (same_place shelf history name old new answered held none.0)
+noted_on files shelf waits history name old new answered held book seconds asked has holds Failed
+    ended
+    status ends (inl it) =
+    let same = it.same.naming in
+    let calls = subst (λ naming. IsMadeByCalls naming history) (sym same) answered in
+    let step = does_on shelf history name it.waiting new calls (it.same.holds name history held)
+    (shelf old).refuses it.same.refuses files book asked has holds Failed ended it.does in
+    step_as (λ made so. inl (record {
+      ended = ended;
+      ends = ends;
+      here = so.0;
+      elsewhere = so.1;
+    }))
+    (subst (λ naming. Step naming history name (shelf old) (shelf new)
+    (Where book name
+    (DoesToHistory files naming history ((shelf old).refuses book) asked has holds Failed ended)))
+    same (step_from same step))
+
 runs_on : {S : Type 0} (files : Files) (shelf : S → Shelf) (waits : S → ℕ → Type 0)
     (history : List Event) (name : List ℕ) (old new : S)
     → IsMadeByCalls (shelf old).naming history → (shelf old).holds name history
@@ -866,34 +1009,31 @@ runs_on : {S : Type 0} (files : Files) (shelf : S → Shelf) (waits : S → ℕ 
     → DoesOrRefuses files shelf waits old new asked had has holds Failed Says status
     → Step (shelf old).naming history name (shelf old) (shelf new)
     (RunsOn files (shelf old).naming name history (shelf old).refuses asked has holds Failed status)
-runs_on files shelf waits history name old new answered held (Ok (request.OfBooks book wait asked)) had has
-    holds Failed Says status done =
-    let it = done.1 in
-    let same = it.same.naming in
-    let calls = subst (λ naming. IsMadeByCalls naming history) (sym same) answered in
-    let step = does_on shelf history name it.waiting new calls (it.same.holds name history held)
-    (shelf old).refuses it.same.refuses files book.now asked has holds Failed done.0 it.does in
-    step_as (λ made so. record { ended = done.0; ends = done.2; here = so.0; elsewhere = so.1 })
-    (subst (λ naming. Step naming history name (shelf old) (shelf new)
-    (Where book.now name
-    (DoesToHistory files naming history ((shelf old).refuses book.now) asked has holds Failed done.0))) same
-    (step_from same step))
+runs_on files shelf waits history name old new answered held
+    (Ok (request.OfBooks book wait note asked)) had has holds Failed Says status done =
+    noted_on files shelf waits history name old new answered held book.now
+    (wait_for asked wait) asked
+    has holds Failed done.0 status done.2 done.1
 runs_on files shelf waits history name old new answered held
     (Ok (request.Trial layout cpu excp fee whole)) had has holds Failed Says status done =
     same_place shelf history name old new answered held done.1.0
 runs_on files shelf waits history name old new answered held
     (Ok (request.TrialUnder layout file whole)) had has holds Failed Says status done =
     same_place shelf history name old new answered held done.1.0
-runs_on files shelf waits history name old new answered held (Ok (request.Unclear why)) had has holds Failed
+runs_on files shelf waits history name old new answered held (Ok
+    (request.Unclear why)) had has holds Failed
     Says status done =
     same_place shelf history name old new answered held done.1.0
-runs_on files shelf waits history name old new answered held (Ok (request.Check dump names)) had has holds Failed
+runs_on files shelf waits history name old new answered held (Ok
+    (request.Check dump names)) had has holds Failed
     Says status done =
     same_place shelf history name old new answered held done.1.0
-runs_on files shelf waits history name old new answered held (Ok (request.Explain kind number)) had has
+runs_on files shelf waits history name old new answered held (Ok
+    (request.Explain kind number)) had has
     holds Failed Says status done =
     same_place shelf history name old new answered held done.1.0
-runs_on files shelf waits history name old new answered held (Err fault) had has holds Failed Says status
+runs_on files shelf waits history name old new answered held (Err fault) had has holds Failed Says
+    status
     done =
     same_place shelf history name old new answered held done.0
 
@@ -909,7 +1049,8 @@ in_turn : {S O E : Type 0} (shelf : S → Shelf) (waits : S → ℕ → Type 0)
     (place_after before commands)
 in_turn shelf waits contents may_answer Says naming name start before [] names answered held done =
     record { end = start; done = refl; held = held }
-in_turn shelf waits contents may_answer Says naming name start before (command ∷ later) names answered
+in_turn shelf waits contents may_answer Says naming name start before
+    (command ∷ later) names answered
     held done =
     let one = done.0 in
     let Failed : Type 0 = ∥ HasFailed may_answer command.holds ∥₁ in
@@ -937,7 +1078,9 @@ pub commands_follow_history : {S O E : Type 0} (shelf : S → Shelf) (waits : S 
     (contents : O → Option (List ℕ)) (may_answer : Answering O)
     (Says : List (List ℕ) → E → E → Type 0)
     → CommandsFollowHistory shelf waits contents may_answer Says
-commands_follow_history shelf waits contents may_answer Says name start before commands answered held
+commands_follow_history shelf waits contents may_answer Says name start before commands answered
+    held
     done =
-    in_turn shelf waits contents may_answer Says (shelf before).naming name start before commands refl
+    in_turn shelf waits contents may_answer Says (shelf before).naming name start before commands
+    refl
     answered held done

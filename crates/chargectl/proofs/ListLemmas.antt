@@ -56,7 +56,8 @@ front_shown remaining reader buffered front behind empty size limit inner =
 
 -- these bytes of a reader came, and with whatever comes after them the text is no list of names: so it
 -- is with all that the reader had
-pub front_refused : (had first left : Option (List ℕ)) (text : List ℕ) (byte : ℕ) (found : NamesFault)
+pub front_refused : (had first left : Option (List ℕ)) (text : List ℕ) (byte : ℕ)
+    (found : NamesFault)
     → Consumes first left (text ++ byte ∷ []) → first ≡ had
     → ((more : List ℕ) → IsNamesFault (names_in (text ++ byte ∷ more)) found)
     → IfSome had (λ bytes. IsNamesFault (names_in bytes) found)
@@ -89,7 +90,8 @@ all_refused (Some bytes) first left text found came same ended refused =
 -- why a text is no list of names, and all that a reader had
 pub no_list : (had : Option (List ℕ)) (text : List ℕ) (found : NamesFault)
     → IsNamesFault (names_in text) found
-    → IfSome had (λ bytes. IsNamesFault (names_in bytes) found) → IsListFault had (names_fault found)
+    → IfSome had (λ bytes. IsNamesFault (names_in bytes) found)
+    → IsListFault had (names_fault found)
 no_list had text names.Memory read all = inl (OutOfMemory, refl)
 no_list had text (names.Line number) read all =
     inr (record { text = text; found = names.Line number; read = read; all = all; is = refl })
@@ -97,14 +99,15 @@ no_list had text names.TooMany read all =
     inr (record { text = text; found = names.TooMany; read = read; all = all; is = refl })
 
 -- a visit that chose the records of names, or had no memory for the answers
-pub choices_made : {L : Type 0} (withheld : Bool) (seen : L → Seen) (old new : L) (names : List (List ℕ))
+pub choices_made : {L : Type 0} (said : Option Note) (withheld : Bool) (seen : L → Seen)
+    (old new : L) (names : List (List ℕ))
     (told : Result Chosen AllocError)
     → IfOk told (λ chosen. IsTransition (seen old) (seen new)
-    (ChoosesEach withheld (seen old).naming names chosen.answers.items chosen.refusal))
+    (ChoosesEach said withheld (seen old).naming names chosen.answers.items chosen.refusal))
     → OnErr told (new ≡ old)
-    → IsTransition (seen old) (seen new) (ChoosesBy withheld (seen old).naming names told)
-choices_made withheld seen old new names (Ok chosen) made none = made
-choices_made withheld seen old new names (Err fault) made none =
+    → IsTransition (seen old) (seen new) (ChoosesBy said withheld (seen old).naming names told)
+choices_made said withheld seen old new names (Ok chosen) made none = made
+choices_made said withheld seen old new names (Err fault) made none =
     subst (λ now. IsTransition (seen old) (seen now) NoEvent) (sym none) (no_work (seen old))
 
 -- nothing was chosen, and this is why
@@ -112,6 +115,7 @@ pub not_listed : (tried withheld : Bool) (had : Option (List ℕ)) (book : List 
     (result : Result ListAnswered CommandFault) (found : CommandFault) → IsErr result
     → IsErrAnd result (λ why. why ≡ found) → ChoosesNothing had (shelf.refuses book) found
     → ComesOfList tried withheld had book shelf shelf result
-not_listed tried withheld had book shelf (Ok answered) found bad is why = absurd (true≢false (sym bad))
+not_listed tried withheld had book shelf (Ok answered) found bad is why = absurd
+    (true≢false (sym bad))
 not_listed tried withheld had book shelf (Err fault) found bad is why =
     (subst (ChoosesNothing had (shelf.refuses book)) (sym is) why, untouched book shelf)

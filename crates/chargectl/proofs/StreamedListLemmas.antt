@@ -11,14 +11,16 @@ use Rattle.chargectl.proofs.Words.{ComesBy, IsDoneTo, IsOpened, Shelf, done_as}
 use Rattle.chargectl.specs.declared.streamed_lists.StreamedList.TheVariants as list
 
 -- a prefix stays written
-prefix_kept : (text : List ℕ) (held has holds : Option (List ℕ)) (told : Result (Unit {0}) ReportFault)
+prefix_kept : (text : List ℕ) (held has holds : Option (List ℕ))
+    (told : Result (Unit {0}) ReportFault)
     → Keeps has holds → WritesPrefix text held has told → WritesPrefix text held holds told
 prefix_kept text held has holds (Ok done) kept grown = Appends-kept held has holds text grown kept
 prefix_kept text held has holds (Err fault) kept cut =
     (cut.0, Appends-kept held has holds (take cut.0 text) cut.1 kept)
 
 -- also one that is not the whole
-until_kept : (text : List ℕ) (held has holds : Option (List ℕ)) (told : Result (Unit {0}) ReportFault)
+until_kept : (text : List ℕ) (held has holds : Option (List ℕ))
+    (told : Result (Unit {0}) ReportFault)
     → Keeps has holds → WritesUntil text held has told → WritesUntil text held holds told
 until_kept text held has holds (Ok done) kept grown = Appends-kept held has holds text grown kept
 until_kept text held has holds (Err fault) kept cut =
@@ -43,8 +45,11 @@ some_kept list.Rulings held has holds told kept some =
     (some.0, prefix_kept _ held has holds told kept some.1)
 some_kept (list.Disputes form) held has holds told kept some =
     (some.0, prefix_kept _ held has holds told kept some.1)
+some_kept (list.Journal form) held has holds told kept some =
+    (some.0, prefix_kept _ held has holds told kept some.1)
 
-module _ (list : StreamedList) (book : List ℕ) (old new : Shelf) (held has holds : Option (List ℕ)) (kept : Keeps has holds)
+module _ (list : StreamedList) (book : List ℕ) (old new : Shelf) (held has holds : Option (List ℕ))
+    (kept : Keeps has holds)
   where
     done_kept : (told : Result (Unit {0}) ReportFault) → (IsErr told → holds ≡ has)
         → IsDoneTo book (WritesAnswerUntil (list_answer list) old.naming held has told) old new
@@ -61,7 +66,8 @@ module _ (list : StreamedList) (book : List ℕ) (old new : Shelf) (held has hol
         done
 
     -- a list that failed is not flushed
-    still_of : (written : Result (Unit {0}) ReportFault) → (IsErr (list_end (Ok written)) → holds ≡ has)
+    still_of : (written : Result (Unit {0}) ReportFault) → (IsErr (list_end (Ok written))
+        → holds ≡ has)
         → IsErr written → holds ≡ has
     still_of (Ok done) still bad = absurd (true≢false (sym bad))
     still_of (Err fault) still bad = still refl

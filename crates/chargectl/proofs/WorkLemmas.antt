@@ -8,7 +8,7 @@ use Rattle.streams.specs.InputOutput.{Input}
 use Rattle.book_import.specs.DumpNames.{AreNamed}
 use Rattle.book_import.specs.ReadLimits.{most_reads}
 use Rattle.book_import.specs.declared.names_in_dumps.DumpNames.{DumpNames}
-use Rattle.book_import.specs.declared.receipt.Stop.{Stop}
+use Rattle.book_model.specs.declared.note.Stop.{Stop}
 use Rattle.named_books.proofs.ShelfLemmas.{untouched}
 use Rattle.chargectl.specs.WithheldWorks.{ComesOfDump, IsNamedOf, WithholdsNothing}
 use Rattle.chargectl.specs.declared.withheld_works.WorksAnswered.{WorksAnswered}

@@ -5,7 +5,7 @@ use Rattle.std.specs.Prelude.{slice_index, take, Option, Some, None, IfSome, Res
 use Rattle.std.specs.Prelude.{option_map}
 use Rattle.std.specs.declared.alloc.AllocError.{AllocError}
 use Rattle.book_model.specs.declared.fault.LedgerFault.{LedgerFault}
-use Rattle.book_model.specs.Words.{Naming}
+use Rattle.book_model.specs.Words.{Naming, Note}
 use Rattle.book_core.specs.Words.{MakesAnswered, NoEvent, Transition}
 use Rattle.book_core.proofs.FollowLemmas.{none_answered}
 use Rattle.office.specs.declared.choosing.Chosen.{Chosen}
@@ -59,31 +59,35 @@ IsListFault had why = IsFileFault why ⊎ IsNoList had why
 
 -- what a visit to the books did that chose the records of these names; without memory for the answers
 -- it chose none
-abbrev pub ChoosesBy : Bool → Naming → List (List ℕ) → Result Chosen AllocError → Transition
-ChoosesBy withheld naming names (Ok chosen) =
-    ChoosesEach withheld naming names chosen.answers.items chosen.refusal
-ChoosesBy withheld naming names (Err none) = NoEvent
+abbrev pub ChoosesBy : Option Note → Bool → Naming → List (List ℕ) → Result Chosen AllocError
+    → Transition
+ChoosesBy said withheld naming names (Ok chosen) =
+    ChoosesEach said withheld naming names chosen.answers.items chosen.refusal
+ChoosesBy said withheld naming names (Err none) = NoEvent
 
 -- it makes events that the books answered
-pub list_answered : (withheld : Bool) (naming : Naming) (names : List (List ℕ))
-    (told : Result Chosen AllocError)
-    → MakesAnswered naming (ChoosesBy withheld naming names told)
-list_answered withheld naming names (Ok chosen) =
-    choices_answered withheld naming names chosen.answers.items chosen.refusal
-list_answered withheld naming names (Err none) = none_answered naming
+pub list_answered : (said : Option Note) (withheld : Bool) (naming : Naming)
+    (names : List (List ℕ)) (told : Result Chosen AllocError)
+    → MakesAnswered naming (ChoosesBy said withheld naming names told)
+list_answered said withheld naming names (Ok chosen) =
+    choices_answered said withheld naming names chosen.answers.items chosen.refusal
+list_answered said withheld naming names (Err none) = none_answered naming
 
 -- what came of choices, or why none were made
-abbrev pub chosen_of : Result (Result Chosen AllocError) RepositoryFault → Result Chosen CommandFault
+abbrev pub chosen_of : Result (Result Chosen AllocError) RepositoryFault
+    → Result Chosen CommandFault
 chosen_of (Ok (Ok chosen)) = Ok chosen
 chosen_of (Ok (Err none)) = Err (fault.Ledger ledger.Memory)
 chosen_of (Err shelf) = Err (shelf_fault shelf)
 
 -- The books of a name were opened, if there are any, and the records of these names chosen, one after the
 -- other.
-pub record IsListAnswered (withheld : Bool) (names : List (List ℕ)) (book : List ℕ) (old new : Shelf)
+pub record IsListAnswered (withheld : Bool) (names : List (List ℕ)) (book : List ℕ)
+    (old new : Shelf)
     (answered : ListAnswered) : Type 0 where
+  pub said : Option Note
   pub told : Result (Result Chosen AllocError) RepositoryFault
-  pub done : IsOpened (ChoosesBy withheld old.naming names) book old new told
+  pub done : IsOpened (ChoosesBy said withheld old.naming names) book old new told
   pub there : IsThere book old new told
   pub says : answered.chosen ≡ chosen_of told
   pub log : new.has_log book answered.has_log
@@ -93,7 +97,7 @@ pub record IsListAnswered (withheld : Bool) (names : List (List ℕ)) (book : Li
 pub record IsListTried (withheld : Bool) (names : List (List ℕ)) (book : List ℕ) (old new : Shelf)
     (answered : ListAnswered) : Type 0 where
   pub told : Result (Result Chosen AllocError) RepositoryFault
-  pub tried : IsTried (ChoosesBy withheld old.naming names) book old new told
+  pub tried : IsTried (ChoosesBy None withheld old.naming names) book old new told
   pub there : IsThere book old new told
   pub says : answered.chosen ≡ chosen_of told
   pub log : new.has_log book answered.has_log
@@ -101,11 +105,14 @@ pub record IsListTried (withheld : Bool) (names : List (List ℕ)) (book : List 
 
 -- the one or the other, as it is asked for
 abbrev pub IsListBy : Bool → Bool → List (List ℕ) → List ℕ → Shelf → Shelf → ListAnswered → Type 0
-IsListBy true withheld names book old new answered = IsListTried withheld names book old new answered
-IsListBy false withheld names book old new answered = IsListAnswered withheld names book old new answered
+IsListBy true withheld names book old new answered = IsListTried withheld names book old new
+    answered
+IsListBy false withheld names book old new answered = IsListAnswered withheld names book old new
+    answered
 
 -- so with the names of a list in a file that had these bytes
-pub record AnswersList (tried withheld : Bool) (had : Option (List ℕ)) (book : List ℕ) (old new : Shelf)
+pub record AnswersList (tried withheld : Bool) (had : Option (List ℕ)) (book : List ℕ)
+    (old new : Shelf)
     (answered : ListAnswered) : Type 0 where
   pub names : List (List ℕ)
   pub lines : List ℕ
@@ -158,7 +165,8 @@ TellsChoices (Ok chosen) lines held holds Failed came =
 TellsChoices (Err why) lines held holds Failed came = (holds ≡ held) × (came ≡ Err why)
 
 -- with what the books left, which may have changed
-pub record TellsListAnswered (answered : ListAnswered) (held holds : Option (List ℕ)) (Failed : Type 0)
+pub record TellsListAnswered (answered : ListAnswered) (held holds : Option (List ℕ))
+    (Failed : Type 0)
     (ended : Ended) : Type 0 where
   pub told : TellsChoices answered.chosen answered.lines.items held holds Failed ended.came
   pub log : ended.has_log ≡ answered.has_log
@@ -172,7 +180,8 @@ TellsList (Ok answered) held holds Failed ended = TellsListAnswered answered hel
 TellsList (Err why) held holds Failed ended = (holds ≡ held) × (ended ≡ without_log (Err why))
 
 -- The command, or a dry run of it: what came of the list, and what was told of that.
-pub record ChoosesListed (tried withheld : Bool) (had : Option (List ℕ)) (book : List ℕ) (old new : Shelf)
+pub record ChoosesListed (tried withheld : Bool) (had : Option (List ℕ)) (book : List ℕ)
+    (old new : Shelf)
     (held holds : Option (List ℕ)) (Failed : Type 0) (ended : Ended) : Type 0 where
   pub answered : Result ListAnswered CommandFault
   pub comes : ComesOfList tried withheld had book old new answered

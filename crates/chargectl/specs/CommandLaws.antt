@@ -1,7 +1,7 @@
 -- Commands, one after the other, on books that are kept by their names: each tells what the definitions
 -- give for the whole history before it.
-use Rattle.std.specs.Prelude.{◌≡◌, ◌≢◌, ⊤, Bool, false, ℕ, List, [], ◌∷◌, ◌++◌, Option, None, Some}
-use Rattle.std.specs.Prelude.{IfErr, IfOk, OnErr, OnOk, Result, Ok, Err, String, true, ℤ}
+use Rattle.std.specs.Prelude.{◌≡◌, ◌≢◌, ◌⊎◌, ⊤, Bool, false, ℕ, List, [], ◌∷◌, ◌++◌, Option, None}
+use Rattle.std.specs.Prelude.{IfErr, IfOk, OnErr, OnOk, Result, Ok, Err, Some, String, true, ℤ}
 use Rattle.std.specs.Global.{Global}
 use Rattle.std.specs.declared.alloc.AllocError.{AllocError}
 use Rattle.smf_frames.specs.declared.dump.Layout.{Layout}
@@ -10,7 +10,8 @@ use Rattle.streams.specs.InputOutput.{Input}
 use Rattle.tariff_rules.specs.Limits.{most_rate}
 use Rattle.book_model.specs.declared.fault.LedgerFault.{LedgerFault}
 use Rattle.book_model.specs.declared.fault.LedgerFault.TheVariants.{Store}
-use Rattle.book_model.specs.Words.{Book, Event, IsMadeByCalls, Naming, book_after, book_of}
+use Rattle.book_model.specs.declared.note.Stop.TheVariants.{End}
+use Rattle.book_model.specs.Words.{Book, Event, IsMadeByCalls, Naming, Note, book_after, book_of}
 use Rattle.book_core.specs.Transition.{Transition, NoEvent, Then}
 use Rattle.book_audit.specs.Counts.{AreCountsOf}
 use Rattle.book_audit.specs.declared.audited.Audited.{Audited}
@@ -25,6 +26,8 @@ use Rattle.named_books.specs.declared.repository.RepositoryFault.{RepositoryFaul
 use Rattle.office.specs.declared.request.Answer.{Answer}
 use Rattle.office.specs.declared.request.Asked.{Asked}
 use Rattle.office.specs.Choices.{ChoosesEach, are_hindered, choices_outcome}
+use Rattle.office.specs.ImportWorks.{WithholdsImport}
+use Rattle.office.specs.Laws.{but_for_entries}
 use Rattle.office.specs.Outcomes.{asked_outcome, is_hindered}
 use Rattle.office.specs.Requests.{Asks, Dump, Gives, response_by}
 use Rattle.office.specs.Withholdings.{WithholdsSo}
@@ -57,6 +60,7 @@ use Rattle.chargectl.specs.declared.near_rulings.NearAnswer.{NearAnswer}
 use Rattle.chargectl.specs.declared.near_rulings.NearAnswer.TheVariants as nears
 use Rattle.chargectl.specs.DryRuns.{ShowsDry}
 use Rattle.chargectl.specs.Far.{is_far_asked}
+use Rattle.chargectl.specs.ImportWorks.{entry_number, told_of}
 use Rattle.chargectl.specs.NearRulings.{near_answer_of}
 use Rattle.chargectl.specs.Requests.{Answering, CommandsBy, IsServiceFault, WritesEarly, WritesLines}
 use Rattle.chargectl.specs.StreamedLists.{WritesSomeOf, list_answer, list_end, list_of}
@@ -95,7 +99,7 @@ AreCommanded shelf waits contents may_answer Says before (command ∷ later) =
 -- newest first. A refusal made none, and neither did a lack of memory: a fault of the store alone leaves
 -- it open whether the events of the answer were made. What only reads made none, whatever it told. Unless
 -- a lack of memory or the store hindered it, all of this is what the definitions say of the history,
--- looked at as a whole.
+-- looked at as a whole, but for what an import said of itself.
 pub record Follows (naming : Naming) (history : List Event) (asked : Asked) (had : Option (List ℕ))
     (told : Result Answer LedgerFault) (made : List Event) : Type 0 where
   pub dump : Dump
@@ -108,7 +112,7 @@ pub record Follows (naming : Naming) (history : List Event) (asked : Asked) (had
   pub reads : may_change asked ≡ false → made ≡ []
   pub is : is_hindered (response_by told) ≡ false
       → asked_outcome naming asked dump (book_of history)
-      ≡ record { told = response_by told; events = made }
+      ≡ record { told = response_by told; events = but_for_entries asked made }
 
 -- so it is of the answer of a visit and the events that it made; where the place refused the books,
 -- for such a reason, none were made
@@ -149,7 +153,8 @@ pub record AsksOfHistory (files : Files) (naming : Naming) (history : List Event
 -- What the words ask was tried on the books of a history, and so it was told and noticed: unless a lack of
 -- memory or the store hindered it, that is what the definitions say of the history.
 pub record TriedOn (files : Files) (naming : Naming) (history : List Event)
-    (Refuses : RepositoryFault → Type 0) (request : BookRequest) (answered : Answered) : Type 0 where
+    (Refuses : RepositoryFault → Type 0) (request : BookRequest)
+    (answered : Answered) : Type 0 where
   pub asked : Asked
   pub words : IsAskedBy files request asked
   pub told : Result DatedAnswer RepositoryFault
@@ -217,11 +222,12 @@ pub record NearOfHistory (files : Files) (naming : Naming) (history : List Event
 -- looked at as a whole.
 pub record ChoicesMade (withheld : Bool) (naming : Naming) (history : List Event)
     (names : List (List ℕ)) (chosen : Chosen) (made : List Event) : Type 0 where
+  pub said : Option Note
   pub left : Bool
-  pub work : ChoosesEach withheld naming names chosen.answers.items chosen.refusal false
+  pub work : ChoosesEach said withheld naming names chosen.answers.items chosen.refusal false
       (book_of history) made left
   pub is : are_hindered chosen.refusal ≡ false
-      → choices_outcome withheld naming names (book_of history) ≡ record {
+      → choices_outcome said withheld naming names (book_of history) ≡ record {
         answers = chosen.answers.items;
         refusal = chosen.refusal;
         events = made;
@@ -236,7 +242,8 @@ ChoicesFollow withheld naming history names (Err none) made = made ≡ []
 
 -- the names of a list, in a file that had these bytes, were chosen, and so it was told
 pub record ListOf (withheld : Bool) (had : Option (List ℕ)) (naming : Naming) (history : List Event)
-    (Refuses : RepositoryFault → Type 0) (answered : ListAnswered) (made : List Event) : Type 0 where
+    (Refuses : RepositoryFault → Type 0) (answered : ListAnswered)
+    (made : List Event) : Type 0 where
   pub names : List (List ℕ)
   pub lines : List ℕ
   pub listed : AreListed names lines
@@ -252,7 +259,8 @@ abbrev pub ListBy : Bool → Option (List ℕ) → Naming → List Event → (Re
     → Result ListAnswered CommandFault → List Event → Type 0
 ListBy withheld had naming history Refuses (Ok answered) made =
     ListOf withheld had naming history Refuses answered made
-ListBy withheld had naming history Refuses (Err why) made = ChoosesNothing had Refuses why × (made ≡ [])
+ListBy withheld had naming history Refuses (Err why) made = ChoosesNothing had Refuses why ×
+    (made ≡ [])
 
 -- and that was written
 pub record ListOfHistory (withheld : Bool) (had : Option (List ℕ)) (naming : Naming)
@@ -265,7 +273,8 @@ pub record ListOfHistory (withheld : Bool) (had : Option (List ℕ)) (naming : N
 -- The names of a list, in a file that had these bytes, were chosen on a copy of the books of a history, and so
 -- it was told: as if they had been chosen.
 pub record ListTriedOf (withheld : Bool) (had : Option (List ℕ)) (naming : Naming)
-    (history : List Event) (Refuses : RepositoryFault → Type 0) (answered : ListAnswered) : Type 0 where
+    (history : List Event) (Refuses : RepositoryFault
+    → Type 0) (answered : ListAnswered) : Type 0 where
   pub names : List (List ℕ)
   pub lines : List ℕ
   pub listed : AreListed names lines
@@ -299,12 +308,16 @@ pub record ListTriedOfHistory (withheld : Bool) (had : Option (List ℕ)) (namin
 -- the events before it.
 pub record WorksMade (naming : Naming) (history : List Event) (names : List (List ℕ))
     (told : WorksTold) (made : List Event) : Type 0 where
+  pub said : Option Note
   pub left : Bool
-  pub work : WithholdsSo naming names told.counts told.refusal false (book_of history) made left
+  pub work : WithholdsSo said naming names told.counts told.refusal false
+      (book_of history) made left
 
 -- so were those of a dump, in a file that had these bytes
-pub record WorksOf (layout : Layout) (had : Option (List ℕ)) (naming : Naming) (history : List Event)
-    (Refuses : RepositoryFault → Type 0) (answered : WorksAnswered) (made : List Event) : Type 0 where
+pub record WorksOf (layout : Layout) (had : Option (List ℕ)) (naming : Naming)
+    (history : List Event)
+    (Refuses : RepositoryFault → Type 0) (answered : WorksAnswered)
+    (made : List Event) : Type 0 where
   pub named : DumpNames
   pub read : IsNamedOf layout had named
   pub follows : OpenedSo Refuses (WorksMade naming history named.names.items) answered.told made
@@ -323,6 +336,45 @@ pub record DumpOfHistory (layout : Layout) (had : Option (List ℕ)) (naming : N
     (Failed : Type 0) (ended : Ended) (made : List Event) : Type 0 where
   pub came : Result WorksAnswered CommandFault
   pub withheld : DumpBy layout had naming history Refuses came made
+  pub tells : TellsDump came held holds Failed ended
+
+-- After a history the works were withheld of the records that came by an entry of its journal, or it was
+-- refused to look these up: that made these events.
+pub record EntryWorksMade (naming : Naming) (history : List Event) (entry : ℕ)
+    (told : Result WorksTold LedgerFault) (made : List Event) : Type 0 where
+  pub said : Option Note
+  pub left : Bool
+  pub work : WithholdsImport said naming entry told false (book_of history) made left
+
+-- and so it was told
+pub record WorksOfEntry (entry : ℕ) (naming : Naming) (history : List Event)
+    (Refuses : RepositoryFault → Type 0) (answered : WorksAnswered)
+    (made : List Event) : Type 0 where
+  pub told : Result (Result WorksTold LedgerFault) RepositoryFault
+  pub follows : OpenedSo Refuses (EntryWorksMade naming history entry) told made
+  pub says : answered.told ≡ told_of told
+  pub stop : answered.stop ≡ End
+
+-- or none were, as the place refused the books,
+abbrev pub EntryWorksBy : ℕ → Naming → List Event → (RepositoryFault → Type 0)
+    → Result WorksAnswered CommandFault → List Event → Type 0
+EntryWorksBy entry naming history Refuses (Ok answered) made =
+    WorksOfEntry entry naming history Refuses answered made
+EntryWorksBy entry naming history Refuses (Err why) made = IsShelfFault Refuses why × (made ≡ [])
+
+-- or the number of the entry is none
+abbrev pub EntryBy : Option ℕ → Naming → List Event → (RepositoryFault → Type 0)
+    → Result WorksAnswered CommandFault → List Event → Type 0
+EntryBy (Some entry) naming history Refuses came made =
+    EntryWorksBy entry naming history Refuses came made
+EntryBy None naming history Refuses came made = (came ≡ Err fault.Argument) × (made ≡ [])
+
+-- and that was written
+pub record EntryOfHistory (number : Option ℕ) (naming : Naming) (history : List Event)
+    (Refuses : RepositoryFault → Type 0) (held holds : Option (List ℕ)) (Failed : Type 0)
+    (ended : Ended) (made : List Event) : Type 0 where
+  pub came : Result WorksAnswered CommandFault
+  pub withheld : EntryBy number naming history Refuses came made
   pub tells : TellsDump came held holds Failed ended
 
 -- One client was replied to, and these events were made; or the place refused the books, for any reason.
@@ -348,7 +400,8 @@ ServesEach naming (what ∷ before) =
 -- Connections made these events of the books of a history: those of which lines were written, as many as
 -- were due, unless the service ended early and said why.
 pub record ServesHistory (naming : Naming) (history : List Event)
-    (Refuses : RepositoryFault → Type 0) (requests : ℕ) (held holds : Option (List ℕ)) (Failed : Type 0)
+    (Refuses : RepositoryFault → Type 0) (requests : ℕ) (held holds : Option (List ℕ))
+    (Failed : Type 0)
     (ended : Ended) (made : List Event) : Type 0 where
   pub told : List Served
   pub is : Bool
@@ -370,7 +423,8 @@ ServesHistoryBy naming history Refuses requests held holds Failed (Err why) made
 
 -- and that was told
 pub record ServesOfHistory (naming : Naming) (history : List Event)
-    (Refuses : RepositoryFault → Type 0) (requests : ℕ) (held holds : Option (List ℕ)) (Failed : Type 0)
+    (Refuses : RepositoryFault → Type 0) (requests : ℕ) (held holds : Option (List ℕ))
+    (Failed : Type 0)
     (ended : Ended) (made : List Event) : Type 0 where
   pub came : Result Ended CommandFault
   pub serves : ServesHistoryBy naming history Refuses requests held holds Failed came made
@@ -378,14 +432,16 @@ pub record ServesOfHistory (naming : Naming) (history : List Event)
 
 -- Of sound books of a history an audit has the counts of the history. Of those that it calls unsound no
 -- more is said; others were refused.
-abbrev pub AuditsOf : List Event → (RepositoryFault → Type 0) → Result Audited RepositoryFault → Type 0
+abbrev pub AuditsOf : List Event → (RepositoryFault → Type 0) → Result Audited RepositoryFault
+    → Type 0
 AuditsOf history Refuses (Ok (Sound counts)) = AreCountsOf (book_of history) counts
 AuditsOf history Refuses (Ok (Unsound finding)) = ⊤
 AuditsOf history Refuses (Err fault) = Refuses fault
 
 -- so it was told, and no event was made
 pub record AuditsHistory (history : List Event) (Refuses : RepositoryFault → Type 0)
-    (held holds : Option (List ℕ)) (Failed : Type 0) (ended : Ended) (made : List Event) : Type 0 where
+    (held holds : Option (List ℕ)) (Failed : Type 0) (ended : Ended)
+    (made : List Event) : Type 0 where
   pub audited : Result Audited RepositoryFault
   pub says : AuditsOf history Refuses audited
   pub tells : EndsAudit audited held holds Failed ended.came
@@ -401,7 +457,8 @@ AuditsHistoryBy history Refuses held holds Failed (Err why) made =
 
 -- and that was told
 pub record AuditOfHistory (history : List Event) (Refuses : RepositoryFault → Type 0)
-    (held holds : Option (List ℕ)) (Failed : Type 0) (ended : Ended) (made : List Event) : Type 0 where
+    (held holds : Option (List ℕ)) (Failed : Type 0) (ended : Ended)
+    (made : List Event) : Type 0 where
   pub came : Result Ended CommandFault
   pub audits : AuditsHistoryBy history Refuses held holds Failed came made
   pub ends : ended ≡ settled_as came
@@ -460,18 +517,27 @@ DoesToHistory files naming history Refuses book.Init held holds Failed ended mad
 DoesToHistory files naming history Refuses book.Upgrade held holds Failed ended made = made ≡ []
 DoesToHistory files naming history Refuses (book.Audit quiet) held holds Failed ended made =
     AuditOfHistory history Refuses held holds Failed ended made
-DoesToHistory files naming history Refuses (book.BackUp copy quiet) held holds Failed ended made = made ≡ []
+DoesToHistory files naming history Refuses (book.BackUp copy quiet) held holds Failed ended made =
+    made ≡ []
 DoesToHistory files naming history Refuses (book.Serve port requests) held holds Failed ended made =
     ServesOfHistory naming history Refuses requests held holds Failed ended made
 DoesToHistory files naming history Refuses (book.List asked) held holds Failed ended made =
     ListsAskedOfHistory (list_of asked) naming history Refuses held holds ended made
-DoesToHistory files naming history Refuses (book.ChooseListed withheld file) held holds Failed ended made =
-    ListOfHistory withheld (files.holds file.now) naming history Refuses held holds Failed ended made
-DoesToHistory files naming history Refuses (book.TryListed withheld file) held holds Failed ended made =
-    ListTriedOfHistory withheld (files.holds file.now) naming history Refuses held holds Failed ended
+DoesToHistory files naming history Refuses (book.ChooseListed withheld file) held holds Failed
+    ended made =
+    ListOfHistory withheld (files.holds file.now) naming history Refuses held holds Failed ended
     made
-DoesToHistory files naming history Refuses (book.WithholdDump file layout) held holds Failed ended made =
+DoesToHistory files naming history Refuses (book.TryListed withheld file) held holds Failed ended
+    made =
+    ListTriedOfHistory withheld (files.holds file.now) naming history Refuses held holds Failed
+    ended
+    made
+DoesToHistory files naming history Refuses (book.WithholdDump file layout) held holds Failed ended
+    made =
     DumpOfHistory layout (files.holds file.now) naming history Refuses held holds Failed ended made
+DoesToHistory files naming history Refuses (book.WithholdImport number) held holds Failed ended
+    made =
+    EntryOfHistory (entry_number number.now) naming history Refuses held holds Failed ended made
 DoesToHistory files naming history Refuses (book.DryRun ruling) held holds Failed ended made =
     TriesOfHistory files naming history Refuses ruling held holds Failed ended made
 DoesToHistory files naming history Refuses (book.RuleNear ruling) held holds Failed ended made =
@@ -489,13 +555,22 @@ pub record OnBooks (files : Files) (naming : Naming) (name book : List ℕ) (his
       → DoesToHistory files naming history Refuses request held holds Failed ended made
   pub elsewhere : book ≢ name → made ≡ []
 
+-- That was done; or there was no memory for its note, and nothing was.
+abbrev pub OnBooksIfNoted : Files → Naming → List ℕ → List ℕ → List Event
+    → (RepositoryFault → Type 0) → BookRequest → Option (List ℕ) → Option (List ℕ) → Type 0 → Status
+    → List Event → Type 0
+OnBooksIfNoted files naming name book history Refuses asked held holds Failed status made =
+    OnBooks files naming name book history Refuses asked held holds Failed status made ⊎ (made ≡ [])
+
 -- so with all requests: only those on books do anything to them
 abbrev pub RunsOn : Files → Naming → List ℕ → List Event → (List ℕ → RepositoryFault → Type 0)
     → Result Request ArgumentFault → Option (List ℕ) → Option (List ℕ) → Type 0 → Status
     → List Event → Type 0
-RunsOn files naming name history Refuses (Ok (request.OfBooks book wait asked)) held holds Failed status
-    made =
-    OnBooks files naming name book.now history (Refuses book.now) asked held holds Failed status made
+RunsOn files naming name history Refuses (Ok (request.OfBooks book wait note asked)) held holds
+    Failed
+    status made =
+    OnBooksIfNoted files naming name book.now history (Refuses book.now) asked held holds Failed
+    status made
 RunsOn files naming name history Refuses asked held holds Failed status made = made ≡ []
 
 -- What a command did to the books of a name, which held this history, by its words, at a place that

@@ -69,7 +69,8 @@ about_of (worded.OfCentre period) =
 about_of (worded.OfPeriod period) = Some (about.OfPeriod period)
 about_of worded.OfOffice = Some about.OfOffice
 about_of (worded.OfDay date) = option_map about.OfDay (day_of_text_of date.now)
-about_of (worded.OfReplaced date digest) = replaced_by (day_of_text_of date.now) (name_in digest.now)
+about_of (worded.OfReplaced date digest) = replaced_by (day_of_text_of date.now)
+    (name_in digest.now)
 about_of (worded.OfRecord name) = option_map about.OfRecord (name_in name.now)
 
 -- the report that they ask for, or its page
@@ -106,20 +107,21 @@ credit_words centre amount reason = credit_said (centre_named centre) (amount_in
 
 -- The table: what a command asks of the office. The text of a tariff is what the file of that name holds.
 abbrev pub IsAskedBy : Files → BookRequest → Asked → Type 0
-IsAskedBy files (book.Import dump) (asks.Import layout) = layout ≡ dump.layout
-IsAskedBy files (book.Rule (ruling.Tariff file)) (asks.Rule (owned.Tariff text)) =
+IsAskedBy files (book.Import dump) (asks.Import layout said) = layout ≡ dump.layout
+IsAskedBy files (book.Rule (ruling.Tariff file)) (asks.Rule (owned.Tariff text) said) =
     IfSome (files.holds file.now) (λ held. string_bytes text ≡ held)
-IsAskedBy files (book.Rule (ruling.Close period date)) (asks.Rule (owned.Close number through)) =
+IsAskedBy files (book.Rule (ruling.Close period date)) (asks.Rule
+    (owned.Close number through) said) =
     (number ≡ period) × (day_of_text_of date.now ≡ Some through)
-IsAskedBy files (book.Rule (ruling.Choose name)) (asks.Rule (owned.Choose chosen)) =
+IsAskedBy files (book.Rule (ruling.Choose name)) (asks.Rule (owned.Choose chosen) said) =
     name_in name.now ≡ Some chosen
-IsAskedBy files (book.Rule ruling.Adopt) (asks.Rule (owned.Adopt rule)) = rule ≡ 2
-IsAskedBy files (book.Rule (ruling.Replace file)) (asks.Rule (owned.Replace text)) =
+IsAskedBy files (book.Rule ruling.Adopt) (asks.Rule (owned.Adopt rule) said) = rule ≡ 2
+IsAskedBy files (book.Rule (ruling.Replace file)) (asks.Rule (owned.Replace text) said) =
     IfSome (files.holds file.now) (λ held. string_bytes text ≡ held)
-IsAskedBy files (book.Rule (ruling.Withhold name)) (asks.Rule (owned.Withhold named)) =
+IsAskedBy files (book.Rule (ruling.Withhold name)) (asks.Rule (owned.Withhold named) said) =
     name_in name.now ≡ Some named
 IsAskedBy files (book.Rule (ruling.Credit period centre amount reason))
-    (asks.Rule (owned.Credit number named value text)) =
+    (asks.Rule (owned.Credit number named value text) said) =
     (number ≡ period) × (credit_words centre.now amount.now reason.now ≡ Ok (named, value))
     × (string_bytes text ≡ reason.now)
 IsAskedBy files (book.Report said) (asks.Report printed) = report_of said ≡ Some printed
@@ -136,7 +138,8 @@ may_change asked = true
 
 -- The office was asked this once, with the dump that a reader of these bytes gave, and answered this.
 pub record AsksOnce (naming : Naming) (asked : Asked) (had : Option (List ℕ))
-    (told : Result Response LedgerFault) (was : Bool) (before : Book) (events : List Event) (is : Bool)
+    (told : Result Response LedgerFault) (was : Bool) (before : Book) (events : List Event)
+    (is : Bool)
     : Type 0 where
   pub dump : Dump
   pub input : Input
@@ -185,7 +188,8 @@ notice_of (Ok dated) = dated.notice
 notice_of (Err shelf) = None
 
 -- what came of a request: its answer, its refusal, or why the books were not opened
-abbrev pub answer_of : Result (Result Answer LedgerFault) RepositoryFault → Result Answer CommandFault
+abbrev pub answer_of : Result (Result Answer LedgerFault) RepositoryFault
+    → Result Answer CommandFault
 answer_of (Ok (Ok answer)) = Ok answer
 answer_of (Ok (Err refusal)) = Err (fault.Ledger refusal)
 answer_of (Err shelf) = Err (shelf_fault shelf)
@@ -223,7 +227,8 @@ IsWordFault (Some read) IsLater why = IsLater why
 
 -- the words of a credit are not what they have to be, before anything else; or else the books were refused,
 -- or there was no memory for the reason
-abbrev pub IsCreditFault : Result (List ℕ × ℤ) CommandFault → (RepositoryFault → Type 0) → CommandFault
+abbrev pub IsCreditFault : Result (List ℕ × ℤ) CommandFault → (RepositoryFault → Type 0)
+    → CommandFault
     → Type 0
 IsCreditFault (Err said) Refuses why = why ≡ said
 IsCreditFault (Ok said) Refuses why = IsShelfFault Refuses why ⊎ (why ≡ fault.Ledger ledger.Memory)

@@ -7,8 +7,9 @@ use Rattle.std.proofs.Common.{inl, inr, sym, subst}
 use Rattle.tariff_rules.specs.declared.fault.TariffFault.{TariffFault}
 use Rattle.book_model.specs.declared.fault.LedgerFault.{LedgerFault}
 use Rattle.book_model.specs.declared.fault.LedgerFault.TheVariants.{Memory, TariffRefused}
-use Rattle.book_model.specs.Words.{AreMadeOf, Book, Event, Naming, Terms, adopt_outcome}
-use Rattle.book_model.specs.Words.{choose_outcome, close_outcome, tariff_outcome, terms_in}
+use Rattle.book_model.specs.Words.{AreMadeOf, Book, Event, Naming, Note, Terms, adopt_outcome}
+use Rattle.book_model.specs.Words.{choose_outcome, close_outcome, note_given, tariff_outcome}
+use Rattle.book_model.specs.Words.{terms_in}
 use Rattle.book_model.specs.Words.{credit_outcome, replace_outcome, withhold_outcome}
 use Rattle.book_core.specs.Follow.{MakesAnswered}
 use Rattle.book_core.specs.Transition.{Transition}
@@ -49,23 +50,25 @@ IsAskedFor files request Refuses (Err why) = AsksNothing files request Refuses w
 
 -- A ruling, as its dry run names it: a tariff by its first day.
 abbrev pub IsNamedBy : Asked → TriedRuling → Type 0
-IsNamedBy (asks.Rule (owned.Tariff text)) named =
-    (terms : Terms) × (terms_in (string_bytes text) ≡ Ok terms) × (named ≡ tried.Tariff terms.effective)
-IsNamedBy (asks.Rule (owned.Close period through)) named = named ≡ tried.Close period through
-IsNamedBy (asks.Rule (owned.Choose name)) named = named ≡ tried.Choose name
-IsNamedBy (asks.Rule (owned.Adopt rule)) named = named ≡ tried.Adopt
-IsNamedBy (asks.Rule (owned.Replace text)) named =
-    (terms : Terms) × (terms_in (string_bytes text) ≡ Ok terms) × (named ≡ tried.Replace terms.effective)
-IsNamedBy (asks.Rule (owned.Withhold name)) named = named ≡ tried.Withhold name
-IsNamedBy (asks.Rule (owned.Credit period centre amount reason)) named =
+IsNamedBy (asks.Rule (owned.Tariff text) said) named =
+    (terms : Terms) × (terms_in (string_bytes text) ≡ Ok terms) ×
+    (named ≡ tried.Tariff terms.effective)
+IsNamedBy (asks.Rule (owned.Close period through) said) named = named ≡ tried.Close period through
+IsNamedBy (asks.Rule (owned.Choose name) said) named = named ≡ tried.Choose name
+IsNamedBy (asks.Rule (owned.Adopt rule) said) named = named ≡ tried.Adopt
+IsNamedBy (asks.Rule (owned.Replace text) said) named =
+    (terms : Terms) × (terms_in (string_bytes text) ≡ Ok terms) ×
+    (named ≡ tried.Replace terms.effective)
+IsNamedBy (asks.Rule (owned.Withhold name) said) named = named ≡ tried.Withhold name
+IsNamedBy (asks.Rule (owned.Credit period centre amount reason) said) named =
     named ≡ tried.Credit period centre
 IsNamedBy asked named = ⊥
 
 -- why it has no name: the text is no tariff
 abbrev pub IsUnnamed : Asked → LedgerFault → Type 0
-IsUnnamed (asks.Rule (owned.Tariff text)) fault =
+IsUnnamed (asks.Rule (owned.Tariff text) said) fault =
     (why : TariffFault) × (terms_in (string_bytes text) ≡ Err why) × (fault ≡ TariffRefused why)
-IsUnnamed (asks.Rule (owned.Replace text)) fault =
+IsUnnamed (asks.Rule (owned.Replace text) said) fault =
     (why : TariffFault) × (terms_in (string_bytes text) ≡ Err why) × (fault ≡ TariffRefused why)
 IsUnnamed asked fault = ⊥
 
@@ -84,42 +87,47 @@ dated_by (Ok shown) = record { answer = Ok (answers.Text shown.0); notice = show
 dated_by (Err fault) = record { answer = Err fault; notice = None }
 
 -- what is answered to the text of a tariff, by the result of reading it
-abbrev pub tariff_tried : Naming → List ℕ → Result Terms TariffFault → Book
+abbrev pub tariff_tried : Naming → Option Note → List ℕ → Result Terms TariffFault → Book
     → Result (List ℕ) LedgerFault
-tariff_tried naming text (Ok terms) book =
-    dry_answer naming (tried.Tariff terms.effective) (tariff_outcome None text book) book
-tariff_tried naming text (Err why) book = Err (TariffRefused why)
+tariff_tried naming noted text (Ok terms) book =
+    dry_answer naming (tried.Tariff terms.effective) (tariff_outcome noted text book) book
+tariff_tried naming noted text (Err why) book = Err (TariffRefused why)
 
 -- the same in the place of another
-abbrev pub replacement_tried : Naming → List ℕ → Result Terms TariffFault → Book
+abbrev pub replacement_tried : Naming → Option Note → List ℕ → Result Terms TariffFault → Book
     → Result (List ℕ) LedgerFault
-replacement_tried naming text (Ok terms) book =
-    dry_answer naming (tried.Replace terms.effective) (replace_outcome None text book) book
-replacement_tried naming text (Err why) book = Err (TariffRefused why)
+replacement_tried naming noted text (Ok terms) book =
+    dry_answer naming (tried.Replace terms.effective) (replace_outcome noted text book) book
+replacement_tried naming noted text (Err why) book = Err (TariffRefused why)
 
 -- What is told of a ruling that was tried, by the book before it: its refusal, or the text of the figures of
 -- this book and of the book after it.
 abbrev pub TellsDry : Naming → Asked → Book → Result Response LedgerFault → Type 0
-TellsDry naming (asks.Rule (owned.Tariff text)) book told =
-    told ≡ shown_by Text (tariff_tried naming (string_bytes text) (terms_in (string_bytes text)) book)
-TellsDry naming (asks.Rule (owned.Close period through)) book told =
+TellsDry naming (asks.Rule (owned.Tariff text) said) book told =
     told ≡ shown_by Text
-    (dry_answer naming (tried.Close period through) (close_outcome None period through book) book)
-TellsDry naming (asks.Rule (owned.Choose name)) book told =
+    (tariff_tried naming (note_given said) (string_bytes text) (terms_in (string_bytes text)) book)
+TellsDry naming (asks.Rule (owned.Close period through) said) book told =
     told ≡ shown_by Text
-    (dry_answer naming (tried.Choose name) (choose_outcome naming None name book) book)
-TellsDry naming (asks.Rule (owned.Adopt rule)) book told =
-    told ≡ shown_by Text (dry_answer naming tried.Adopt (adopt_outcome None rule book) book)
-TellsDry naming (asks.Rule (owned.Replace text)) book told =
+    (dry_answer naming (tried.Close period through) (close_outcome
+    (note_given said) period through book) book)
+TellsDry naming (asks.Rule (owned.Choose name) said) book told =
     told ≡ shown_by Text
-    (replacement_tried naming (string_bytes text) (terms_in (string_bytes text)) book)
-TellsDry naming (asks.Rule (owned.Withhold name)) book told =
+    (dry_answer naming (tried.Choose name) (choose_outcome naming (note_given said) name book) book)
+TellsDry naming (asks.Rule (owned.Adopt rule) said) book told =
+    told ≡ shown_by Text (dry_answer naming tried.Adopt (adopt_outcome
+    (note_given said) rule book) book)
+TellsDry naming (asks.Rule (owned.Replace text) said) book told =
     told ≡ shown_by Text
-    (dry_answer naming (tried.Withhold name) (withhold_outcome naming None name book) book)
-TellsDry naming (asks.Rule (owned.Credit period centre amount reason)) book told =
+    (replacement_tried naming (note_given said) (string_bytes text)
+    (terms_in (string_bytes text)) book)
+TellsDry naming (asks.Rule (owned.Withhold name) said) book told =
+    told ≡ shown_by Text
+    (dry_answer naming (tried.Withhold name) (withhold_outcome naming
+    (note_given said) name book) book)
+TellsDry naming (asks.Rule (owned.Credit period centre amount reason) said) book told =
     told ≡ shown_by Text
     (dry_answer naming (tried.Credit period centre)
-    (credit_outcome None period centre amount (string_bytes reason) book) book)
+    (credit_outcome (note_given said) period centre amount (string_bytes reason) book) book)
 TellsDry naming asked book told = ⊥
 
 -- what the ruling would be answered by a book
@@ -133,7 +141,8 @@ pub record ShowsDry (naming : Naming) (today : Option ℤ) (asked : Asked) (book
   pub notice : noticed ≡ far_notice today asked book (ruled_told naming asked book)
 
 -- the ruling was asked for, whatever it was answered
-pub record IsRuled (naming : Naming) (asked : Asked) (was : Bool) (before : Book) (events : List Event)
+pub record IsRuled (naming : Naming) (asked : Asked) (was : Bool) (before : Book)
+    (events : List Event)
     : Type 0 where
   pub answer : Result Answer LedgerFault
   pub left : Bool
@@ -154,7 +163,8 @@ IsDryAnswer dated = IsTextOrFault dated.answer dated.notice
 pub record TriesOnce (naming : Naming) (today : Option ℤ) (asked : Asked)
     (told : Result Response LedgerFault) (noticed : Option Notice) (was : Bool) (before : Book)
     (events : List Event) (is : Bool) : Type 0 where
-  pub shows : was ≡ false → is_hindered told ≡ false → ShowsDry naming today asked before told noticed
+  pub shows : was ≡ false → is_hindered told ≡ false
+      → ShowsDry naming today asked before told noticed
   pub made : (events ≡ []) ⊎ IsRuled naming asked was before events
 
 -- what a visit to the copy did that tried this once, by what came of it
@@ -195,7 +205,8 @@ pub record Trying (files : Files) (request : BookRequest) (book : List ℕ) (old
 
 -- What came of a dry run: just what the words ask was tried, once; or there was a fault before, which
 -- the command without a dry run would have found.
-abbrev pub ComesOfDryRun : Files → BookRequest → List ℕ → Shelf → Shelf → Result Answered CommandFault
+abbrev pub ComesOfDryRun : Files → BookRequest → List ℕ → Shelf → Shelf
+    → Result Answered CommandFault
     → Type 0
 ComesOfDryRun files request book old new (Ok answered) = Trying files request book old new answered
 ComesOfDryRun files request book old new (Err why) =

@@ -77,8 +77,8 @@ closed_through today through = record {
 
 -- the day of a ruling, where it has one, as it is seen today
 abbrev pub day_asked : Option ℤ → Asked → Option RulingDay
-day_asked today (Rule (Tariff text)) = first_day (terms_in (string_bytes text))
-day_asked today (Rule (Close period through)) = Some (closed_through today through)
+day_asked today (Rule (Tariff text) said) = first_day (terms_in (string_bytes text))
+day_asked today (Rule (Close period through) said) = Some (closed_through today through)
 day_asked today asked = None
 
 -- its day is far from a book

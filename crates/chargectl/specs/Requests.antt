@@ -31,6 +31,7 @@ use Rattle.chargectl.specs.Audits.{AuditsBooks, BacksUp}
 use Rattle.chargectl.specs.Choices.{ChoosesListed}
 use Rattle.chargectl.specs.Commands.{AsksAndTells, IsRefusedBy, IsShelfFault}
 use Rattle.chargectl.specs.DryRuns.{TriesAndTells}
+use Rattle.chargectl.specs.ImportWorks.{WithholdsEntry, entry_number}
 use Rattle.chargectl.specs.NearRulings.{RulesNear}
 use Rattle.chargectl.specs.StreamedLists.{ListsAsked, list_of}
 use Rattle.chargectl.specs.Upgrades.{UpgradesBy}
@@ -63,7 +64,8 @@ WritesEarly told held holds =
 -- What a service came to: these connections were answered; and all that were due, with their lines, unless
 -- one did not come or the books were in the way. That a write of a line failed is told at the end, and
 -- only where the output has failed; it ends nothing before. And whether a log is left.
-pub record Serves {S : Type 0} (shelf : S → Shelf) (Refuses : RepositoryFault → Type 0) (requests : ℕ)
+pub record Serves {S : Type 0} (shelf : S → Shelf) (Refuses : RepositoryFault
+    → Type 0) (requests : ℕ)
     (book : List ℕ) (old new : S) (held holds : Option (List ℕ)) (Failed : Type 0) (ended : Ended)
     : Type 0 where
   pub told : List Served
@@ -93,7 +95,8 @@ pub record SettlesBy (Does : Result Ended CommandFault → Type 0) (ended : Ende
   pub ends : ended ≡ settled_as came
 
 -- Each command on books.
-abbrev pub Does : {S : Type 0} → Files → (S → Shelf) → BookRequest → List ℕ → S → S → Option (List ℕ)
+abbrev pub Does : {S : Type 0} → Files → (S → Shelf) → BookRequest → List ℕ → S → S
+    → Option (List ℕ)
     → Option (List ℕ) → Type 0 → Ended → Type 0
 Does files shelf book.Init name old new held holds Failed ended =
     Makes name (shelf old) (shelf new) held holds ended
@@ -108,13 +111,17 @@ Does files shelf (book.Serve port requests) name old new held holds Failed ended
 Does files shelf (book.List asked) name old new held holds Failed ended =
     SettlesBy (ListsAsked (list_of asked) name (shelf old) (shelf new) held holds Failed) ended
 Does files shelf (book.ChooseListed withheld file) name old new held holds Failed ended =
-    ChoosesListed false withheld (files.holds file.now) name (shelf old) (shelf new) held holds Failed
+    ChoosesListed false withheld (files.holds file.now) name (shelf old)
+    (shelf new) held holds Failed
     ended
 Does files shelf (book.TryListed withheld file) name old new held holds Failed ended =
-    ChoosesListed true withheld (files.holds file.now) name (shelf old) (shelf new) held holds Failed
+    ChoosesListed true withheld (files.holds file.now) name (shelf old)
+    (shelf new) held holds Failed
     ended
 Does files shelf (book.WithholdDump file layout) name old new held holds Failed ended =
     WithholdsDump layout (files.holds file.now) name (shelf old) (shelf new) held holds Failed ended
+Does files shelf (book.WithholdImport number) name old new held holds Failed ended =
+    WithholdsEntry (entry_number number.now) name (shelf old) (shelf new) held holds Failed ended
 Does files shelf (book.DryRun ruling) name old new held holds Failed ended =
     TriesAndTells files ruling name (shelf old) (shelf new) held holds Failed ended
 Does files shelf (book.RuleNear ruling) name old new held holds Failed ended =
@@ -147,10 +154,17 @@ pub record WaitsAndDoes {S : Type 0} (files : Files) (shelf : S → Shelf) (wait
   pub same : IsSameShelf (shelf old) (shelf waiting)
   pub does : Does files shelf asked name waiting new held holds Failed ended
 
+-- Or there was no memory for the note of what is asked, and nothing was done.
+abbrev pub UnlessUnnoted : {S : Type 0} → S → S → Option (List ℕ) → Option (List ℕ) → Ended
+    → Type 0 → Type 0
+UnlessUnnoted old new held holds ended Done = Done
+    ⊎ ((new ≡ old) × (holds ≡ held) × (ended ≡ without_log (Err (fault.Ledger ledger.Memory))))
+
 -- The table of the commands.
 abbrev pub Runs : {S : Type 0} → Files → (S → Shelf) → (S → ℕ → Type 0) → S → S → Request
     → Option (List ℕ) → Option (List ℕ) → Option (List ℕ) → Type 0 → Ended → Type 0
-Runs files shelf waits old new (request.Trial layout cpu excp fee whole) had held holds Failed ended =
+Runs files shelf waits old new (request.Trial layout cpu excp fee whole) had held holds Failed
+    ended =
     (new ≡ old) × TriesAt layout whole cpu excp fee had held holds Failed ended
 Runs files shelf waits old new (request.TrialUnder layout file whole) had held holds Failed ended =
     (new ≡ old) × TriesUnder (files.holds file.now) layout whole had held holds Failed ended
@@ -159,8 +173,10 @@ Runs files shelf waits old new (request.Check dump names) had held holds Failed 
     × Checks (files.holds dump.file.now) dump.layout dump.whole names held holds Failed ended
 Runs files shelf waits old new (request.Explain kind number) had held holds Failed ended =
     (new ≡ old) × EndsAt (TellsOf (kind_of kind) number held holds Failed) ended
-Runs files shelf waits old new (request.OfBooks name wait asked) had held holds Failed ended =
-    WaitsAndDoes files shelf waits old new (wait_for asked wait) asked name.now held holds Failed ended
+Runs files shelf waits old new (request.OfBooks name wait note asked) had held holds Failed ended =
+    UnlessUnnoted old new held holds ended
+    (WaitsAndDoes files shelf waits old new (wait_for asked wait) asked name.now held holds Failed
+    ended)
 Runs files shelf waits old new (request.Unclear why) had held holds Failed ended =
     (new ≡ old) × (holds ≡ held) × (ended ≡ without_log (Err (fault.Unclear why)))
 

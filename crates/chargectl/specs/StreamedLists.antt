@@ -1,5 +1,5 @@
--- Lists that are written while the books are open: the details of a period, the rulings and the
--- disputes. They are never held whole.
+-- Lists that are written while the books are open: the details of a period, the rulings, the disputes
+-- and the journal. They are never held whole.
 use Rattle.std.specs.Prelude.{◌≡◌, Bool, false, ℕ, List, Option, Some, None, Result, Ok, Err}
 use Rattle.std.specs.Prelude.{IfErr, OnErr, OnOk, option_and_then}
 use Rattle.std.proofs.Common.{sym, subst}
@@ -15,6 +15,7 @@ use Rattle.book_reports.specs.BookTexts.{ruling_text}
 use Rattle.book_reports.specs.StreamedRulings.{answered_by, WritesSomeRulings}
 use Rattle.book_reports.specs.StreamedDetails.{WritesSomeDetails, detail_answer}
 use Rattle.book_reports.specs.StreamedDisputes.{WritesSomeDisputes, dispute_report}
+use Rattle.book_reports.specs.StreamedJournal.{WritesSomeJournal, journal_report}
 use Rattle.command_line.specs.declared.request.ReportAsked.{ReportAsked}
 use Rattle.named_books.specs.declared.repository.RepositoryFault.{RepositoryFault}
 use Rattle.named_books.specs.Shelves.{Shelf, ComesBy, IsOpened, IsThere, IsUntouched}
@@ -35,13 +36,15 @@ abbrev pub list_answer : StreamedList → Naming → Book → Result (List ℕ) 
 list_answer (list.Details report) = detail_answer report
 list_answer list.Rulings = answered_by ruling_text
 list_answer (list.Disputes form) = answered_by (dispute_report form)
+list_answer (list.Journal form) = answered_by (journal_report form)
 
--- whatever the books are, it is one of some details, of some rulings or of some disputes
+-- whatever the books are, it is one of some details, of some rulings, disputes or entries
 abbrev pub WritesSomeOf : StreamedList → Option (List ℕ) → Option (List ℕ)
     → Result (Unit {0}) ReportFault → Type 0
 WritesSomeOf (list.Details report) = WritesSomeDetails report
 WritesSomeOf list.Rulings = WritesSomeRulings
 WritesSomeOf (list.Disputes form) = WritesSomeDisputes form
+WritesSomeOf (list.Journal form) = WritesSomeJournal form
 
 -- so much was written while the books were open, and the sink is marked where a write of it failed
 pub record ListsOpen (list : StreamedList) (held holds : Option (List ℕ)) (had has : Bool)
@@ -57,6 +60,7 @@ list_of_centre name form period centre = None
 
 abbrev pub list_of_office : ReportName → StatementForm → Option StreamedList
 list_of_office report.Disputes form = Some (list.Disputes form)
+list_of_office report.Journal form = Some (list.Journal form)
 list_of_office report.Rulings form = Some list.Rulings
 list_of_office name form = None
 

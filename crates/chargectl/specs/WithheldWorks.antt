@@ -5,13 +5,13 @@ use Rattle.sha2.specs.Sha256.{sha256}
 use Rattle.smf_frames.specs.declared.dump.Layout.{Layout}
 use Rattle.streams.specs.InputOutput.{Input}
 use Rattle.book_model.specs.declared.fault.LedgerFault.{LedgerFault}
-use Rattle.book_model.specs.Words.{Naming}
+use Rattle.book_model.specs.Words.{Naming, Note}
 use Rattle.book_core.specs.Words.{Transition}
 use Rattle.book_import.specs.DumpNames.{AreNamed}
 use Rattle.book_import.specs.ReadLimits.{most_reads}
 use Rattle.book_import.specs.declared.names_in_dumps.DumpNames.{DumpNames}
-use Rattle.book_import.specs.declared.receipt.Stop.{Stop}
-use Rattle.book_import.specs.declared.receipt.Stop.TheVariants.{Ledger}
+use Rattle.book_model.specs.declared.note.Stop.{Stop}
+use Rattle.book_model.specs.declared.note.Stop.TheVariants.{Ledger}
 use Rattle.book_reports.specs.ReceiptLines.{withheld_line_text}
 use Rattle.named_books.specs.declared.repository.RepositoryFault.{RepositoryFault}
 use Rattle.named_books.specs.Shelves.{Shelf, IsOpened, IsThere, IsUntouched}
@@ -33,13 +33,15 @@ pub record IsNamedOf (layout : Layout) (had : Option (List ℕ)) (named : DumpNa
   pub names : AreNamed sha256 layout cut most_reads input named
 
 -- what a visit to the books did that withheld the works of the records of these names
-abbrev pub WorksBy : Naming → List (List ℕ) → WorksTold → Transition
-WorksBy naming names told = WithholdsSo naming names told.counts told.refusal
+abbrev pub WorksBy : Option Note → Naming → List (List ℕ) → WorksTold → Transition
+WorksBy said naming names told = WithholdsSo said naming names told.counts told.refusal
 
 -- The books of a name were opened, if there are any, and the works of these records withheld.
-pub record IsWithheld (named : DumpNames) (book : List ℕ) (old new : Shelf) (answered : WorksAnswered)
+pub record IsWithheld (named : DumpNames) (book : List ℕ) (old new : Shelf)
+    (answered : WorksAnswered)
     : Type 0 where
-  pub done : IsOpened (WorksBy old.naming named.names.items) book old new answered.told
+  pub said : Option Note
+  pub done : IsOpened (WorksBy said old.naming named.names.items) book old new answered.told
   pub there : IsThere book old new answered.told
   pub stop : answered.stop ≡ named.stop
   pub log : new.has_log book answered.has_log
@@ -94,7 +96,8 @@ pub record TellsWorks (answered : WorksAnswered) (held holds : Option (List ℕ)
   pub notice : ended.notice ≡ None
 
 -- and where nothing was withheld
-abbrev pub TellsDump : Result WorksAnswered CommandFault → Option (List ℕ) → Option (List ℕ) → Type 0
+abbrev pub TellsDump : Result WorksAnswered CommandFault → Option (List ℕ) → Option (List ℕ)
+    → Type 0
     → Ended → Type 0
 TellsDump (Ok answered) held holds Failed ended = TellsWorks answered held holds Failed ended
 TellsDump (Err why) held holds Failed ended = (holds ≡ held) × (ended ≡ without_log (Err why))

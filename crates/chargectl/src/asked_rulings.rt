@@ -8,7 +8,7 @@ ghost use Rattle.chargectl.specs.Commands as spec;
 ghost use Rattle.chargectl.specs.DryRuns.{IsAskedFor};
 
 use crate::amounts::amount_of_text;
-use book_core::is_reason;
+use book_core::{Note, is_reason};
 use command_line::{BookRequest, Ruling};
 use named_books::Repository;
 use office::{Asked, OwnedRuling, centre_named};
@@ -20,30 +20,35 @@ use without_books::{CommandFault, Inputs, tariff_text};
 /// The rule of identity that can be adopted: books begin under the other one.
 const LATER_RULE: u8 = 2;
 
-/// What is asked for a ruling on the books of a name.
+/// What is asked for a ruling on the books of a name, with its note.
 pub(crate) fn asked_ruling<S: Repository, F: Inputs>(
     alloc: Global,
     repository: &S,
     inputs: &F,
     book: &str,
     ruling: Ruling<'_>,
+    note: Option<Note>,
 ) -> Result<Asked, CommandFault>
     ensures { IsAskedFor (F.held inputs.now) (BookRequest.Rule ruling.entry)
         ((S.shelf repository.now).refuses book.now) result }
 {
     match ruling {
-        Ruling::Tariff { file } => asked_tariff(alloc, repository, inputs, book, file),
-        Ruling::Close { period, date } => asked_close(repository, book, period, date),
-        Ruling::Choose { name } => asked_choice(repository, book, name),
-        Ruling::Adopt => asked_adoption(repository, book),
-        Ruling::Replace { file } => asked_replacement(alloc, repository, inputs, book, file),
-        Ruling::Withhold { name } => asked_withholding(repository, book, name),
+        Ruling::Tariff { file } => asked_tariff(alloc, repository, inputs, book, file, note),
+        Ruling::Close { period, date } => asked_close(repository, book, period, date, note),
+        Ruling::Choose { name } => asked_choice(repository, book, name, note),
+        Ruling::Adopt => asked_adoption(repository, book, note),
+        Ruling::Replace { file } => asked_replacement(alloc, repository, inputs, book, file, note),
+        Ruling::Withhold { name } => asked_withholding(repository, book, name, note),
         Ruling::Credit {
             period,
             centre,
             amount,
             reason,
-        } => asked_credit(alloc, repository, book, period, centre, amount, reason),
+        } => {
+            asked_credit(
+                alloc, repository, book, period, centre, amount, reason, note,
+            )
+        }
     }
 }
 
@@ -54,13 +59,14 @@ fn asked_tariff<S: Repository, F: Inputs>(
     inputs: &F,
     book: &str,
     file: &str,
+    note: Option<Note>,
 ) -> Result<Asked, CommandFault>
     ensures { IsAskedFor (F.held inputs.now) (BookRequest.Rule (Ruling.Tariff file.entry))
         ((S.shelf repository.now).refuses book.now) result }
 {
     repository.expect(book)?;
     let text = tariff_text(alloc, inputs, file)?;
-    Ok(Asked::Rule(OwnedRuling::Tariff(text)))
+    Ok(Asked::Rule(OwnedRuling::Tariff(text), note))
 }
 
 /// What is asked for a tariff in the place of another, by its file.
@@ -70,13 +76,14 @@ fn asked_replacement<S: Repository, F: Inputs>(
     inputs: &F,
     book: &str,
     file: &str,
+    note: Option<Note>,
 ) -> Result<Asked, CommandFault>
     ensures { IsAskedFor (F.held inputs.now) (BookRequest.Rule (Ruling.Replace file.entry))
         ((S.shelf repository.now).refuses book.now) result }
 {
     repository.expect(book)?;
     let replacement = tariff_text(alloc, inputs, file)?;
-    Ok(Asked::Rule(OwnedRuling::Replace(replacement)))
+    Ok(Asked::Rule(OwnedRuling::Replace(replacement), note))
 }
 
 /// What is asked for a close.
@@ -85,6 +92,7 @@ fn asked_close<S: Repository>(
     book: &str,
     period: u16,
     date: &str,
+    note: Option<Note>,
 ) -> Result<Asked, CommandFault>
     ensures { (files : Files) → IsAskedFor files (BookRequest.Rule (Ruling.Close period date.entry))
         ((S.shelf repository.now).refuses book.now) result }
@@ -94,7 +102,7 @@ fn asked_close<S: Repository>(
         None => return Err(CommandFault::Argument),
     };
     repository.expect(book)?;
-    Ok(Asked::Rule(OwnedRuling::Close { period, through }))
+    Ok(Asked::Rule(OwnedRuling::Close { period, through }, note))
 }
 
 /// What is asked for a choice.
@@ -102,6 +110,7 @@ fn asked_choice<S: Repository>(
     repository: &S,
     book: &str,
     name: &str,
+    note: Option<Note>,
 ) -> Result<Asked, CommandFault>
     ensures { (files : Files) → IsAskedFor files (BookRequest.Rule (Ruling.Choose name.entry))
         ((S.shelf repository.now).refuses book.now) result }
@@ -111,7 +120,7 @@ fn asked_choice<S: Repository>(
         None => return Err(CommandFault::Argument),
     };
     repository.expect(book)?;
-    Ok(Asked::Rule(OwnedRuling::Choose(chosen)))
+    Ok(Asked::Rule(OwnedRuling::Choose(chosen), note))
 }
 
 /// What is asked for a choice of none.
@@ -119,6 +128,7 @@ fn asked_withholding<S: Repository>(
     repository: &S,
     book: &str,
     name: &str,
+    note: Option<Note>,
 ) -> Result<Asked, CommandFault>
     ensures { (files : Files) → IsAskedFor files (BookRequest.Rule (Ruling.Withhold name.entry))
         ((S.shelf repository.now).refuses book.now) result }
@@ -128,16 +138,20 @@ fn asked_withholding<S: Repository>(
         None => return Err(CommandFault::Argument),
     };
     repository.expect(book)?;
-    Ok(Asked::Rule(OwnedRuling::Withhold(named)))
+    Ok(Asked::Rule(OwnedRuling::Withhold(named), note))
 }
 
 /// What is asked for the adoption of the later rule of identity.
-fn asked_adoption<S: Repository>(repository: &S, book: &str) -> Result<Asked, CommandFault>
+fn asked_adoption<S: Repository>(
+    repository: &S,
+    book: &str,
+    note: Option<Note>,
+) -> Result<Asked, CommandFault>
     ensures { (files : Files) → IsAskedFor files (BookRequest.Rule Ruling.Adopt)
         ((S.shelf repository.now).refuses book.now) result }
 {
     repository.expect(book)?;
-    Ok(Asked::Rule(OwnedRuling::Adopt(LATER_RULE)))
+    Ok(Asked::Rule(OwnedRuling::Adopt(LATER_RULE), note))
 }
 
 /// The centre and the amount that the words of a credit say.
@@ -168,6 +182,7 @@ fn asked_credit<S: Repository>(
     centre: &str,
     amount: &str,
     reason: &str,
+    note: Option<Note>,
 ) -> Result<Asked, CommandFault>
     ensures { (files : Files) → IsAskedFor files
         (BookRequest.Rule (Ruling.Credit period centre.entry amount.entry reason.entry))
@@ -179,10 +194,13 @@ fn asked_credit<S: Repository>(
     };
     repository.expect(book)?;
     let text = String::from_str(alloc, reason)?;
-    Ok(Asked::Rule(OwnedRuling::Credit {
-        period,
-        centre: said.0,
-        amount: said.1,
-        reason: text,
-    }))
+    Ok(Asked::Rule(
+        OwnedRuling::Credit {
+            period,
+            centre: said.0,
+            amount: said.1,
+            reason: text,
+        },
+        note,
+    ))
 }

@@ -16,7 +16,7 @@ ghost use Rattle.chargectl.specs.Commands as spec;
 use crate::answered::Answered;
 use crate::asked_rulings::asked_ruling;
 use crate::dated_rulings::rule_on_day;
-use book_core::{Ledger, LedgerFault, Sink, Source};
+use book_core::{Ledger, LedgerFault, Note, Sink, Source};
 use command_line::{BookRequest, DumpFile, Ruling};
 use named_books::{Opened, Repository, RepositoryFault, Visit};
 use office::{Answer, Asked, Report, ask, write_answer};
@@ -229,7 +229,7 @@ fn is_dated(ruling: Ruling<'_>) -> bool
     }
 }
 
-/// Makes a ruling on the books of a name.
+/// Makes a ruling on the books of a name, with its note.
 #[tactic(auto, using(crate::proofs::FarLemmas::ruling_unread))]
 pub(crate) fn rule<S: Repository, F: Inputs>(
     rt: &HostRuntime,
@@ -237,11 +237,12 @@ pub(crate) fn rule<S: Repository, F: Inputs>(
     inputs: &F,
     book: &str,
     ruling: Ruling<'_>,
+    note: Option<Note>,
 ) -> Result<Answered, CommandFault>
     ensures { ComesOf (F.held inputs.now) (BookRequest.Rule ruling.entry) book.now
         (S.shelf repository.old) (S.shelf repository.new) result }
 {
-    let asked = asked_ruling(rt.alloc(), &*repository, inputs, book, ruling)?;
+    let asked = asked_ruling(rt.alloc(), &*repository, inputs, book, ruling, note)?;
     if is_dated(ruling) {
         Ok(rule_on_day(rt.alloc(), repository, inputs, book, asked))
     } else {
@@ -249,20 +250,21 @@ pub(crate) fn rule<S: Repository, F: Inputs>(
     }
 }
 
-/// Reads a dump into the books, whatever stops the import.
+/// Reads a dump into the books, whatever stops the import, with its note.
 pub(crate) fn import_dump<S: Repository, F: Inputs>(
     rt: &HostRuntime,
     repository: &mut S,
     inputs: &F,
     book: &str,
     dump: DumpFile<'_>,
+    note: Option<Note>,
 ) -> Result<Answered, CommandFault>
     ensures { ComesOf (F.held inputs.now) (BookRequest.Import dump.entry) book.now
         (S.shelf repository.old) (S.shelf repository.new) result }
 {
     repository.expect(book)?;
     expect_whole(rt, inputs, dump)?;
-    let asked = Asked::Import(dump.layout);
+    let asked = Asked::Import(dump.layout, note);
     let is_shown = !dump.quiet && rt.stderr().is_terminal();
     let input = open_watched(rt, inputs, dump.file, is_shown)?;
     let LookedAt { reader, is_misread } = look_at(rt.alloc(), dump.layout, input);

@@ -3,6 +3,7 @@
 
 ghost use Rattle.std.specs.Prelude.{◌≡◌, IfErr, IfOk};
 ghost use Rattle.streams.specs.Failures.{HasFailed};
+ghost use Rattle.book_model.specs.Words.{note_given};
 ghost use Rattle.office.specs.Choices as choices;
 ghost use Rattle.chargectl.specs.Choices as spec;
 ghost use Rattle.chargectl.specs.Choices.{AreAllOf, AreLinesOf, AreListed, ChoosesBy, ChoosesListed};
@@ -13,7 +14,7 @@ ghost use Rattle.chargectl.specs.Choices.{list_answered};
 ghost use Rattle.chargectl.specs.Commands.{IsPrinted};
 
 use crate::book_commands::print;
-use book_core::{Ledger, LedgerFault, Ruled};
+use book_core::{Ledger, LedgerFault, Note, Ruled};
 use named_books::{Opened, Repository, RepositoryFault, Visit};
 use office::{Answer, Chosen, answer_lines, choose_each};
 use program_output::{Listed, MAX_LIST, NameList};
@@ -29,6 +30,7 @@ struct ListedChoices {
     /// Their works are withheld, and none of them is chosen.
     withheld: bool,
     names: Vec<[u8; 32]>,
+    note: Option<Note>,
 }
 
 impl Visit for ListedChoices {
@@ -36,15 +38,16 @@ impl Visit for ListedChoices {
     type Answer = Result<Chosen, AllocError>;
 
     ghost work = { λ naming choices _ told.
-        ChoosesBy choices.withheld naming choices.names.items told };
+        ChoosesBy (note_given choices.note) choices.withheld naming choices.names.items told };
 
     ghost comes = { λ _ _ _. Unit {0} };
 
     ghost answered = { λ naming choices _ told.
-        list_answered choices.withheld naming choices.names.items told };
+        list_answered (note_given choices.note) choices.withheld naming choices.names.items
+        told };
 
     fn visit<L: Ledger>(&mut self, books: &mut L) -> Result<Chosen, AllocError> {
-        choose_each(self.alloc, books, self.withheld, &self.names)
+        choose_each(self.alloc, books, self.withheld, &self.names, &self.note)
     }
 }
 
@@ -71,13 +74,14 @@ pub(crate) fn choose_listed<S: Repository, F: Inputs, O: Writer + Drop>(
     file: &str,
     tried: bool,
     withheld: bool,
+    note: Option<Note>,
     output: O,
 ) -> (Ended, O)
     ensures { ChoosesListed tried withheld ((F.held inputs.now).holds file.now) book.now
         (S.shelf repository.old) (S.shelf repository.new) (O.contents output) (O.contents result.1)
         (∥ HasFailed O.may_answer result.1 ∥₁) result.0 }
 {
-    let answered = ask_listed(alloc, repository, inputs, book, file, tried, withheld);
+    let answered = ask_listed(alloc, repository, inputs, book, file, tried, withheld, note);
     tell_list(alloc, answered, output)
 }
 
@@ -90,13 +94,14 @@ fn ask_listed<S: Repository, F: Inputs>(
     file: &str,
     tried: bool,
     withheld: bool,
+    note: Option<Note>,
 ) -> Result<ListAnswered, CommandFault>
     ensures { ComesOfList tried withheld ((F.held inputs.now).holds file.now) book.now
         (S.shelf repository.old) (S.shelf repository.new) result }
 {
     repository.expect(book)?;
     let listed = read_list(alloc, inputs, file)?;
-    Ok(answer_names(alloc, repository, book, listed, tried, withheld))
+    Ok(answer_names(alloc, repository, book, listed, tried, withheld, note))
 }
 
 /// The names of a list in a file.
@@ -140,7 +145,7 @@ fn read_names<R: Read + Drop>(alloc: Global, reader: R) -> Result<Listed, Comman
     Ok(list.end()?)
 }
 
-/// Chooses the records of these names, or tries that.
+/// Chooses the records of these names, or tries that, which needs no note.
 fn answer_names<S: Repository>(
     alloc: Global,
     repository: &mut S,
@@ -148,6 +153,7 @@ fn answer_names<S: Repository>(
     listed: Listed,
     tried: bool,
     withheld: bool,
+    note: Option<Note>,
 ) -> ListAnswered
     ensures came { IsListBy tried withheld listed.names.items book.now (S.shelf repository.old)
         (S.shelf repository.new) result }
@@ -156,7 +162,7 @@ fn answer_names<S: Repository>(
     if tried {
         return try_names(alloc, repository, book, withheld, listed);
     }
-    choose_names(alloc, repository, book, withheld, listed)
+    choose_names(alloc, repository, book, withheld, listed, note)
 }
 
 /// Chooses the records of these names on a copy of the books, which is let go.
@@ -176,6 +182,7 @@ fn try_names<S: Repository>(
         alloc,
         withheld,
         names,
+        note: None,
     };
     let Opened { answer, has_log } = repository.try_out(book, &mut choices);
     ListAnswered {
@@ -193,6 +200,7 @@ fn choose_names<S: Repository>(
     book: &str,
     withheld: bool,
     listed: Listed,
+    note: Option<Note>,
 ) -> ListAnswered
     ensures came { IsListAnswered withheld listed.names.items book.now (S.shelf repository.old)
         (S.shelf repository.new) result }
@@ -203,6 +211,7 @@ fn choose_names<S: Repository>(
         alloc,
         withheld,
         names,
+        note,
     };
     let Opened { answer, has_log } = repository.open(book, &mut choices);
     ListAnswered {

@@ -18,7 +18,7 @@ ghost use Rattle.chargectl.specs.ClientRequests.{EndsBy, FailsBefore, IsServedFr
 ghost use Rattle.chargectl.specs.ClientRequests.{asks_books, later_of};
 
 use crate::port::Peer;
-use book_core::{Ledger, Sink, Source};
+use book_core::{Ledger, Note, Sink, Source};
 use book_http::{
     Answer, Asked, Routes, Served, Status, Unanswered, answer_report, ask_office, read_request,
     send, send_details,
@@ -61,6 +61,8 @@ struct OpenRequest<W: Peer + Drop, C: Arrivals + Drop> {
     routes: Routes,
     /// Settled, once it was asked.
     request: Asked<Vec<u8>>,
+    /// That of what is posted; none, once it was asked.
+    note: Option<Note>,
     writer: W,
     arrivals: C,
     /// What became of those that were answered behind it.
@@ -93,7 +95,8 @@ impl<W: Peer + Writer + Drop, C: Arrivals + Drop> Visit for OpenRequest<W, C> {
     fn visit<L: Ledger>(&mut self, books: &mut L) -> Result<Served, Answer> {
         let reports = is_report(&self.request);
         let request = mem::replace(&mut self.request, Asked::Settled(Answer::Busy));
-        let (told, writer) = ask_open(self.routes.alloc(), books, request, self.writer);
+        let note = self.note.take();
+        let (told, writer) = ask_open(self.routes.alloc(), books, request, note, self.writer);
         self.writer = writer;
         let leads = may_lead(reports, &told);
         self.later = ask_behind(leads, &mut self.routes, &mut self.arrivals, books);
@@ -146,6 +149,7 @@ fn ask_open<L: Ledger, W: Peer + Drop>(
     alloc: Global,
     books: &mut L,
     request: Asked<Vec<u8>>,
+    note: Option<Note>,
     writer: W,
 ) -> (Result<Served, Answer>, W)
     ensures done { IsTransition (L.seen books.old) (L.seen books.new)
@@ -156,7 +160,7 @@ fn ask_open<L: Ledger, W: Peer + Drop>(
 {
     match request {
         Asked::Report(report, kind) => ask_report(alloc, books, report, kind, writer),
-        request => ask_once(alloc, books, request, writer),
+        request => ask_once(alloc, books, request, note, writer),
     }
 }
 
@@ -190,6 +194,7 @@ fn ask_once<L: Ledger, W: Peer + Drop>(
     alloc: Global,
     books: &mut L,
     request: Asked<Vec<u8>>,
+    note: Option<Note>,
     writer: W,
 ) -> (Result<Served, Answer>, W)
     ensures done { IsTransition (L.seen books.old) (L.seen books.new)
@@ -198,7 +203,7 @@ fn ask_once<L: Ledger, W: Peer + Drop>(
     ensures came { ComesOpen request (W.contents writer) (W.contents result.1)
         (∥ HasFailed W.Writer.may_answer result.1 ∥₁) result.0 }
 {
-    match ask_office(alloc, books, request) {
+    match ask_office(alloc, books, request, note) {
         Ok(answer) => (Err(answer), writer),
         Err(long) => {
             writer.hurry();
@@ -273,6 +278,7 @@ fn send_away<W: Peer + Drop>(early: bool, fault: RepositoryFault, writer: W) -> 
 fn answer_from_books<W: Peer + Drop, C: Arrivals + Drop, S: Repository>(
     routes: &mut Routes,
     request: Asked<Vec<u8>>,
+    note: Option<Note>,
     writer: W,
     arrivals: C,
     repository: &mut S,
@@ -292,6 +298,7 @@ fn answer_from_books<W: Peer + Drop, C: Arrivals + Drop, S: Repository>(
     let mut open_request = OpenRequest {
         routes: mem::replace(routes, Routes::new(alloc)),
         request,
+        note,
         writer,
         arrivals,
         later: nobody,
@@ -318,6 +325,7 @@ fn answer_from_books<W: Peer + Drop, C: Arrivals + Drop, S: Repository>(
 fn answer_request<W: Peer + Drop, C: Arrivals + Drop, S: Repository>(
     routes: &mut Routes,
     request: Asked<Vec<u8>>,
+    note: Option<Note>,
     writer: W,
     arrivals: C,
     repository: &mut S,
@@ -343,15 +351,17 @@ fn answer_request<W: Peer + Drop, C: Arrivals + Drop, S: Repository>(
             };
             (attended, writer, arrivals)
         }
-        request => answer_from_books(routes, request, writer, arrivals, repository, book),
+        request => { answer_from_books(routes, request, note, writer, arrivals, repository, book) }
     }
 }
 
 /// Serves one request as `book_http::serve_one` does, from the books of a name, which are opened
-/// for it once it came whole; and those that come behind it while they are open.
+/// for it once it came whole; and those that come behind it while they are open. What it posts has
+/// the note.
 pub fn serve_request<R: Reader + Drop, W: Peer + Drop, C: Arrivals + Drop, S: Repository>(
     routes: &mut Routes,
     source: &mut Source<R>,
+    note: Option<Note>,
     writer: W,
     arrivals: C,
     repository: &mut S,
@@ -380,7 +390,7 @@ pub fn serve_request<R: Reader + Drop, W: Peer + Drop, C: Arrivals + Drop, S: Re
         → ∥ HasFailed W.Writer.may_answer result.1 ∥₁ }
 {
     match read_request(routes, source) {
-        Ok(request) => answer_request(routes, request, writer, arrivals, repository, book),
+        Ok(request) => { answer_request(routes, request, note, writer, arrivals, repository, book) }
         Err(Unanswered::Closed) => {
             let attended = unopened(routes.alloc(), Served::Closed);
             (attended, writer, arrivals)

@@ -81,7 +81,7 @@ pub(crate) fn dry_run<S: Repository, F: Inputs>(
     ensures { ComesOfDryRun (F.held inputs.now) (BookRequest.Rule ruling.entry) book.now
         (S.shelf repository.old) (S.shelf repository.new) result }
 {
-    let asked = asked_ruling(rt.alloc(), &*repository, inputs, book, ruling)?;
+    let asked = asked_ruling(rt.alloc(), &*repository, inputs, book, ruling, None)?;
     Ok(try_books(rt.alloc(), repository, inputs, book, asked))
 }
 
@@ -151,20 +151,20 @@ fn named(alloc: Global, asked: &Asked) -> Result<TriedRuling, LedgerFault>
     ensures refused { IfErr result (λ fault. (fault ≡ Memory) ⊎ IsUnnamed asked.now fault) }
 {
     match asked {
-        Asked::Rule(OwnedRuling::Tariff(text)) => {
+        Asked::Rule(OwnedRuling::Tariff(text), _) => {
             Ok(TriedRuling::Tariff(Tariff::parse(alloc, text)?.effective()))
         }
-        Asked::Rule(OwnedRuling::Close { period, through }) => Ok(TriedRuling::Close {
+        Asked::Rule(OwnedRuling::Close { period, through }, _) => Ok(TriedRuling::Close {
             period: *period,
             through: *through,
         }),
-        Asked::Rule(OwnedRuling::Choose(name)) => Ok(TriedRuling::Choose(*name)),
-        Asked::Rule(OwnedRuling::Adopt(_)) => Ok(TriedRuling::Adopt),
-        Asked::Rule(OwnedRuling::Replace(text)) => {
+        Asked::Rule(OwnedRuling::Choose(name), _) => Ok(TriedRuling::Choose(*name)),
+        Asked::Rule(OwnedRuling::Adopt(_), _) => Ok(TriedRuling::Adopt),
+        Asked::Rule(OwnedRuling::Replace(text), _) => {
             Ok(TriedRuling::Replace(Tariff::parse(alloc, text)?.effective()))
         }
-        Asked::Rule(OwnedRuling::Withhold(name)) => Ok(TriedRuling::Withhold(*name)),
-        Asked::Rule(OwnedRuling::Credit { period, centre, .. }) => Ok(TriedRuling::Credit {
+        Asked::Rule(OwnedRuling::Withhold(name), _) => Ok(TriedRuling::Withhold(*name)),
+        Asked::Rule(OwnedRuling::Credit { period, centre, .. }, _) => Ok(TriedRuling::Credit {
             period: *period,
             centre: *centre,
         }),

@@ -129,10 +129,10 @@ fn day_asked(
     ensures memory { IfErr result (λ fault. fault ≡ LedgerFault.Memory) }
 {
     match asked {
-        Asked::Rule(OwnedRuling::Close { through, .. }) => {
+        Asked::Rule(OwnedRuling::Close { through, .. }, _) => {
             Ok(Some(closed_through(today, *through)))
         }
-        Asked::Rule(OwnedRuling::Tariff(text)) => first_day(alloc, text.as_str()),
+        Asked::Rule(OwnedRuling::Tariff(text), _) => first_day(alloc, text.as_str()),
         _ => Ok(None),
     }
 }

@@ -14,6 +14,7 @@ mod dated_rulings;
 mod dry_runs;
 mod due;
 mod far;
+mod import_works;
 mod laws;
 mod near_rulings;
 mod port;

@@ -12,7 +12,7 @@ use crate::answered::Answered;
 use crate::asked_rulings::asked_ruling;
 use crate::book_commands::{answer_in, ask_with};
 use crate::far::is_far_asked;
-use book_core::{Ledger, LedgerFault};
+use book_core::{Ledger, LedgerFault, Note};
 use command_line::{BookRequest, Ruling};
 use named_books::{Opened, Repository, RepositoryFault, Visit};
 use office::{Answer, Asked};
@@ -96,18 +96,19 @@ fn near_answer(told: Result<NearAnswer, RepositoryFault>) -> Result<Answer, Comm
     }
 }
 
-/// Makes a ruling on the books of a name, unless its day is far.
+/// Makes a ruling on the books of a name, with its note, unless its day is far.
 pub(crate) fn rule_near<S: Repository, F: Inputs>(
     rt: &HostRuntime,
     repository: &mut S,
     inputs: &F,
     book: &str,
     ruling: Ruling<'_>,
+    note: Option<Note>,
 ) -> Result<Answered, CommandFault>
     ensures { ComesNear (F.held inputs.now) (BookRequest.Rule ruling.entry) book.now
         (S.shelf repository.old) (S.shelf repository.new) result }
 {
-    let asked = asked_ruling(rt.alloc(), &*repository, inputs, book, ruling)?;
+    let asked = asked_ruling(rt.alloc(), &*repository, inputs, book, ruling, note)?;
     Ok(ask_books_near(rt.alloc(), repository, inputs, book, asked))
 }
 

@@ -11,13 +11,14 @@ use crate::client_requests::{Attended, serve_request, unopened};
 use crate::connection::Client;
 use crate::due::Due;
 use crate::waiting::Waiting;
-use book_core::Source;
+use book_core::{Note, Source};
 use book_http::{Routes, Served};
 use named_books::Repository;
 use request_bursts::Arrivals;
 use std::io;
 use std::net::{TcpListener, TcpStream};
 use streams::{Reader, Writer};
+use without_books::noted_now;
 
 /// A given number of connections, one after the other: those to a port, or any others.
 pub trait Connections {
@@ -90,6 +91,8 @@ pub trait Peer: Reader + Writer + Copy {
 #[derive(Drop)]
 pub(crate) struct Port<'a> {
     rt: &'a HostRuntime,
+    /// The note of what is posted, but for the time.
+    note: Option<Note>,
     pub(crate) due: Due,
     /// One router for all that they ask.
     routes: Routes,
@@ -97,12 +100,18 @@ pub(crate) struct Port<'a> {
 }
 
 impl<'a> Port<'a> {
-    /// So many requests are to be answered.
-    pub(crate) fn over(rt: &'a HostRuntime, listener: &'a TcpListener, requests: u32) -> Port<'a>
+    /// So many requests are to be answered; what they post has such a note.
+    pub(crate) fn over(
+        rt: &'a HostRuntime,
+        listener: &'a TcpListener,
+        requests: u32,
+        note: Option<Note>,
+    ) -> Port<'a>
         ensures { result.due ≡ first_due requests }
     {
         Port {
             rt,
+            note,
             due: Due::first(requests),
             routes: Routes::new(rt.alloc()),
             waiting: Waiting::at(rt, listener),
@@ -131,6 +140,7 @@ impl<'a> Port<'a> {
         let (attended, soon) = answer_stream(
             self.rt,
             &mut self.routes,
+            &self.note,
             stream,
             soon,
             repository,
@@ -179,6 +189,7 @@ impl Connections for Port<'_> {
 fn answer_stream<C: Arrivals + Drop, S: Repository>(
     rt: &HostRuntime,
     routes: &mut Routes,
+    note: &Option<Note>,
     stream: &TcpStream,
     arrivals: C,
     repository: &mut S,
@@ -192,15 +203,37 @@ fn answer_stream<C: Arrivals + Drop, S: Repository>(
         let attended = unopened(rt.alloc(), Served::ReadFault);
         return (attended, arrivals);
     };
-    let (attended, _, arrivals) = answer_peer(routes, client, arrivals, repository, book);
+    answer_client(rt, routes, note, client, arrivals, repository, book)
+}
+
+/// Answers a client, and those that come soon behind it. What it posts has the note at this time;
+/// without memory for that, nothing is read.
+fn answer_client<C: Arrivals + Drop, S: Repository>(
+    rt: &HostRuntime,
+    routes: &mut Routes,
+    note: &Option<Note>,
+    client: Client<'_>,
+    arrivals: C,
+    repository: &mut S,
+    book: &str,
+) -> (Attended, C)
+    ensures attended { Attends S.shelf book.now None repository.old repository.new result.0 }
+    ensures count { C.left result.1 + length (later_of result.0) ≡ C.left arrivals }
+{
+    let Ok(posted) = noted_now(rt, note) else {
+        let attended = unopened(rt.alloc(), Served::ReadFault);
+        return (attended, arrivals);
+    };
+    let (attended, _, arrivals) = answer_peer(routes, posted, client, arrivals, repository, book);
     (attended, arrivals)
 }
 
 /// Reads one request of a client, asks it of the books of a name, and answers; and those that come soon
 /// behind it, while the books are open. A client that was answered is drained before it is let go, so
-/// that it can read its answer.
+/// that it can read its answer. What it posts has the note.
 pub fn answer_peer<P: Peer + Drop, C: Arrivals + Drop, S: Repository>(
     routes: &mut Routes,
+    note: Option<Note>,
     peer: P,
     arrivals: C,
     repository: &mut S,
@@ -229,6 +262,7 @@ pub fn answer_peer<P: Peer + Drop, C: Arrivals + Drop, S: Repository>(
     let (attended, peer, arrivals) = serve_request(
         routes,
         &mut source,
+        note,
         peer,
         arrivals,
         repository,

@@ -11,6 +11,7 @@ use crate::audits::{audit, back_up};
 use crate::book_commands::{import_dump, rule, tell};
 use crate::choices::choose_listed;
 use crate::dry_runs::dry_run;
+use crate::import_works::withhold_by_entry;
 use crate::near_rulings::rule_near;
 use crate::report_commands::{report, what_if};
 use crate::serve::serve;
@@ -18,6 +19,7 @@ use crate::streamed_lists::list;
 use crate::upgrades::upgrade;
 use crate::withheld_works::withhold_dump;
 use book_audit::AuditedRepository;
+use book_core::{LedgerFault, Note};
 use command_line::{ArgumentFault, BookRequest, Request, requested_by};
 use named_books::{RepositoryFault, WaitingRepository};
 use program_output::{PROGRAM, Status, out_of_memory, say};
@@ -25,7 +27,7 @@ use std::io::Read;
 use streams::Writer;
 use tariff_rules::{MAX_RATE, Tariff};
 use without_books::{
-    CommandFault, Ended, Inputs, Said, check, explain, help, print_text, run_trial,
+    CommandFault, Ended, Inputs, Said, check, explain, help, note_of, print_text, run_trial,
     run_trial_under, say_fault, settled,
 };
 
@@ -98,10 +100,21 @@ where
             let came = explain(rt.alloc(), kind, number, &mut output);
             (Ended::without_log(came), output)
         }
-        Request::OfBooks { book, wait, asked } => {
-            repository.wait_up_to(wait_for(&asked, wait));
-            run_on_books(rt, repository, inputs, book, asked, output)
-        }
+        Request::OfBooks {
+            book,
+            wait,
+            note,
+            asked,
+        } => match note_of(rt.alloc(), inputs, note, &asked) {
+            Ok(own) => {
+                repository.wait_up_to(wait_for(&asked, wait));
+                run_on_books(rt, repository, inputs, book, own, asked, output)
+            }
+            Err(_) => {
+                let memory = CommandFault::Ledger(LedgerFault::Memory);
+                (Ended::without_log(Err(memory)), output)
+            }
+        },
         Request::Unclear(why) => (Ended::without_log(Err(CommandFault::Unclear(why))), output),
     }
 }
@@ -117,12 +130,13 @@ fn wait_for(asked: &BookRequest<'_>, wait: u16) -> u16
     }
 }
 
-/// Does what is asked of books.
+/// Does what is asked of books, with its note.
 fn run_on_books<S: AuditedRepository, F: Inputs, O: Writer + Drop>(
     rt: &HostRuntime,
     repository: &mut S,
     inputs: &F,
     book: &str,
+    note: Option<Note>,
     asked: BookRequest<'_>,
     mut output: O,
 ) -> (Ended, O)
@@ -131,12 +145,20 @@ fn run_on_books<S: AuditedRepository, F: Inputs, O: Writer + Drop>(
 {
     match asked {
         BookRequest::Init => (Ended::without_log(made(repository.make(book))), output),
-        BookRequest::Rule(ruling) => tell(rule(rt, repository, inputs, book, ruling), output),
+        BookRequest::Rule(ruling) => {
+            tell(rule(rt, repository, inputs, book, ruling, note), output)
+        },
         BookRequest::RuleNear(ruling) => {
-            tell(rule_near(rt, repository, inputs, book, ruling), output)
+            tell(
+                rule_near(rt, repository, inputs, book, ruling, note),
+                output,
+            )
         }
         BookRequest::Import(dump) => {
-            tell(import_dump(rt, repository, inputs, book, dump), output)
+            tell(
+                import_dump(rt, repository, inputs, book, dump, note),
+                output,
+            )
         }
         BookRequest::ChooseListed { none, file } => choose_listed(
             rt.alloc(),
@@ -146,6 +168,7 @@ fn run_on_books<S: AuditedRepository, F: Inputs, O: Writer + Drop>(
             file,
             false,
             none,
+            note,
             output,
         ),
         BookRequest::TryListed { none, file } => choose_listed(
@@ -156,6 +179,7 @@ fn run_on_books<S: AuditedRepository, F: Inputs, O: Writer + Drop>(
             file,
             true,
             none,
+            None,
             output,
         ),
         BookRequest::WithholdDump { file, layout } => withhold_dump(
@@ -165,6 +189,15 @@ fn run_on_books<S: AuditedRepository, F: Inputs, O: Writer + Drop>(
             book,
             file,
             layout,
+            note,
+            output,
+        ),
+        BookRequest::WithholdImport { number } => withhold_by_entry(
+            rt.alloc(),
+            repository,
+            book,
+            number,
+            note,
             output,
         ),
         BookRequest::DryRun(ruling) => tell(dry_run(rt, repository, inputs, book, ruling), output),
@@ -189,7 +222,7 @@ fn run_on_books<S: AuditedRepository, F: Inputs, O: Writer + Drop>(
             (settled(audited), output)
         }
         BookRequest::Serve { port, requests } => {
-            let (served, output) = serve(rt, repository, book, port, requests, output);
+            let (served, output) = serve(rt, repository, book, port, requests, note, output);
             (settled(served), output)
         }
     }

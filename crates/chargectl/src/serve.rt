@@ -11,6 +11,7 @@ ghost use Rattle.chargectl.specs.Serving.{ServesUntil, line_of, lines_of, ready,
 use crate::client_requests::Attended;
 use crate::port::{Connections, Port};
 use arrayvec::ArrayString;
+use book_core::Note;
 use book_http::Served;
 use book_reports::ReportFault;
 use itoa::Buffer;
@@ -26,13 +27,14 @@ type Line = ArrayString<16>;
 /// Answers a given number of connections, one after the other, and says what became of each; those that
 /// are turned away come beside them. That the books can't be opened is told before the port is taken;
 /// from then on they are open only while they are asked. A line that can't be written keeps nobody from
-/// being answered: that is told at the end.
+/// being answered: that is told at the end. What is posted has the note, at the time when it came.
 pub(crate) fn serve<S: Repository, O: Writer + Drop>(
     rt: &HostRuntime,
     repository: &mut S,
     book: &str,
     port: u16,
     requests: u32,
+    note: Option<Note>,
     output: O,
 ) -> (Result<Ended, CommandFault>, O)
     ensures { ServesBy S.shelf requests book.now repository.old repository.new
@@ -45,7 +47,7 @@ pub(crate) fn serve<S: Repository, O: Writer + Drop>(
     match listen(rt, port, answer) {
         Ok(listener) => {
             let (ended, output) = serve_here(
-                rt, &listener, requests, repository, book, has_log, output,
+                rt, &listener, requests, note, repository, book, has_log, output,
             );
             (Ok(ended), output)
         }
@@ -98,6 +100,7 @@ fn serve_here<S: Repository, O: Writer + Drop>(
     rt: &HostRuntime,
     listener: &TcpListener,
     requests: u32,
+    note: Option<Note>,
     repository: &mut S,
     book: &str,
     has_log: bool,
@@ -109,7 +112,7 @@ fn serve_here<S: Repository, O: Writer + Drop>(
     ensures { Serves S.shelf (λ _. ⊥) requests book.now repository.old repository.new
         (O.contents output) (O.contents result.1) (∥ HasFailed O.may_answer result.1 ∥₁) result.0 }
 {
-    let mut port = Port::over(rt, listener, requests);
+    let mut port = Port::over(rt, listener, requests, note);
     let mut lines = ServedLines::new(output);
     say_ready(&mut lines);
     let (answered, has_log) = serve_each(&mut port, repository, book, has_log, &mut lines);

@@ -1,5 +1,5 @@
-//! Lists that are written while the books are open: the details of a period, the rulings and the
-//! disputes. With a million records or choices a list has 90 MB or more, and is never held whole.
+//! Lists that are written while the books are open: the details of a period, the rulings, the disputes
+//! and the journal. With a million records or choices a list has 90 MB or more, and is never held whole.
 
 ghost use Rattle.std.specs.Prelude.{◌≡◌, Err, IfErr, IsErr, OnErr, OnOk, false};
 ghost use Rattle.std.specs.Io.KnownBytes.{Keeps};
@@ -14,7 +14,9 @@ ghost use Rattle.chargectl.specs.StreamedLists as spec;
 
 use crate::report_commands::about_of;
 use book_core::{Ledger, Sink};
-use book_reports::{DetailReport, ReportFault, write_details, write_disputes, write_rulings};
+use book_reports::{
+    DetailReport, ReportFault, write_details, write_disputes, write_journal, write_rulings,
+};
 use command_line::ReportAsked;
 use named_books::{Opened, Repository, RepositoryFault, Visit};
 use office::StatementForm;
@@ -29,6 +31,7 @@ pub(crate) enum StreamedList {
     Details(DetailReport),
     Rulings,
     Disputes(StatementForm),
+    Journal(StatementForm),
 }
 
 /// The list of this name about that. `None`: there is none.
@@ -46,6 +49,7 @@ fn list_about(name: ReportName, form: StatementForm, about: About) -> Option<Str
         },
         About::OfOffice => match name {
             ReportName::Disputes => Some(StreamedList::Disputes(form)),
+            ReportName::Journal => Some(StreamedList::Journal(form)),
             ReportName::Rulings => Some(StreamedList::Rulings),
             _ => None,
         },
@@ -91,6 +95,7 @@ fn write_of<L: Ledger, O: Writer + Drop>(
         StreamedList::Details(report) => write_details(alloc, books, report, sink),
         StreamedList::Rulings => write_rulings(alloc, books, sink),
         StreamedList::Disputes(form) => write_disputes(alloc, books, form, sink),
+        StreamedList::Journal(form) => write_journal(alloc, books, form, sink),
     }
 }
 
@@ -111,8 +116,8 @@ impl<O: Writer + Drop> Visit for Listing<O> {
     ghost answered = { λ naming it after told. listing_answered (list_answer it.list) naming
         (O.contents (writer_of it.sink)) (O.contents (writer_of after.sink)) told };
 
-    /// Rulings are few. Details go over many pages, and a list of disputes looks their records up
-    /// wherever these lie.
+    /// Rulings are few. Details and the journal go over many pages, and a list of disputes looks their
+    /// records up wherever these lie.
     fn is_brief(&self) -> bool {
         matches!(self.list, StreamedList::Rulings)
     }

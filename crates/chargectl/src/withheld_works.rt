@@ -4,6 +4,7 @@
 
 ghost use Rattle.std.specs.Prelude.{◌≡◌, IfErr, IfOk};
 ghost use Rattle.streams.specs.Failures.{HasFailed};
+ghost use Rattle.book_model.specs.Words.{note_given};
 ghost use Rattle.office.proofs.WithholdingLemmas.{so_answered};
 ghost use Rattle.without_books.specs.Faults.{IsFileFault, end_of};
 ghost use Rattle.chargectl.specs.Commands.{first_fault};
@@ -12,8 +13,8 @@ ghost use Rattle.chargectl.specs.WithheldWorks.{ComesOfDump, IsNamedOf, IsWithhe
 ghost use Rattle.chargectl.specs.WithheldWorks.{TellsDump, TellsTold, TellsWorks, WithholdsDump};
 ghost use Rattle.chargectl.specs.WithheldWorks.{WorksBy};
 
-use book_core::{Ledger, LedgerFault, ShaNames, Source};
-use book_import::{DumpNames, MAX_READS, Stop, dump_names};
+use book_core::{Ledger, LedgerFault, Note, ShaNames, Source, Stop};
+use book_import::{DumpNames, MAX_READS, dump_names};
 use book_reports::withheld_line_text;
 use named_books::{Opened, Repository, RepositoryFault, Visit};
 use office::{WorksTold, withhold_each};
@@ -27,21 +28,23 @@ use without_books::{CommandFault, Ended, Inputs, end_of, print_text};
 #[derive(Drop)]
 struct NamedWorks {
     names: Vec<[u8; 32]>,
+    note: Option<Note>,
 }
 
 impl Visit for NamedWorks {
     /// What came of them.
     type Answer = WorksTold;
 
-    ghost work = { λ naming works _ told. WorksBy naming works.names.items told };
+    ghost work = { λ naming works _ told.
+        WorksBy (note_given works.note) naming works.names.items told };
 
     ghost comes = { λ _ _ _. Unit {0} };
 
     ghost answered = { λ naming works _ told.
-        so_answered naming works.names.items told.counts told.refusal };
+        so_answered (note_given works.note) naming works.names.items told.counts told.refusal };
 
     fn visit<L: Ledger>(&mut self, books: &mut L) -> WorksTold {
-        withhold_each(books, &self.names)
+        withhold_each(books, &self.names, &self.note)
     }
 }
 
@@ -56,7 +59,7 @@ pub(crate) struct WorksAnswered {
     pub(crate) has_log: bool,
 }
 
-/// Withholds the works of the records of a dump, and writes how many were withheld.
+/// Withholds the works of the records of a dump, with the note, and writes how many were withheld.
 pub(crate) fn withhold_dump<S: Repository, F: Inputs, O: Writer + Drop>(
     alloc: Global,
     repository: &mut S,
@@ -64,13 +67,14 @@ pub(crate) fn withhold_dump<S: Repository, F: Inputs, O: Writer + Drop>(
     book: &str,
     file: &str,
     layout: Layout,
+    note: Option<Note>,
     output: O,
 ) -> (Ended, O)
     ensures { WithholdsDump layout ((F.held inputs.now).holds file.now) book.now
         (S.shelf repository.old) (S.shelf repository.new) (O.contents output) (O.contents result.1)
         (∥ HasFailed O.may_answer result.1 ∥₁) result.0 }
 {
-    let answered = ask_works(alloc, repository, inputs, book, file, layout);
+    let answered = ask_works(alloc, repository, inputs, book, file, layout, note);
     tell_works(answered, output)
 }
 
@@ -82,13 +86,14 @@ fn ask_works<S: Repository, F: Inputs>(
     book: &str,
     file: &str,
     layout: Layout,
+    note: Option<Note>,
 ) -> Result<WorksAnswered, CommandFault>
     ensures { ComesOfDump layout ((F.held inputs.now).holds file.now) book.now
         (S.shelf repository.old) (S.shelf repository.new) result }
 {
     repository.expect(book)?;
     let named = read_dump(alloc, inputs, file, layout)?;
-    Ok(withhold_named(repository, book, named))
+    Ok(withhold_named(repository, book, named, note))
 }
 
 /// The names of the usage records of a dump in a file.
@@ -121,11 +126,16 @@ fn read_names<R: Read + Drop>(
 }
 
 /// Opens the books, and withholds the works of the records of these names.
-fn withhold_named<S: Repository>(repository: &mut S, book: &str, named: DumpNames) -> WorksAnswered
+fn withhold_named<S: Repository>(
+    repository: &mut S,
+    book: &str,
+    named: DumpNames,
+    note: Option<Note>,
+) -> WorksAnswered
     ensures { IsWithheld named book.now (S.shelf repository.old) (S.shelf repository.new) result }
 {
     let DumpNames { names, stop } = named;
-    let mut works = NamedWorks { names };
+    let mut works = NamedWorks { names, note };
     let Opened { answer, has_log } = repository.open(book, &mut works);
     WorksAnswered {
         told: answer,
@@ -134,8 +144,8 @@ fn withhold_named<S: Repository>(repository: &mut S, book: &str, named: DumpName
     }
 }
 
-/// Writes what came of a dump, and says how the command ends.
-fn tell_works<O: Writer + Drop>(
+/// Writes what came of works, and says how the command ends.
+pub(crate) fn tell_works<O: Writer + Drop>(
     answered: Result<WorksAnswered, CommandFault>,
     output: O,
 ) -> (Ended, O)

@@ -4,6 +4,7 @@ use Rattle.std.specs.Borrow.{Bor}
 use Rattle.book_model.specs.Words.{Naming}
 use Rattle.book_core.specs.Ledgers.{Seen}
 use Rattle.command_line.specs.declared.request.BookRequest.TheVariants.{Init}
+use Rattle.command_line.specs.declared.request.NoteWords.{NoteWords}
 use Rattle.command_line.specs.declared.request.Request.TheVariants.{OfBooks}
 use Rattle.program_output.specs.declared.status.Status.TheVariants.{Done}
 use Rattle.chargectl.specs.CommandLaws.{AreCommanded, Commanded, LeaveHistory, place_after}
@@ -24,9 +25,10 @@ abbrev pub CommandsFromNothing : {L O E : Type 0} → (L → Seen) → Naming �
 CommandsFromNothing {L} {O} {E} seen names contents may_answer Says =
     (before : MemoryBooks L) (first : Commanded (MemoryBooks L) O E)
     (later : List (Commanded (MemoryBooks L) O E)) (book : Bor (List ℕ)) (wait : ℕ)
+    (note : NoteWords)
     (one : CommandsBy first.files (memory_shelf seen names) waits_in before first.after first.words
     first.had contents may_answer first.held first.holds Says first.quiet first.said first.status)
-    → one.asked ≡ Ok (OfBooks book wait Init) → first.status ≡ Done
+    → one.asked ≡ Ok (OfBooks book wait note Init) → first.status ≡ Done
     → books_at before.kept.items book.now ≡ None
     → AreCommanded (memory_shelf seen names) waits_in contents may_answer Says first.after later
     → LeaveHistory (memory_shelf seen names) contents may_answer first.after names book.now [] later

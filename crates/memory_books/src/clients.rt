@@ -83,7 +83,14 @@ impl Connections for MemoryClients<'_> {
             rest: self.bytes,
             is_drained: false,
         };
-        let (attended, _, _) = answer_peer(&mut self.routes, client, Nobody, repository, book);
+        let (attended, _, _) = answer_peer(
+            &mut self.routes,
+            None,
+            client,
+            Nobody,
+            repository,
+            book,
+        );
         Ok(attended)
     }
 }

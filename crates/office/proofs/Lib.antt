@@ -6,3 +6,4 @@ pub mod LawLemmas
 pub mod RunLemmas
 pub mod ChoiceLemmas
 pub mod WithholdingLemmas
+pub mod ImportWorkLemmas

@@ -6,8 +6,8 @@ use Rattle.std.specs.Io.KnownBytes.{Consumes, Appends}
 use Rattle.std.proofs.KnownBytes.{Appends-nil, Consumes-nil}
 use Rattle.streams.specs.InputOutput.{Input, ReaderSeen}
 use Rattle.book_model.specs.Words.{Layout, FrameFault, Front, front, Joining, HasTaken, broken_by}
-use Rattle.book_import.specs.declared.receipt.Stop.{Stop}
-use Rattle.book_import.specs.declared.receipt.Stop.TheVariants.{Frame}
+use Rattle.book_model.specs.declared.note.Stop.{Stop}
+use Rattle.book_model.specs.declared.note.Stop.TheVariants.{Frame}
 use Rattle.book_import.specs.Dumps.{stop_after, frame_stop}
 use Rattle.book_import.specs.ReadLimits.{piece_length}
 use Rattle.book_import.specs.Receipts.{is_stop_of_books}

@@ -5,8 +5,8 @@ use Rattle.sha2.specs.Sha256.{sha256}
 use Rattle.book_model.specs.Words.{front, Book, flat_book, Event, after_all, accept_outcome, Naming}
 use Rattle.book_model.specs.declared.fault.LedgerFault.{LedgerFault}
 use Rattle.book_model.specs.declared.fault.LedgerFault.TheVariants.{Memory}
-use Rattle.book_import.specs.declared.receipt.Stop.{Stop}
-use Rattle.book_import.specs.declared.receipt.Stop.TheVariants.{Ledger}
+use Rattle.book_model.specs.declared.note.Stop.{Stop}
+use Rattle.book_model.specs.declared.note.Stop.TheVariants.{Ledger}
 use Rattle.book_import.specs.Dumps.{stop_after}
 use Rattle.book_import.specs.declared.receipt.Receipt.{Receipt}
 use Rattle.book_import.specs.Handled.{Imported, handle, handle_all, continue_with, nothing_imported}

@@ -4,7 +4,7 @@ use Rattle.std.proofs.Common.{append_assoc, append-nil, length-append, Option, R
 use Rattle.std.specs.Io.KnownBytes.{Appends}
 use Rattle.std.proofs.KnownBytes.{Appends-trans}
 use Rattle.book_model.specs.Words.{class_of}
-use Rattle.book_import.specs.declared.receipt.Stop.{Stop}
+use Rattle.book_model.specs.declared.note.Stop.{Stop}
 use Rattle.book_lists.specs.declared.fault.ReportFault.{ReportFault}
 use Rattle.book_lists.specs.Streamed.{WritesFirst}
 use Rattle.book_lists.specs.Writing.{WritesUntil}

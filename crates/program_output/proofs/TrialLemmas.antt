@@ -9,8 +9,8 @@ use Rattle.book_model.specs.Words.{Rulings}
 use Rattle.book_core.specs.Words.{in_memory, IsTransition}
 use Rattle.book_model.specs.declared.fault.LedgerFault.TheVariants.{Memory}
 use Rattle.book_import.specs.declared.receipt.Receipt.{Receipt}
-use Rattle.book_import.specs.declared.receipt.Stop.{Stop}
-use Rattle.book_import.specs.declared.receipt.Stop.TheVariants.{Ledger}
+use Rattle.book_model.specs.declared.note.Stop.{Stop}
+use Rattle.book_model.specs.declared.note.Stop.TheVariants.{Ledger}
 use Rattle.book_import.specs.Dumps.{stop_after}
 use Rattle.book_import.specs.Reach.{IsReadFor}
 use Rattle.book_import.specs.ReadLimits.{piece_length}

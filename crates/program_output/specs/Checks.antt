@@ -2,7 +2,7 @@
 use Rattle.std.specs.Prelude.{◌≡◌, ℕ, Bool, List, ◌++◌, Option, Result, IfOk}
 use Rattle.std.specs.Io.KnownBytes.{Consumes, Appends}
 use Rattle.book_model.specs.Words.{Front, front}
-use Rattle.book_import.specs.declared.receipt.Stop.{Stop}
+use Rattle.book_model.specs.declared.note.Stop.{Stop}
 use Rattle.book_import.specs.Dumps.{stop_after}
 use Rattle.book_import.specs.Reach.{is_early_stop, EndsBy, IsNoFurther}
 use Rattle.book_import.specs.ReadLimits.{piece_length}

@@ -3,7 +3,7 @@ use Rattle.std.specs.Prelude.{◌≡◌, ℕ, false, List, Option}
 use Rattle.sha2.specs.Sha256.{sha256}
 use Rattle.book_model.specs.Words.{Layout, front, Terms, Book, flat_book, Event, after_all, Records}
 use Rattle.book_model.specs.Words.{by_bytes, set_of}
-use Rattle.book_import.specs.declared.receipt.Stop.{Stop}
+use Rattle.book_model.specs.declared.note.Stop.{Stop}
 use Rattle.book_import.specs.declared.receipt.Receipt.{Receipt}
 use Rattle.book_import.specs.Imports.{Imports}
 use Rattle.book_import.specs.Receipts.{is_stop_of_books}

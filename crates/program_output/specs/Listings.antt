@@ -4,7 +4,7 @@ use Rattle.std.specs.Prelude.{Ok}
 use Rattle.std.specs.Prelude.{Err, string_bytes}
 use Rattle.book_model.specs.Words.{Layout, FrameFault, front, Joining, HasTaken, broken_by}
 use Rattle.book_import.specs.Pieces.{TakesAll}
-use Rattle.book_import.specs.declared.receipt.Stop.{Stop}
+use Rattle.book_model.specs.declared.note.Stop.{Stop}
 use Rattle.book_lists.specs.declared.fault.ReportFault.{ReportFault}
 use Rattle.book_lists.specs.Streamed.{WritesFirst}
 use Rattle.program_output.specs.declared.listing.Checked.{Checked}

@@ -2,7 +2,7 @@
 use Rattle.std.specs.Prelude.{ℕ, Option}
 use Rattle.smf_frames.specs.declared.dump.Layout.{Layout}
 use Rattle.streams.specs.InputOutput.{Input}
-use Rattle.book_import.specs.declared.receipt.Stop.{Stop}
+use Rattle.book_model.specs.declared.note.Stop.{Stop}
 
 -- The layout of its segments; what cut the reading short, if anything did; how many reads are
 -- allowed; and the reader.

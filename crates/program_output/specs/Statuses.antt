@@ -4,8 +4,8 @@ use Rattle.std.specs.declared.io.ErrorKind.{ErrorKind}
 use Rattle.std.specs.declared.io.ErrorKind.TheVariants.{OutOfMemory}
 use Rattle.book_model.specs.declared.fault.LedgerFault.{LedgerFault}
 use Rattle.book_model.specs.declared.fault.LedgerFault.TheVariants as ledger
-use Rattle.book_import.specs.declared.receipt.Stop.{Stop}
-use Rattle.book_import.specs.declared.receipt.Stop.TheVariants.{End, Frame, Read, ReadLimit, Ledger}
+use Rattle.book_model.specs.declared.note.Stop.{Stop}
+use Rattle.book_model.specs.declared.note.Stop.TheVariants.{End, Frame, Read, ReadLimit, Ledger}
 use Rattle.book_lists.specs.declared.fault.ReportFault.{ReportFault}
 use Rattle.book_lists.specs.declared.fault.ReportFault.TheVariants as report
 use Rattle.program_output.specs.declared.status.Status.{Status}

@@ -205,7 +205,7 @@ impl Connections for Queue<'_, '_> {
             is_drained: false,
         };
         let soon = Soon { left: self.left };
-        let (attended, _, _) = answer_peer(&mut self.routes, peer, soon, repository, book);
+        let (attended, _, _) = answer_peer(&mut self.routes, None, peer, soon, repository, book);
         self.pass(attended.later.len());
         Ok(attended)
     }

@@ -1,7 +1,7 @@
 -- How a command ends that read a dump, and what it notices of that: it looked misread, or is torn.
 use Rattle.std.specs.Prelude.{◌&&◌, not, if◌then◌else◌, Bool, true, false, Option, Some, None}
-use Rattle.book_import.specs.declared.receipt.Stop.{Stop}
-use Rattle.book_import.specs.declared.receipt.Stop.TheVariants.{End, Read, ReadLimit}
+use Rattle.book_model.specs.declared.note.Stop.{Stop}
+use Rattle.book_model.specs.declared.note.Stop.TheVariants.{End, Read, ReadLimit}
 use Rattle.without_books.specs.declared.ended.Ended.{Ended}
 use Rattle.without_books.specs.declared.notice.Notice.{Notice}
 use Rattle.without_books.specs.declared.notice.Notice.TheVariants as notice

@@ -9,7 +9,7 @@ use Rattle.tariff_rules.specs.declared.tariff.entry.Entry.{Entry}
 use Rattle.tariff_rules.specs.declared.tariff.entry.Entry.TheVariants.{Shift, Centre}
 use Rattle.book_model.specs.Words.{frame_number, tariff_number, ledger_number}
 use Rattle.book_model.specs.declared.fault.LedgerFault.{LedgerFault}
-use Rattle.book_import.specs.declared.receipt.Stop.{Stop}
+use Rattle.book_model.specs.declared.note.Stop.{Stop}
 use Rattle.book_lists.specs.declared.fault.ReportFault.{ReportFault}
 use Rattle.book_lists.specs.declared.fault.ReportFault.TheVariants as report
 use Rattle.program_output.specs.Causes.{cause_text}
@@ -25,7 +25,7 @@ use Rattle.without_books.specs.declared.places.Place.{Place}
 use Rattle.without_books.specs.declared.places.Spot.{Spot}
 use Rattle.without_books.specs.declared.places.Within.{Within}
 use Rattle.book_model.specs.declared.fault.LedgerFault.TheVariants as ledger
-use Rattle.book_import.specs.declared.receipt.Stop.TheVariants as stop
+use Rattle.book_model.specs.declared.note.Stop.TheVariants as stop
 use Rattle.program_output.specs.declared.causes.Cause.TheVariants as cause
 use Rattle.program_output.specs.declared.explanations.FaultKind.TheVariants as kind
 use Rattle.program_output.specs.declared.words.WordKind.TheVariants as word

@@ -4,10 +4,10 @@
 ghost use Rattle.std.specs.Prelude.{IsTrue};
 ghost use Rattle.smf_text.specs.Day.{IsDay};
 
+use crate::inputs::seconds_now;
 use crate::shown_paths::push_path;
 use smf_text::{FIRST_DAY, LAST_DAY};
 use std::env;
-use std::time::{SystemTime, UNIX_EPOCH};
 use text_drafts::Draft;
 
 /// The option that asks for them.
@@ -59,13 +59,6 @@ pub(crate) fn push_heading(out: &mut Draft, rt: &HostRuntime, words: &[String]) 
         push_path(out, word.as_str());
     }
     out.push_str("\n");
-}
-
-/// The seconds since 1970, where there is a clock.
-fn seconds_now(rt: &HostRuntime) -> Option<u64> {
-    let now = SystemTime::now(rt).ok()?;
-    let since = now.duration_since(UNIX_EPOCH).ok()?;
-    Some(since.as_secs())
 }
 
 /// The day is one that this product knows.

@@ -32,7 +32,7 @@ returns g c =
     let looked = c.look_at-reader in
     let remaining = watched_remaining g.F.Input.Read.remaining in
     record {
-      asked = asks.Import c.args.dump.layout;
+      asked = asks.Import c.args.dump.layout c.args.note;
       words = refl;
       had = whole_remaining remaining looked.result.reader;
       came = record {

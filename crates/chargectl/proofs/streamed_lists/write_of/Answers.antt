@@ -11,3 +11,7 @@ returns-in-Rulings-clause-written g c =
 pub returns-in-Disputes-clause-written : goal.returns-in-Disputes-clause-written
 returns-in-Disputes-clause-written g c =
     rw c.in-Disputes.is c.write_disputes.ensures.written
+
+pub returns-in-Journal-clause-written : goal.returns-in-Journal-clause-written
+returns-in-Journal-clause-written g c =
+    rw c.in-Journal.is c.write_journal.ensures.written

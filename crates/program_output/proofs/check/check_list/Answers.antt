@@ -5,7 +5,7 @@ use Rattle.std.proofs.KnownBytes.{Consumes-trans}
 use Rattle.std.proofs.lemmas.Result.{err_from_is_err_and}
 use Rattle.streams.specs.Sinks.{writer_of}
 use Rattle.streams.specs.Sources.{reader_of}
-use Rattle.book_import.specs.declared.receipt.Stop.TheVariants.{Frame}
+use Rattle.book_model.specs.declared.note.Stop.TheVariants.{Frame}
 use Rattle.program_output.specs.Listings.{TakesOrBreaks, listed_count}
 use Rattle.program_output.proofs.CheckLemmas.{no_check, lists_more, check_ended, check_broken}
 use Rattle.program_output.proofs.CheckLemmas.{check_cut, no_books}

@@ -1,4 +1,5 @@
 use Rattle.std.proofs.Common.{subst}
+use Rattle.book_model.specs.Words.{note_given}
 use Rattle.book_core.specs.Transition.{IsTransition}
 use Rattle.chargectl.specs.Choices.{ChoosesBy}
 use Rattle.chargectl.proofs.ListLemmas.{choices_made}
@@ -10,8 +11,9 @@ returns-clause-done g c =
     let old = c.args.books.now in
     let new = c.choose_each.new.ledger in
     let told = c.choose_each.result in
-    subst (λ names. IsTransition (seen old) (seen new) (ChoosesBy c.args.self.now.withheld
+    let said = note_given c.args.self.now.note in
+    subst (λ names. IsTransition (seen old) (seen new) (ChoosesBy said c.args.self.now.withheld
     (seen old).naming names told))
     c.deref.ensures.value
-    (choices_made c.args.self.now.withheld seen old new c.deref.result.now told c.choose_each.ensures.chosen
-    c.choose_each.ensures.none)
+    (choices_made said c.args.self.now.withheld seen old new c.deref.result.now told
+    c.choose_each.ensures.chosen c.choose_each.ensures.none)

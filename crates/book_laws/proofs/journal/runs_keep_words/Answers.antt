@@ -1,0 +1,5 @@
+use Rattle.book_laws.proofs.JournalLemmas.{runs_keep_words}
+use Rattle.book_laws.proofs.journal.runs_keep_words.Goals as goal
+
+pub returns : goal.returns
+returns c = runs_keep_words
