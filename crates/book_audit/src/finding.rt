@@ -1,6 +1,6 @@
 //! What is wrong with books, and where.
 
-ghost use Rattle.std.specs.Prelude.{◌≡◌, ◌==◌, if◌then◌else◌, length, true};
+ghost use Rattle.std.specs.Prelude.{◌≡◌, ◌==◌, if◌then◌else◌, true};
 ghost use Rattle.sqlite_trees.specs.View.{View};
 ghost use Rattle.sqlite_value.specs.Keys.{plain};
 ghost use Rattle.tree_tables.specs.Holds.{HasShapes};

@@ -109,7 +109,7 @@ last_long : (tree : Tree) (done : List Row) → AreWide tree done → done ≢ [
 last_long tree [] wide some = absurd (some refl)
 last_long tree (row ∷ []) wide some =
     let few = within tree (length row) in
-    let long = wide.0 in
+    let long : length row ≡ width tree (length row) = wide.0 in
     length-take-le (key_width tree) row (omega arith)
 last_long tree (row ∷ next ∷ rows) wide some =
     last_long tree (next ∷ rows) wide.1 (λ none. absurd (cc))
@@ -122,14 +122,14 @@ last_pushed tree (e ∷ next ∷ done) row = last_pushed tree (next ∷ done) ro
 
 -- rows that have the tree's columns compare with a key as their keys do
 compare_keys : (tree : Tree) (done : List Row) (row : Row) → AreWide tree done
-    → IsWide tree row
+    → length row ≡ width tree (length row)
     → AllByRecursion (λ e. row_cmp (key_in tree e) (key_in tree row) ≡ Less) done
     → AllByRecursion (λ e. prefix_cmp plain e (key_in tree row) ≡ Less) done
 compare_keys tree [] row wide long below = tt
 compare_keys tree (e ∷ done) row wide long below =
     let few = within tree (length e) in
     let others = within tree (length row) in
-    let its = wide.0 in (
+    let its : length e ≡ width tree (length e) = wide.0 in (
       prefix_is (key_width tree) e (key_in tree row) (omega arith)
           (length-take-le (key_width tree) row (omega arith)) ∙ below.0,
       compare_keys tree done row wide.1 long below.1,
@@ -144,7 +144,7 @@ each_below tree [] row below = tt
 each_below tree (e ∷ done) row below = ((below.0, tt), each_below tree done row below.1)
 
 module _ (tree : Tree) (key row : Row) (rows done : List Row) (so_far : HasWalked tree key rows done)
-    (there : IsFirst (rows_past key rows) row true) (long : IsWide tree row)
+    (there : IsFirst (rows_past key rows) row true) (long : length row ≡ width tree (length row))
     (after : key ≢ [] → is_gt (prefix_cmp plain row key) ≡ true) where
   own : length (key_in tree row) ≡ key_width tree
   own = let few = within tree (length row) in length-take-le (key_width tree) row (omega arith)

@@ -1,4 +1,4 @@
-use Rattle.std.proofs.Common.{◌≡◌, ◌∙◌, ◌∷◌, [], None, Some, rules, sym, subst, true}
+use Rattle.std.proofs.Common.{◌≡◌, ◌∙◌, ◌∷◌, [], ℤ, List, None, Some, sym, subst, true}
 use Rattle.sqlite_trees.specs.Tree.{Trees}
 use Rattle.sqlite_value.specs.Order.{Row}
 use Rattle.sqlite_value.specs.declared.value.Value.TheVariants.{Int}
@@ -29,10 +29,11 @@ returns-clause-there g c clean yes =
     let tree = c.in-Some.tree in
     let row : Row = c.has_number.new.self.found in
     let some : tree_of place ≡ Some tree = sym c.tree_of.ensures ∙ c.in-Some.is in
-    let looked = c.in_ok-has.ensures.found clean in
-    let number : c.place_number.result ≡ place_number place = c.place_number.ensures in
-    let finds : Finds (Int (place_number place) ∷ []) (trees (tree_number tree)) row true =
-    search (rules, looked, number, yes) in
+    let rows : List Row = trees (tree_number tree) in
+    let number : ℤ = c.place_number.result in
+    let finds : Finds (Int (place_number place) ∷ []) rows row true =
+    subst (λ (n : ℤ). Finds (Int n ∷ []) rows row true) c.place_number.ensures
+    (subst (Finds (Int number ∷ []) rows row) yes (c.in_ok-has.ensures.found clean)) in
     subst (IsIn trees c.args.rule place) (sym some) (record { row = row; finds = finds })
 
 pub returns-in_err-has-clause-looks : goal.returns-in_err-has-clause-looks
