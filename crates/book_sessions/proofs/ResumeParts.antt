@@ -1,6 +1,6 @@
 -- New books are continued: a look whether anything was submitted to them, and what is left.
 use Rattle.std.proofs.Common.{◌≡◌, ◌∙◌, Bool, true, false, List, Option, None, Some, Result, Ok}
-use Rattle.std.proofs.Common.{Err, IsTrue, length, ap, inl, inr, is_some, subst, sym, true≢false}
+use Rattle.std.proofs.Common.{Err, IsTrue, length, ap, inl, inr, is_some, subst, sym, true≢false, ℕ}
 use Rattle.std.proofs.Common.{IfErr, IfOk, option_map}
 use Rattle.sqlite_trees.specs.View.{View}
 use Rattle.sqlite_trees.specs.declared.error.StoreError.{StoreError}
