@@ -1,12 +1,10 @@
 //! The journal, an entry at a time.
 
-ghost use Rattle.std.specs.Prelude.{◌≡◌, ◌<◌, ◌+◌, IfOk, find, option_and_then, option_copied};
-ghost use Rattle.std.specs.Prelude.{option_map, string_bytes};
+ghost use Rattle.std.specs.Prelude.{◌≡◌, ◌<◌, ◌+◌, IfOk, option_map, string_bytes};
 ghost use Rattle.std.specs.Ordering.{int_eq};
-ghost use Rattle.book_model.specs.Words.{AdoptionSeen, CloseSeen, Naming, ShowsActDays, ShowsDays};
-ghost use Rattle.book_model.specs.Words.{ShowsEntryDays, act_listed, entry_outcome, entry_shown};
-ghost use Rattle.book_model.specs.Words.{is_effective, place_shown, ruling_shown, tariff_seen};
-ghost use Rattle.book_model.specs.Words.{through_of};
+ghost use Rattle.book_model.specs.Words.{Naming, ShowsActDays, ShowsDays, ShowsEntryDays};
+ghost use Rattle.book_model.specs.Words.{act_listed, entry_outcome, entry_shown, place_shown};
+ghost use Rattle.book_model.specs.Words.{ruling_shown};
 ghost use Rattle.book_core.specs.OfficeRulings.{ruled_in};
 ghost use Rattle.table_model.specs.ListsRead.{choice_read_at};
 ghost use Rattle.tree_tables.specs.JournalColumns.{act_stored};
@@ -21,11 +19,11 @@ ghost use Rattle.table_ledger.specs.Stages.{AttemptsOne};
 use crate::days::is_day;
 use crate::listed_rulings::{look_for_choice, look_for_credit};
 use crate::summary::Summary;
-use book_core::{AcceptedTariff, LedgerFault, ListedEntry, ListedRuling, Rulings};
+use book_core::{LedgerFault, ListedEntry, ListedRuling, Rulings};
 use book_model::{ListedAct, Place};
 use sqlite_trees::error::StoreError;
 use sqlite_trees::store::Store;
-use std::alloc::{AllocError, Global};
+use std::alloc::Global;
 use tree_tables::{StoredAct, StoredReplaced, TreeTables};
 
 /// A tariff that was replaced begins on the day.
@@ -60,30 +58,6 @@ fn look_for_text<S: Store>(
     Ok(None)
 }
 
-/// The tariff in force that begins on a day, if one does.
-fn begun_on(tariffs: &[AcceptedTariff], day: i32) -> Option<&AcceptedTariff>
-    ensures { option_copied result ≡ find (is_effective day) tariffs.now }
-{
-    tariffs.iter().find(|accepted| accepted.begins_on(day))
-}
-
-/// The same, as a list shows it.
-fn listed_on(
-    alloc: Global,
-    tariffs: &[AcceptedTariff],
-    day: i32,
-) -> Result<Option<ListedRuling>, AllocError>
-    ensures shown { IfOk result (λ found. option_map ruling_shown found
-        ≡ option_and_then tariff_seen (find (is_effective day) tariffs.now)) }
-    ensures days { IfOk result ShowsDays }
-{
-    let Some(accepted) = begun_on(tariffs, day) else {
-        return Ok(None);
-    };
-    let found = accepted.listed(alloc)?;
-    Ok(found)
-}
-
 /// The tariff of a day by the text of one that was replaced, or the one in force.
 fn listed_by(
     alloc: Global,
@@ -99,7 +73,7 @@ fn listed_by(
         return Err(StoreError::Corrupt);
     }
     let Some(text) = text else {
-        let found = listed_on(alloc, rulings.tariffs(), day)?;
+        let found = rulings.listed_on(alloc, day)?;
         return Ok(found);
     };
     Ok(Some(ListedRuling::Tariff { day, text }))
@@ -142,33 +116,6 @@ fn look_for_replacement<S: Store>(
     };
     let found = look_for_brought(tables, summary, alloc, tariff.day, number)?;
     Ok(found)
-}
-
-/// The close of a period, if it was closed.
-fn listed_close(rulings: &Rulings, period: u16) -> Result<Option<ListedRuling>, StoreError>
-    ensures shown { IfOk result (λ found. option_map ruling_shown found
-        ≡ option_map (CloseSeen period) (through_of period (ruled_in rulings.now))) }
-    ensures days { IfOk result ShowsDays }
-{
-    let Some(through) = rulings.through_of(period) else {
-        return Ok(None);
-    };
-    if !is_day(through) {
-        return Err(StoreError::Corrupt);
-    }
-    Ok(Some(ListedRuling::Close { period, through }))
-}
-
-/// The adoption of the second rule, if it was adopted.
-fn listed_adoption(rulings: &Rulings) -> Option<ListedRuling>
-    ensures shown { option_map ruling_shown result
-        ≡ option_map AdoptionSeen (ruled_in rulings.now).adopted }
-    ensures days { ShowsDays result }
-{
-    match rulings.adopted() {
-        None => None,
-        Some(period) => Some(ListedRuling::Adoption { period }),
-    }
 }
 
 /// The place of a number from 1 among so many, from 0.
@@ -226,9 +173,9 @@ fn look_for_place<S: Store>(
 {
     match place {
         Place::Tariff(day) => look_for_brought(tables, summary, alloc, day, 0),
-        Place::Close(period) => Ok(listed_close(&summary.rulings, period)?),
+        Place::Close(period) => Ok(summary.rulings.listed_close(period)),
         Place::Choice(number) => look_for_numbered(tables, summary, number),
-        Place::Adoption => Ok(listed_adoption(&summary.rulings)),
+        Place::Adoption => Ok(summary.rulings.listed_adoption()),
         Place::Replacement(number) => look_for_replacement(tables, summary, alloc, number),
         Place::Credit(number) => look_for_numbered_credit(tables, summary, alloc, number),
     }

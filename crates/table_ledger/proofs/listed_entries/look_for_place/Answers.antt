@@ -1,6 +1,5 @@
 use Rattle.std.proofs.Common.{SFits, rules, w32}
 use Rattle.book_model.proofs.Std.{to_z-of_z}
-use Rattle.table_ledger.proofs.LooksRefused.{look_given_up}
 use Rattle.table_ledger.proofs.TryLemmas.{looks_known, saw_none}
 use Rattle.table_ledger.proofs.listed_entries.look_for_place.Goals as goal
 
@@ -12,16 +11,10 @@ returns-in-Tariff-clause-looks g c =
     (rw (to_z-of_z w32 day fits) at c.look_for_brought-in-Tariff.ensures.looks)
 
 -- a close is remembered
-pub returns-in_ok-listed_close-in-Close-clause-looks :
-    goal.returns-in_ok-listed_close-in-Close-clause-looks
-returns-in_ok-listed_close-in-Close-clause-looks g c =
+pub returns-in-Close-clause-looks : goal.returns-in-Close-clause-looks
+returns-in-Close-clause-looks g c =
     rw c.in-Close.is
-    (looks_known saw_none (λ tables nothing. c.in_ok-listed_close-in-Close.ensures.shown))
-
-pub returns-in_err-listed_close-in-Close-clause-looks :
-    goal.returns-in_err-listed_close-in-Close-clause-looks
-returns-in_err-listed_close-in-Close-clause-looks g c =
-    look_given_up _ c.from_residual.ensures.0 saw_none
+    (looks_known saw_none (λ tables nothing. c.listed_close-in-Close.ensures.shown))
 
 pub returns-in-Choice-clause-looks : goal.returns-in-Choice-clause-looks
 returns-in-Choice-clause-looks g c =
