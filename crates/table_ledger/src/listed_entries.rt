@@ -72,11 +72,10 @@ fn listed_by(
     if !is_day(day) {
         return Err(StoreError::Corrupt);
     }
-    let Some(text) = text else {
-        let found = rulings.listed_on(alloc, day)?;
-        return Ok(found);
-    };
-    Ok(Some(ListedRuling::Tariff { day, text }))
+    match text {
+        Some(text) => Ok(Some(ListedRuling::Tariff { day, text })),
+        None => Ok(rulings.listed_on(alloc, day)?),
+    }
 }
 
 /// The tariff of a day that came first, or in the place of the one that was replaced under a number:
