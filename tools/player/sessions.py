@@ -16,7 +16,7 @@ the answers NOW stands for the time of the clock, and @ for the folder of the ro
     first SIZE chargectl WORDS..          the same, but no more than a number of bytes of each
     count-lines chargectl WORDS..         the same, but how many its output has; or count-bytes
     within KIB LINE                       what such a line is answered, and whether the command had no more memory in use
-    sockets FILE, with a body of clients  what `serve` of the books says of each, and what each reads
+    sockets FILE, with a body of clients  what `serve` of the books says of each, and what each reads; it may have more words
     same FILE FILE, missing FILE          whether they are
     files                                 the names of the row's files, in order"""
 import fcntl

@@ -2,14 +2,13 @@
 use Rattle.std.specs.Prelude.{◌≡◌, ◌∷◌, [], ℕ, ℤ, pos, true, List, map}
 use Rattle.sqlite_trees.specs.Tree.{Trees}
 use Rattle.sqlite_value.specs.Order.{Row, column}
-use Rattle.sqlite_value.specs.declared.value.Value.TheVariants.{Blob, Int, Text}
+use Rattle.sqlite_value.specs.declared.value.Value.TheVariants.{Int, Text}
 use Rattle.book_model.specs.Std.{AllByRecursion}
 use Rattle.book_model.specs.Words.{Priced, detail_with}
 use Rattle.book_model.specs.declared.detail.Detail.{Detail}
 use Rattle.table_model.specs.Words.{row_record, RecordRow}
-use Rattle.tree_rows.specs.Rows.{Finds}
-use Rattle.tree_tables.specs.Columns.{detail_columns, record_columns}
-use Rattle.book_audit.specs.Records.{HasPast}
+use Rattle.tree_tables.specs.Columns.{detail_columns}
+use Rattle.book_audit.specs.Records.{HasPast, IsHeld}
 use Rattle.book_audit.specs.Walks.{AreRising}
 use Rattle.book_audit.specs.declared.finding.Tree.TheVariants.{Details}
 
@@ -29,7 +28,7 @@ IsCounted lines closes entry = HasPast lines closes entry true
 -- What is shown is a record that is held, as its row and its bytes say, and that is counted.
 pub record ShowsCounted (trees : Trees) (closes : List ℤ) (shown : Detail) : Type 0 where
   pub entry : List ℕ × RecordRow
-  pub held : Finds (Blob shown.name ∷ []) (trees 3) (record_columns entry) true
+  pub held : IsHeld (trees 3) shown.name entry
   pub is : shown ≡ detail_with shown.name (row_record entry.1) entry.1.priced
   pub counted : IsCounted (trees 5) closes entry
 

@@ -8,7 +8,7 @@ use Rattle.book_audit.specs.declared.finding.Tree.{Tree}
 use Rattle.book_audit.specs.declared.finding.Tree.TheVariants.{Book, Tariffs, Closes, Records}
 use Rattle.book_audit.specs.declared.finding.Tree.TheVariants.{Days, Lines, Identities, Marks}
 use Rattle.book_audit.specs.declared.finding.Tree.TheVariants.{Choices, ChoiceNames, Details}
-use Rattle.book_audit.specs.declared.finding.Tree.TheVariants.{Credits, Replaced}
+use Rattle.book_audit.specs.declared.finding.Tree.TheVariants.{Credits, Journal, Replaced}
 use Rattle.book_audit.specs.Walks.{AreRising, AreWide}
 
 -- a column has bytes,
@@ -34,6 +34,7 @@ IsEntry Choices row = ⊥
 IsEntry Details row = ⊥
 IsEntry Credits row = ⊥
 IsEntry Replaced row = ⊥
+IsEntry Journal row = ⊥
 
 -- the rows are entries, in the order of their keys, and so many
 pub record AreCounted (tree : Tree) (rows : List Row) (count : ℕ) : Type 0 where

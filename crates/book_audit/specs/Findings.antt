@@ -28,6 +28,7 @@ tree_name tree.ChoiceNames = codes "choice_name"
 tree_name tree.Details = codes "detail"
 tree_name tree.Credits = codes "credit"
 tree_name tree.Replaced = codes "replaced"
+tree_name tree.Journal = codes "journal"
 
 -- a day as its date, and what is no day that this product knows as its number
 unfoldable pub day_shown : ℤ → List ℕ
@@ -68,6 +69,7 @@ place_text (place.Detail spot) =
     ++ encode_lower spot.name
 place_text (place.Credit number) = codes "credit " ++ decimal number
 place_text (place.Replaced number) = codes "replaced " ++ decimal number
+place_text (place.Entry number) = codes "journal " ++ decimal number
 
 -- what is wrong there, in words
 unfoldable pub wrong_text : Wrong → List ℕ
@@ -114,6 +116,9 @@ wrong_text wrong.NotCounted = codes "no period counts its record"
 wrong_text wrong.Credit = codes "no such credit can be given"
 wrong_text wrong.Begun = codes "its period has not begun"
 wrong_text wrong.Rulings = codes "it has more than 10,000 rows"
+wrong_text wrong.NoRuling = codes "its ruling is not there"
+wrong_text wrong.Kept = codes "kept is not the number of records that came by it"
+wrong_text wrong.Came = codes "came is no entry that kept it"
 
 -- the line of a finding: its place, and what is wrong there
 unfoldable pub unsound_text : Finding → List ℕ

@@ -32,3 +32,8 @@ may_split period (SecondSince adopted) = nat_le period adopted
 abbrev pub identity_under : IdentityRule → List ℕ → List ℕ
 identity_under First bytes = identity_of bytes
 identity_under (SecondSince adopted) bytes = identity2_of bytes
+
+-- the second rule was adopted
+abbrev pub is_adopted : IdentityRule → Bool
+is_adopted First = false
+is_adopted (SecondSince adopted) = true

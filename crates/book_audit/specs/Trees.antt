@@ -9,7 +9,7 @@ use Rattle.book_audit.specs.declared.finding.Tree.{Tree}
 use Rattle.book_audit.specs.declared.finding.Tree.TheVariants.{Book, Tariffs, Closes, Records}
 use Rattle.book_audit.specs.declared.finding.Tree.TheVariants.{Days, Lines, Identities, Marks}
 use Rattle.book_audit.specs.declared.finding.Tree.TheVariants.{Choices, ChoiceNames, Details}
-use Rattle.book_audit.specs.declared.finding.Tree.TheVariants.{Credits, Replaced}
+use Rattle.book_audit.specs.declared.finding.Tree.TheVariants.{Credits, Journal, Replaced}
 
 -- in the order in which a file lists them
 abbrev pub tree_number : Tree → ℕ
@@ -26,6 +26,7 @@ tree_number ChoiceNames = 9
 tree_number Details = 10
 tree_number Credits = 11
 tree_number Replaced = 12
+tree_number Journal = 13
 
 -- a look-up of the key finds a row that has it
 pub record HasKey (key : Row) (rows : List Row) : Type 0 where

@@ -1,5 +1,6 @@
 -- How far a walk through a tree has come.
-use Rattle.std.specs.Prelude.{◌≡◌, ◌++◌, ◌∷◌, [], ℕ, Bool, true, false, List, length, take}
+use Rattle.std.specs.Prelude.{◌≡◌, ◌++◌, ◌∷◌, [], ◌==◌, ℕ, Bool, true, false, List, length, take}
+use Rattle.std.specs.Prelude.{if◌then◌else◌}
 use Rattle.sqlite_trees.specs.Tree.{IsAscending, Trees}
 use Rattle.sqlite_value.specs.Order.{Row, row_cmp}
 use Rattle.book_model.specs.Std.{AllByRecursion, Less}
@@ -8,25 +9,27 @@ use Rattle.book_audit.specs.declared.finding.Tree.{Tree}
 use Rattle.book_audit.specs.declared.finding.Tree.TheVariants.{Book, Tariffs, Closes, Records, Days}
 use Rattle.book_audit.specs.declared.finding.Tree.TheVariants.{Lines, Identities, Marks, Choices}
 use Rattle.book_audit.specs.declared.finding.Tree.TheVariants.{ChoiceNames, Credits, Details}
-use Rattle.book_audit.specs.declared.finding.Tree.TheVariants.{Replaced}
+use Rattle.book_audit.specs.declared.finding.Tree.TheVariants.{Journal, Replaced}
 use Rattle.book_audit.specs.declared.walk.Walk.{Walk}
 use Rattle.book_audit.specs.Trees.{tree_number}
 
--- how many columns a row of the tree has,
-abbrev pub width : Tree → ℕ
-width Book = 5
-width Tariffs = 2
-width Closes = 2
-width Records = 11
-width Days = 8
-width Lines = 3
-width Identities = 2
-width Marks = 3
-width Choices = 4
-width ChoiceNames = 2
-width Details = 12
-width Credits = 5
-width Replaced = 4
+-- How many columns a row of the tree has, where so many were found: one of a record has one more if
+-- the record came by an entry, and one of the journal has few if it is of a ruling.
+abbrev pub width : Tree → ℕ → ℕ
+width Book found = 5
+width Tariffs found = 2
+width Closes found = 2
+width Records found = if found == 12 then 12 else 11
+width Days found = 8
+width Lines found = 3
+width Identities found = 2
+width Marks found = 3
+width Choices found = 4
+width ChoiceNames found = 2
+width Details found = 12
+width Credits found = 5
+width Replaced found = 4
+width Journal found = if found == 20 then 20 else 7
 
 -- and how many of the first of them are its key
 abbrev pub key_width : Tree → ℕ
@@ -43,6 +46,7 @@ key_width ChoiceNames = 2
 key_width Details = 5
 key_width Credits = 1
 key_width Replaced = 1
+key_width Journal = 1
 
 -- the key of a row
 abbrev pub key_in : Tree → Row → Row
@@ -52,9 +56,13 @@ key_in tree row = take (key_width tree) row
 abbrev pub AreRising : Tree → List Row → Type 0
 AreRising tree = IsAscending (λ a b. row_cmp (key_in tree a) (key_in tree b) ≡ Less)
 
--- each row has the columns of the tree's rows
+-- a row has the columns of the tree's rows
+abbrev pub IsWide : Tree → Row → Type 0
+IsWide tree row = length row ≡ width tree (length row)
+
+-- so does each row
 abbrev pub AreWide : Tree → List Row → Type 0
-AreWide tree = AllByRecursion (λ row. length row ≡ width tree)
+AreWide tree = AllByRecursion (IsWide tree)
 
 -- the key of the last row, and no columns where there is none
 abbrev pub last_key : Tree → List Row → Row

@@ -9,11 +9,11 @@ ghost use Rattle.book_audit.specs.Looks.{Tells};
 ghost use Rattle.book_audit.specs.OfBook.{AreOfBook, sha_names};
 ghost use Rattle.book_audit.specs.SoundTrees.{AreSound};
 
+use crate::arrivals::check_arrivals;
 use crate::audited::{Audited, Counts};
 use crate::day_sums::{Places, check_rows};
 use crate::details::check_details;
 use crate::lines::check_lines;
-use crate::records::check_records;
 use crate::ruled::read_rulings;
 use crate::stop::Stop;
 use crate::trees::Trees;
@@ -40,7 +40,7 @@ fn read_trees<S: Store, W: Watch>(
 {
     let rulings = read_rulings(alloc, trees, walk, watch)?;
     let mut places = Places::new(alloc);
-    let held = check_records(alloc, trees, walk, bytes, &rulings, &mut places, watch)?;
+    let held = check_arrivals(alloc, trees, walk, bytes, &rulings, &mut places, watch)?;
     let lines = check_lines(alloc, trees, walk, &rulings, watch)?;
     let rows = check_rows(alloc, trees, walk, &rulings, places, watch)?;
     check_details(alloc, trees, walk, bytes, &rulings, watch)?;

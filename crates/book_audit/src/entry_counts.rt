@@ -1,11 +1,11 @@
 //! How many entries a tree has.
 
-ghost use Rattle.std.specs.Prelude.{◌≡◌, length, true};
+ghost use Rattle.std.specs.Prelude.{◌≡◌, true};
 ghost use Rattle.sqlite_value.specs.Order.{column};
 ghost use Rattle.book_audit.specs.Entries.{AreCounted, HasBytes, HasCount, IsEntry};
 ghost use Rattle.book_audit.specs.Looks.{Looks, Tells};
 ghost use Rattle.book_audit.specs.Trees.{tree_number};
-ghost use Rattle.book_audit.specs.Walks.{width};
+ghost use Rattle.book_audit.specs.Walks.{IsWide};
 
 use crate::finding::{Place, Tree, Wrong};
 use crate::stop::{Stop, unsound};
@@ -37,7 +37,7 @@ fn has_count(row: &Row, at: usize) -> bool
 /// Whether a row is an entry of a tree that finds the rows of a table: bytes, and a number before or
 /// after them, where it has one.
 fn is_entry(tree: Tree, row: &Row) -> bool
-    requires { length row.now ≡ width tree }
+    requires { IsWide tree row.now }
     ensures { result ≡ true → IsEntry tree row.now }
 {
     match tree {

@@ -1,15 +1,16 @@
 //! What is wrong with books, and where.
 
-ghost use Rattle.std.specs.Prelude.{◌≡◌};
+ghost use Rattle.std.specs.Prelude.{◌≡◌, ◌==◌, if◌then◌else◌, true};
 ghost use Rattle.sqlite_trees.specs.View.{View};
 ghost use Rattle.sqlite_value.specs.Keys.{plain};
 ghost use Rattle.tree_tables.specs.Holds.{HasShapes};
 ghost use Rattle.book_audit.specs.Findings.{tree_name};
 ghost use Rattle.book_audit.specs.Trees.{tree_number};
-ghost use Rattle.book_audit.specs.Walks.{key_width, width};
+ghost use Rattle.book_audit.specs.Walks.{IsWide, key_width, width};
 
 use book_model::RowKey;
 use sqlite_trees::store::Shape;
+use sqlite_value::row::Row;
 use tree_tables::DayKey;
 
 /// A tree of books.
@@ -35,6 +36,15 @@ pub enum Tree {
     Credits,
     /// The tariffs that were replaced.
     Replaced,
+    /// The entries of the journal.
+    Journal,
+}
+
+/// The longer of two numbers of columns, if so many were found, and else the other.
+fn either(found: usize, longer: usize, shorter: usize) -> usize
+    ensures { result ≡ (if found == longer then longer else shorter) }
+{
+    if found == longer { longer } else { shorter }
 }
 
 impl Tree {
@@ -57,6 +67,7 @@ impl Tree {
             Tree::Details => 10,
             Tree::Credits => 11,
             Tree::Replaced => 12,
+            Tree::Journal => 13,
         }
     }
 
@@ -79,6 +90,7 @@ impl Tree {
             Tree::Details => "detail",
             Tree::Credits => "credit",
             Tree::Replaced => "replaced",
+            Tree::Journal => "journal",
         }
     }
 
@@ -88,7 +100,7 @@ impl Tree {
     {
         match self {
             Tree::Book | Tree::Tariffs | Tree::Closes | Tree::Records | Tree::Choices => 1,
-            Tree::Credits | Tree::Replaced => 1,
+            Tree::Credits | Tree::Replaced | Tree::Journal => 1,
             Tree::Lines | Tree::Identities | Tree::ChoiceNames => 2,
             Tree::Marks => 3,
             Tree::Days => 4,
@@ -96,9 +108,10 @@ impl Tree {
         }
     }
 
-    /// How many columns each of its rows has.
-    pub(crate) fn columns(self) -> usize
-        ensures { result ≡ width self }
+    /// How many columns each of its rows has, where so many were found: one of a record has one more
+    /// if the record came by an entry, and one of the journal has few if it is of a ruling.
+    fn columns(self, found: usize) -> usize
+        ensures { result ≡ width self found }
     {
         match self {
             Tree::Tariffs | Tree::Closes | Tree::Identities | Tree::ChoiceNames => 2,
@@ -106,9 +119,17 @@ impl Tree {
             Tree::Choices | Tree::Replaced => 4,
             Tree::Book | Tree::Credits => 5,
             Tree::Days => 8,
-            Tree::Records => 11,
+            Tree::Records => either(found, 12, 11),
             Tree::Details => 12,
+            Tree::Journal => either(found, 20, 7),
         }
+    }
+
+    /// Whether a row has as many columns as its rows.
+    pub(crate) fn has_width(self, row: &Row) -> bool
+        ensures { result ≡ true → IsWide self row.now }
+    {
+        row.len() == self.columns(row.len())
     }
 }
 
@@ -148,6 +169,8 @@ pub enum Place {
     Credit(u32),
     /// The replaced tariff of this number, from 1.
     Replaced(u32),
+    /// The entry of the journal of this number, from 1.
+    Entry(u64),
 }
 
 /// What is wrong there.
@@ -176,7 +199,7 @@ pub enum Wrong {
     CloseOrder,
     /// There are more closes than periods that can be closed.
     Closes,
-    /// A number is left out: the choices have the numbers from 1 on.
+    /// A number is left out: choices, as what else is numbered, have the numbers from 1 on.
     ChoiceNumber,
     /// A choice's period is 0, below that of the choice before, or above the open one.
     ChoicePeriod,
@@ -238,6 +261,12 @@ pub enum Wrong {
     Begun,
     /// There are more of these rulings than can be made.
     Rulings,
+    /// The ruling that an entry is of is not there.
+    NoRuling,
+    /// An entry says that it kept more records than came by it.
+    Kept,
+    /// A record came by an entry that is not there, or that kept no more records.
+    Came,
 }
 
 /// The first thing that is wrong, and its place.

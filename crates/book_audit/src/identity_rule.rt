@@ -42,6 +42,16 @@ impl IdentityRule {
         None
     }
 
+    /// Whether it was adopted.
+    pub(crate) fn is_adopted(self) -> bool
+        ensures { result ≡ spec.is_adopted self }
+    {
+        match self {
+            IdentityRule::First => false,
+            IdentityRule::SecondSince(_) => true,
+        }
+    }
+
     /// Whether it can be in force when this period is open: no adoption is still to come.
     pub(crate) fn is_by(self, open_period: u16) -> bool
         ensures { result ≡ spec.is_by open_period self }

@@ -19,6 +19,14 @@ pub(crate) fn bytes_key(key: &mut Row, bytes: &[u8]) -> Result<(), AllocError>
     key.push(ValueRef::Blob(bytes))
 }
 
+/// A number as a key: the first day of a tariff, a period, or the number of a ruling.
+pub(crate) fn number_key(key: &mut Row, number: i64) -> Result<(), AllocError>
+    ensures { OnOk result (key.new ≡ Int number ∷ []) }
+{
+    key.clear();
+    key.push(ValueRef::Int(number))
+}
+
 /// The key that finds a record by its identity.
 pub(crate) fn identity_key(key: &mut Row, stored: &StoredRecord) -> Result<(), AllocError>
     ensures { OnOk result (key.new

@@ -3,13 +3,16 @@
 #![tactic(auto)]
 
 mod all_trees;
+mod arrivals;
 mod audited;
 mod choices;
 mod day_sums;
 mod details;
+mod due;
 mod entry_counts;
 mod finding;
 mod identity_rule;
+mod journal;
 mod kept_credits;
 mod kept_replaced;
 mod keys;

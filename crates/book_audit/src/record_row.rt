@@ -1,15 +1,21 @@
 //! The row of a record.
 
-ghost use Rattle.std.specs.Prelude.{◌≡◌, IfOk, length};
-ghost use Rattle.tree_tables.specs.Columns.{record_columns};
+ghost use Rattle.std.specs.Prelude.{◌≡◌, IfOk};
 ghost use Rattle.tree_tables.specs.Stored.{stored_entry};
-ghost use Rattle.book_audit.specs.Records.{HasPrice};
+ghost use Rattle.book_audit.specs.Records.{HasPrice, SaysCame, SaysRecord, row_with};
 
 use sqlite_trees::error::StoreError;
 use sqlite_value::row::Row;
 use std::alloc::Global;
 use tariff_rules::Priced;
 use tree_tables::{StoredRecord, bytes_at, count_at, day_at, hash_at, mark_at, name_at};
+
+/// A record as its row says, with the number of the entry by which it came, if it came by one.
+#[derive(Drop)]
+pub(crate) struct Arrived {
+    pub(crate) record: StoredRecord,
+    pub(crate) came: Option<u64>,
+}
 
 /// What the row of a record says that it costs.
 fn price_in(row: &Row) -> Result<Priced, StoreError>
@@ -25,10 +31,9 @@ fn price_in(row: &Row) -> Result<Priced, StoreError>
     })
 }
 
-/// What the row of a record says, which has that and no more.
-pub(crate) fn record_in(alloc: Global, row: &Row) -> Result<StoredRecord, StoreError>
-    requires { length row.now ≡ 11 }
-    ensures read { IfOk result (λ stored. row.now ≡ record_columns (stored_entry stored)) }
+/// What the row of a record says of it, but for the entry by which it came.
+fn stored_in(alloc: Global, row: &Row) -> Result<StoredRecord, StoreError>
+    ensures { IfOk result (SaysRecord row.now) }
 {
     Ok(StoredRecord {
         name: hash_at(row, 0)?,
@@ -38,4 +43,25 @@ pub(crate) fn record_in(alloc: Global, row: &Row) -> Result<StoredRecord, StoreE
         identity: bytes_at(row, 1, alloc)?,
         data_bytes: bytes_at(row, 2, alloc)?,
     })
+}
+
+/// The number of the entry by which the record of a row came: the row of one that came by none ends
+/// before it.
+fn came_in(row: &Row) -> Result<Option<u64>, StoreError>
+    ensures { IfOk result (SaysCame row.now) }
+{
+    match row.len() {
+        11 => Ok(None),
+        12 => Ok(Some(count_at(row, 11)?)),
+        _ => Err(StoreError::Corrupt),
+    }
+}
+
+/// What the row of a record says, which has that and no more.
+pub(crate) fn record_in(alloc: Global, row: &Row) -> Result<Arrived, StoreError>
+    ensures read { IfOk result (λ one. row.now ≡ row_with (stored_entry one.record) one.came) }
+{
+    let came = came_in(row)?;
+    let record = stored_in(alloc, row)?;
+    Ok(Arrived { record, came })
 }

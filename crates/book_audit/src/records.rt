@@ -7,6 +7,7 @@ ghost use Rattle.book_audit.specs.SoundTrees.{AreHeld};
 
 use crate::day_sums::Places;
 use crate::details::check_has_detail;
+use crate::due::{Due, check_came};
 use crate::entry_counts::check_entries;
 use crate::finding::{Place, Tree, Wrong};
 use crate::marks::check_marks;
@@ -42,7 +43,7 @@ fn check_record<S: Store>(
 ) -> Result<bool, Stop>
     ensures right { Tells result trees.old trees.new (λ all counted.
         IsChecked all rulings.now places.old.rows.entries places.new.rows.entries
-        (stored_entry stored.now, counted)) }
+        (stored_entry stored.now) counted) }
     ensures looks { Looks result trees.old trees.new }
 {
     check_data(alloc, rulings, stored)?;
@@ -65,10 +66,12 @@ fn read_records<S: Store, W: Watch>(
     bytes: &mut Vec<u8>,
     rulings: &Rulings,
     places: &mut Places,
+    due: &mut Due,
     watch: &mut W,
 ) -> Result<Held, Stop>
     ensures records { Tells result trees.old trees.new (λ all held. AreRecords all rulings.now
-        held.records held.amount places.old.rows.entries places.new.rows.entries) }
+        held.records held.amount places.old.rows.entries places.new.rows.entries
+        due.old.left.items due.new.left.items) }
     ensures looks { Looks result trees.old trees.new }
 {
     let tree = Tree::Records;
@@ -79,15 +82,17 @@ fn read_records<S: Store, W: Watch>(
         if !walk.next(trees)? {
             return Ok(Held { records, amount });
         }
-        let record = match record_in(alloc, walk.row()) {
-            Ok(record) => record,
+        let one = match record_in(alloc, walk.row()) {
+            Ok(one) => one,
             Err(error) => return Err(met(tree, error)),
         };
-        check_record(alloc, trees, rulings, places, bytes, &record)?;
-        if MAX_COST < record.priced.amount || MAX_COST - record.priced.amount < amount {
+        check_record(alloc, trees, rulings, places, bytes, &one.record)?;
+        check_came(due, &one)?;
+        let cost = one.record.priced.amount;
+        if MAX_COST < cost || MAX_COST - cost < amount {
             return Err(unsound(Place::Tree(tree), Wrong::Limits));
         }
-        amount += record.priced.amount;
+        amount += cost;
     }
     Err(unsound(Place::Tree(tree), Wrong::Limits))
 }
@@ -101,13 +106,15 @@ pub(crate) fn check_records<S: Store, W: Watch>(
     bytes: &mut Vec<u8>,
     rulings: &Rulings,
     places: &mut Places,
+    due: &mut Due,
     watch: &mut W,
 ) -> Result<Held, Stop>
     ensures records { Tells result trees.old trees.new (λ all held.
-        AreHeld all rulings.now held.records places.old.rows.entries places.new.rows.entries) }
+        AreHeld all rulings.now held.records places.old.rows.entries places.new.rows.entries
+        due.old.left.items due.new.left.items) }
     ensures looks { Looks result trees.old trees.new }
 {
-    let held = read_records(alloc, trees, walk, bytes, rulings, places, watch)?;
+    let held = read_records(alloc, trees, walk, bytes, rulings, places, due, watch)?;
     check_entries(trees, walk, Tree::Identities, held.records, watch)?;
     check_entries(trees, walk, Tree::Marks, held.records, watch)?;
     if held.records != rulings.held {

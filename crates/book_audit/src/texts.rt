@@ -63,6 +63,9 @@ fn wrong_text(wrong: Wrong) -> &'static str
         Wrong::Credit => "no such credit can be given",
         Wrong::Begun => "its period has not begun",
         Wrong::Rulings => "it has more than 10,000 rows",
+        Wrong::NoRuling => "its ruling is not there",
+        Wrong::Kept => "kept is not the number of records that came by it",
+        Wrong::Came => "came is no entry that kept it",
     }
 }
 
@@ -107,7 +110,7 @@ fn push_name(alloc: Global, out: &mut String, name: &[u8]) -> Result<(), AllocEr
 }
 
 /// Adds a word and the number after it.
-fn push_number(out: &mut String, word: &str, number: u32) -> Result<(), AllocError>
+fn push_number(out: &mut String, word: &str, number: u64) -> Result<(), AllocError>
     ensures { OnOk result (string_bytes out.new
         ≡ string_bytes out.old ++ word.now ++ decimal number) }
 {
@@ -120,7 +123,7 @@ fn push_spot(alloc: Global, out: &mut String, spot: &DayKey) -> Result<(), Alloc
     ensures { OnOk result (string_bytes out.new
         ≡ string_bytes out.old ++ spec.place_text (Place.Day spot.now)) }
 {
-    push_number(out, "day_sum ", u32::from(spot.period))?;
+    push_number(out, "day_sum ", u64::from(spot.period))?;
     out.push_str(" ")?;
     push_key(alloc, out, &spot.place)
 }
@@ -131,7 +134,7 @@ fn push_line(alloc: Global, out: &mut String, period: u16, name: &[u8]) -> Resul
     ensures { OnOk result (string_bytes out.new
         ≡ string_bytes out.old ++ spec.place_text (Place.Line period name.now)) }
 {
-    push_number(out, "line ", u32::from(period))?;
+    push_number(out, "line ", u64::from(period))?;
     out.push_str(" ")?;
     push_name(alloc, out, name)
 }
@@ -186,8 +189,8 @@ fn push_place(alloc: Global, out: &mut String, place: &Place) -> Result<(), Allo
             out.push_str("tariff ")?;
             push_day(alloc, out, *day)
         }
-        Place::Close(period) => push_number(out, "closed ", u32::from(*period)),
-        Place::Choice(number) => push_number(out, "choice ", *number),
+        Place::Close(period) => push_number(out, "closed ", u64::from(*period)),
+        Place::Choice(number) => push_number(out, "choice ", u64::from(*number)),
         Place::Record(name) => {
             out.push_str("record ")?;
             push_name(alloc, out, name)
@@ -195,8 +198,9 @@ fn push_place(alloc: Global, out: &mut String, place: &Place) -> Result<(), Allo
         Place::Day(spot) => push_spot(alloc, out, spot),
         Place::Line(period, name) => push_line(alloc, out, *period, name),
         Place::Detail(spot) => push_detail(alloc, out, spot),
-        Place::Credit(number) => push_number(out, "credit ", *number),
-        Place::Replaced(number) => push_number(out, "replaced ", *number),
+        Place::Credit(number) => push_number(out, "credit ", u64::from(*number)),
+        Place::Replaced(number) => push_number(out, "replaced ", u64::from(*number)),
+        Place::Entry(number) => push_number(out, "journal ", *number),
     }
 }
 

@@ -3,10 +3,12 @@
 ghost use Rattle.sqlite_trees.specs.View.{IsClean};
 ghost use Rattle.tree_tables.specs.Holds.{HasShapes};
 
-use crate::finding::{DetailKey, Place, Tree, Wrong};
-use crate::keys::{bytes_key, choice_name_key, detail_key, identity_key, line_key, mark_key};
+use crate::finding::{DetailKey, Tree};
+use crate::keys::{
+    bytes_key, choice_name_key, detail_key, identity_key, line_key, mark_key, number_key,
+};
 use crate::record_row::record_in;
-use crate::stop::{Stop, met, unsound};
+use crate::stop::{Stop, met};
 use sqlite_trees::error::StoreError;
 use sqlite_trees::store::Store;
 use sqlite_value::row::Row;
@@ -35,12 +37,13 @@ impl<S: Store> Trees<S> {
     ghost use Rattle.sqlite_value.specs.declared.value.Value.TheVariants.{Blob, Int};
     ghost use Rattle.tree_rows.specs.Calls.{CommitsNothing, OnlyLooks};
     ghost use Rattle.tree_rows.specs.Rows.{Finds, IsFirst};
-    ghost use Rattle.tree_tables.specs.Columns.{flag, record_columns};
+    ghost use Rattle.tree_tables.specs.Columns.{flag};
     ghost use Rattle.tree_tables.specs.Holds.{HasShapes};
     ghost use Rattle.tree_tables.specs.Stored.{stored_entry};
     ghost use Rattle.tree_tables.specs.Walks.{rows_past};
     ghost use Rattle.book_audit.specs.Looks.{Looks, Tells, TellsIfSome};
     ghost use Rattle.book_audit.specs.Records as spec;
+    ghost use Rattle.book_audit.specs.Records.{IsHeld};
     ghost use Rattle.book_audit.specs.Trees.{FindsTwo, tree_number};
 
     /// The trees in a store that has them.
@@ -92,6 +95,16 @@ impl<S: Store> Trees<S> {
             Ok(hit) => Ok(hit),
             Err(error) => Err(met(tree, error)),
         }
+    }
+
+    /// Whether a row of a tree has a number as its key.
+    pub(crate) fn has_number(&mut self, tree: Tree, number: i64) -> Result<bool, Stop>
+        ensures found { Tells result self.old self.new (λ all hit.
+            Finds (Int number ∷ []) (all (tree_number tree)) self.new.found hit) }
+        ensures looks { Looks result self.old self.new }
+    {
+        number_key(&mut self.key, number)?;
+        self.finds(tree)
     }
 
     /// Whether a record is found by its identity.
@@ -200,19 +213,16 @@ impl<S: Store> Trees<S> {
         alloc: Global,
         name: &[u8; 32],
     ) -> Result<Option<StoredRecord>, Stop>
-        ensures read { TellsIfSome result self.old self.new (λ all stored.
-            Finds (Blob name.now ∷ []) (all 3) (record_columns (stored_entry stored)) true) }
+        ensures held { TellsIfSome result self.old self.new (λ all stored.
+            IsHeld (all 3) name.now (stored_entry stored)) }
         ensures looks { Looks result self.old self.new }
     {
         bytes_key(&mut self.key, name)?;
         if !self.finds(Tree::Records)? {
             return Ok(None);
         }
-        if self.found.len() != Tree::Records.columns() {
-            return Err(unsound(Place::Tree(Tree::Records), Wrong::Unreadable));
-        }
         match record_in(alloc, &self.found) {
-            Ok(record) => Ok(Some(record)),
+            Ok(one) => Ok(Some(one.record)),
             Err(error) => Err(met(Tree::Records, error)),
         }
     }

@@ -36,10 +36,10 @@ pub(crate) struct Walk {
 }
 
 impl Walk {
-    ghost use Rattle.std.specs.Prelude.{◌≡◌, [], IfOk, List, length, true};
+    ghost use Rattle.std.specs.Prelude.{◌≡◌, [], IfOk, List, true};
     ghost use Rattle.sqlite_value.specs.Order.{Row as Columns};
     ghost use Rattle.book_audit.specs.Looks.{Looks, Tells};
-    ghost use Rattle.book_audit.specs.Walks.{GoesOn, HasWalked, width};
+    ghost use Rattle.book_audit.specs.Walks.{GoesOn, HasWalked, IsWide};
 
     /// No tree was walked yet.
     pub(crate) fn new(alloc: Global) -> Walk {
@@ -71,7 +71,7 @@ impl Walk {
     pub(crate) fn next<S: Store>(&mut self, trees: &mut Trees<S>) -> Result<bool, Stop>
         ensures next { Tells result trees.old trees.new (GoesOn self.old self.new) }
         ensures wide { IfOk result (λ there. there ≡ true
-            → length self.new.row ≡ width self.old.tree) }
+            → IsWide self.old.tree self.new.row) }
         ensures tree { self.new.tree ≡ self.old.tree }
         ensures looks { Looks result trees.old trees.new }
     {
@@ -83,7 +83,7 @@ impl Walk {
         if !there {
             return Ok(false);
         }
-        if self.row.len() != tree.columns() {
+        if !tree.has_width(&self.row) {
             return Err(unsound(Place::Tree(tree), Wrong::Columns));
         }
         if !self.key.is_empty() && !self.row.cmp_prefix(Order::PLAIN, &self.key).is_gt() {

@@ -8,6 +8,7 @@ pub mod InTurnLemmas
 pub mod OpenLemmas
 pub mod NamedLemmas
 pub mod ArrivalLemmas
+pub mod ClosesListed
 pub mod SubmissionLemmas
 pub mod WithholdingLemmas
 pub mod FollowLemmas

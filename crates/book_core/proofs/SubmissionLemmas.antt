@@ -114,7 +114,7 @@ refused_one naming records fault some was before events is called = called
 -- ---- a change that is handed the first of some records
 
 -- what was accepted of the first records was accepted of all
-accepts_further : (naming : Naming) (early later : List (List ℕ)) (answers : List Accepted)
+pub accepts_further : (naming : Naming) (early later : List (List ℕ)) (answers : List Accepted)
     → Implies (Accepts naming early answers) (Accepts naming (early ++ later) answers)
 accepts_further naming early later [] was before events is accepts = accepts
 accepts_further naming [] later (answer ∷ rest) was before events is accepts = absurd accepts
@@ -129,7 +129,7 @@ accepts_further naming (bytes ∷ early) later (answer ∷ rest) was before even
 }
 
 -- the first of them is the first of all
-first_further : (early later : List (List ℕ)) → 0 < length early
+pub first_further : (early later : List (List ℕ)) → 0 < length early
     → first_of early ≡ first_of (early ++ later)
 first_further [] later some = absurd (omega arith)
 first_further (bytes ∷ rest) later some = refl

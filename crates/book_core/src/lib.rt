@@ -14,6 +14,7 @@ mod limits;
 mod lines;
 mod listed_rulings;
 mod notes;
+mod placed_rulings;
 mod pricing;
 mod rulings;
 mod withheld;

@@ -55,7 +55,7 @@ fn tariff_at(
 }
 
 /// The close at a number among them, or by how much the number is past them.
-fn close_at(closes: &[i32], number: u64) -> Result<Option<ListedRuling>, u64>
+pub(crate) fn close_at(closes: &[i32], number: u64) -> Result<Option<ListedRuling>, u64>
     requires few { length closes.now < last_period }
     requires days { All IsDay closes.now }
     ensures leads { LeadsInto (closes_seen 1 closes.now) number result }

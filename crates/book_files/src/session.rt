@@ -59,7 +59,7 @@ pub fn make_at<S: Start>(
 }
 
 /// Continues the books in the file at the path, where a stop left them while they were made, and
-/// closes it. That all went well is answered of no history alone.
+/// closes it. That all went well is answered of new books alone.
 pub fn resume_at<S: LeftByLedger>(
     rt: &HostRuntime,
     path: &str,

@@ -17,7 +17,7 @@ names_of naming held = members (set_of by_bytes (map (name_of naming) (members h
 -- the number of the entry by which the record of a name came; 0 where it came by none
 abbrev pub came_under : Naming → Book → List ℕ → ℕ
 came_under naming book name =
-    option_map_or 0 (came_by book.journal) (record_named naming book.held name)
+    option_map_or (came_by book.journal) (record_named naming book.held name) 0
 
 abbrev pub arrival_at : Naming → Book → List ℕ → Arrival
 arrival_at naming book name = record { name = name; entry = came_under naming book name }

@@ -112,5 +112,8 @@ sound_are_ours counts image sound =
     let of = found.1 in
     record {
       book = of.book;
-      held = ∣ (found.0, record { readable = of.readable; holds = of.holds }) ∣₁;
+      held = ∣ (
+        found.0,
+        record { readable = of.readable; journaled = of.journaled; holds = of.holds },
+      ) ∣₁;
     }

@@ -40,6 +40,7 @@ pub holds_new : (naming : Naming) (trees : Trees) → Holds trees new_tables
     → IsStoredIn naming new_book trees
 holds_new naming trees holds = record {
   readable = calls_read.books naming new_book (calls_stay.start naming);
+  journaled = calls_read.journals naming new_book (calls_stay.start naming);
   holds = subst (Holds trees) (new_follow naming) holds;
 }
 

@@ -1,6 +1,6 @@
 -- New books are continued: a look whether anything was submitted to them, and what is left.
 use Rattle.std.proofs.Common.{◌≡◌, ◌∙◌, Bool, true, false, List, Option, None, Some, Result, Ok}
-use Rattle.std.proofs.Common.{Err, IsTrue, length, ap, inl, inr, is_some, subst, sym, true≢false}
+use Rattle.std.proofs.Common.{Err, IsTrue, length, ap, inl, inr, is_some, subst, sym, true≢false, ℕ}
 use Rattle.std.proofs.Common.{IfErr, IfOk, option_map}
 use Rattle.sqlite_trees.specs.View.{View}
 use Rattle.sqlite_trees.specs.declared.error.StoreError.{StoreError}
@@ -11,6 +11,7 @@ use Rattle.named_books.specs.declared.repository.RepositoryFault.TheVariants.{Ex
 use Rattle.tree_tables.proofs.Looking.{looks_also, was_clean}
 use Rattle.tree_tables.proofs.TheBook.{book_absent, book_held}
 use Rattle.tree_tables.specs.Answers.{FindsBook, ListsCloses, ListsCredits, ListsTariffs}
+use Rattle.tree_tables.specs.Answers.{last_number}
 use Rattle.tree_tables.specs.States.{State, HasCleanDisk, Survives}
 use Rattle.tree_tables.specs.Steps.{Looks, Sees}
 use Rattle.tree_tables.specs.Stored.{book_entry, close_entry, credit_entry, tariff_of}
@@ -29,38 +30,45 @@ use Rattle.book_sessions.specs.Unused.{SaysUnused, unused_by}
 use Rattle.sqlite_trees.specs.declared.error.StoreError.TheVariants as store
 use Rattle.book_model.specs.declared.fault.LedgerFault.TheVariants as ledger
 
--- what the row and the three lists say
+-- what the row, the three lists and the newest entry say
 pub says_unused : (tables : Tables) (found : Option StoredBook) (book : StoredBook)
     (tariffs : List StoredTariff) (closes : List Close) (credits : List StoredCredit)
-    (unused : Bool) → found ≡ Some book → FindsBook tables found → ListsTariffs tables tariffs
-    → ListsCloses tables closes → ListsCredits tables credits
-    → unused ≡ unused_by (length tariffs) (length closes) (length credits) book.held book.adopted
-    → SaysUnused tables (Some unused)
-says_unused tables found book tariffs closes credits unused is finds texts days sums says =
+    (newest : ℕ) (unused : Bool) → found ≡ Some book → FindsBook tables found
+    → ListsTariffs tables tariffs → ListsCloses tables closes → ListsCredits tables credits
+    → newest ≡ last_number tables.journal
+    → unused ≡ unused_by (length tariffs) (length closes) (length credits) newest book.held
+    book.adopted → SaysUnused tables (Some unused)
+says_unused tables found book tariffs closes credits newest unused is finds texts days sums last says =
     let row : book_entry book ≡ tables.book =
     (let here = sym (ap (option_map book_entry) is) ∙ finds in cc) in
     let many = sym (length-map tariffs tariff_of) ∙ ap length texts in
     let ended = sym (length-map closes close_entry) ∙ ap length days in
     let given = sym (length-map credits credit_entry) ∙ ap length sums in
-    ap Some (says ∙ (λ i. unused_by (many i) (ended i) (given i) (row i).held (row i).adopted))
+    ap Some (says ∙ (λ i. unused_by (many i) (ended i) (given i) (last i) (row i).held (row i).adopted))
 
--- four looks, one after another, tell it
-pub looks_unused : {A B C : Type 0} {first one two three last : State}
-    {found : Option StoredBook} {tariffs : A} {closes : B} {credits : C} {unused : Bool}
-    {Texts : Tables → A → Type 0} {Days : Tables → B → Type 0} {Sums : Tables → C → Type 0}
+-- five looks, one after another, tell it
+pub looks_unused : {A B C D : Type 0} {first one two three four last : State}
+    {found : Option StoredBook} {tariffs : A} {closes : B} {credits : C} {newest : D}
+    {unused : Bool} {Texts : Tables → A → Type 0} {Days : Tables → B → Type 0}
+    {Sums : Tables → C → Type 0} {Newest : Tables → D → Type 0}
     → Looks (Ok found) first one FindsBook → Looks (Ok tariffs) one two Texts
-    → Looks (Ok closes) two three Days → Looks (Ok credits) three last Sums
+    → Looks (Ok closes) two three Days → Looks (Ok credits) three four Sums
+    → Looks (Ok newest) four last Newest
     → ((tables : Tables) → FindsBook tables found → Texts tables tariffs → Days tables closes
-    → Sums tables credits → SaysUnused tables (Some unused))
+    → Sums tables credits → Newest tables newest → SaysUnused tables (Some unused))
     → Looks (Ok (Some unused)) first last SaysUnused
-looks_unused {found = found} {tariffs = tariffs} {closes = closes} {Texts = Texts} {Days = Days}
-    book texts days sums says =
+looks_unused {found = found} {tariffs = tariffs} {closes = closes} {credits = credits}
+    {Texts = Texts} {Days = Days} {Sums = Sums} book texts days sums entered says =
     let two = looks_also {Both = λ tables (found : Option StoredBook). FindsBook tables found
     × Texts tables tariffs} {third = found} book texts (λ tables finds lists. (finds, lists)) in
     let three = looks_also {Both = λ tables (found : Option StoredBook). (FindsBook tables found
     × Texts tables tariffs) × Days tables closes} {third = found} two days
     (λ tables known lists. (known, lists)) in
-    looks_also three sums (λ tables known lists. says tables known.0.0 known.0.1 known.1 lists)
+    let four = looks_also {Both = λ tables (found : Option StoredBook). ((FindsBook tables found
+    × Texts tables tariffs) × Days tables closes) × Sums tables credits} {third = found} three sums
+    (λ tables known lists. (known, lists)) in
+    looks_also four entered (λ tables known last.
+    says tables known.0.0.0 known.0.0.1 known.0.1 known.1 last)
 
 -- a store to which nothing was written leaves the trees that it had
 pub unwritten_stays : (old new : State)

@@ -81,6 +81,7 @@ holds_same same holds = record {
   details = same 10 (omega arith) ∙ holds.details;
   credits = same 11 (omega arith) ∙ holds.credits;
   replaced = same 12 (omega arith) ∙ holds.replaced;
+  journal = same 13 (omega arith) ∙ holds.journal;
 }
 
 -- so it is with those of an older form
@@ -166,6 +167,7 @@ all_written names old mid marked new first ordered added marks fills listed =
           subst (λ (form : OlderForm). IsStoredInOld form names book old.trees) is at.kept.2 in
           record {
             readable = kept.readable;
+            journaled = kept.journaled;
             holds = subst (Holds new.trees) (filled_are form names book kept.readable)
                 (fills.made (written_in form (tables_of names book))
                 (marks.1 (written_in form (tables_of names book)) (old_same same kept.holds))
@@ -183,6 +185,7 @@ module _ (names : Naming) (old new : View) (written : IsWritten names old new) w
         written.more,
         record {
           readable = kept.readable;
+          journaled = kept.journaled;
           holds = holds_same (λ tree small. said_tables new.trees this_form tree
               (omega (arith, small))) kept.holds;
         },

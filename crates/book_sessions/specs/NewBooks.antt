@@ -6,7 +6,7 @@ use Rattle.sqlite_trees.specs.Tree.{Trees}
 use Rattle.sqlite_trees.specs.View.{View, IsClean}
 use Rattle.sqlite_wal.specs.Recovery.{Image}
 use Rattle.book_core.specs.Transition.{NoEvent}
-use Rattle.book_model.specs.Words.{Event, Naming, new_book}
+use Rattle.book_model.specs.Words.{Event, Naming, book_after, new_book}
 use Rattle.book_sessions.specs.Causes.{HaveBookRow, WhyNotContinued, WhyNotMade}
 use Rattle.book_sessions.specs.Sessions.{AreAsFound, AreOpened, FilesGoOn, KeepRows, MayFollow}
 use Rattle.book_sessions.specs.declared.ended.Ended.{Ended}
@@ -80,10 +80,11 @@ pub record AreContinued {A D : Type 0} (g : Ghosts D) (found : Image)
   pub history : FilesGoOn g NoEvent found ended
   pub rows : HaveBookRow found → KeepRows g found ended
   pub unopened : AreAsFound g found ended
-  -- That all went well is answered of no history alone; and where no table had a row yet, new books
+  -- That all went well is answered of new books alone; and where no table had a row yet, new books
   -- are made, as ever.
   pub none : (image : Image) → MayFollow g ended image → (history : List Event)
-      → HoldsHistory file_names history found → IfOk result (λ done. history ≡ [])
+      → HoldsHistory file_names history found
+      → IfOk result (λ done. ∥ book_after history ≡ new_book ∥₁)
   pub made : HoldsEmptyBooks found → NewBooksMade g result ended
   -- It is answered only of files that were opened; and that books are there is told only of files
   -- that hold none of this form, or books that are not new.

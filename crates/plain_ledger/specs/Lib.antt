@@ -9,4 +9,5 @@ pub mod PlainDetails
 pub mod PlainLives
 pub mod Replacements
 pub mod Journals
+pub mod MadeEntries
 pub mod LedgerBook

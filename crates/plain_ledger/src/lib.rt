@@ -12,6 +12,7 @@ mod identity;
 mod journal;
 mod ledger;
 mod life;
+mod made_entries;
 mod period;
 mod period_end;
 mod plain;

@@ -11,6 +11,7 @@ mod adoption;
 mod choices;
 mod credits;
 mod lists;
+mod places;
 mod records;
 mod replacements;
 mod ruling_list;

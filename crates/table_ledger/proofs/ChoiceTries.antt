@@ -6,11 +6,12 @@ use Rattle.book_model.proofs.Std.{nat_cmp_total, get, get-from_entries, option_m
 use Rattle.book_core.specs.Words.{choice_effects, ruled_in, LeavesOpen}
 use Rattle.book_core.specs.declared.effects.ChoiceEffects.{ChoiceEffects}
 use Rattle.book_core.specs.declared.effects.Effects.{Effects}
-use Rattle.book_model.specs.Words.{Book, Naming, RecordChosen, last_close, open_by, choose_answer}
+use Rattle.book_model.specs.Journal.{ChoiceOf}
+use Rattle.book_model.specs.Words.{Book, IsAnswered, Naming, Note, RecordChosen, last_close, open_by, choose_answer}
 use Rattle.book_model.specs.Words.{choose_outcome, chosen_answer, if_done, most_choices}
 use Rattle.book_model.specs.Words.{RulingGiven, record_named}
 use Rattle.book_model.specs.declared.fault.LedgerFault.TheVariants.{NoSuchRecord}
-use Rattle.table_model.specs.Changed.{chosen_at}
+use Rattle.table_model.specs.Changed.{chosen_at, rows_changed}
 use Rattle.table_model.specs.Words.{put_choice, RecordRow, Tables, choice_entries, tables_of}
 use Rattle.table_model.specs.Words.{apply, member_at, IsReadable}
 use Rattle.table_model.proofs.ChoiceChanges.{choice_free}
@@ -18,15 +19,17 @@ use Rattle.table_model.specs.RulingsRead.{chosen_by, choose_row, was_withheld_in
 use Rattle.table_model.proofs.ChoiceLemmas.{choices_follow}
 use Rattle.table_model.proofs.ChoiceReading.{choices_count}
 use Rattle.tree_tables.specs.Answers.{CountsSharing}
-use Rattle.table_ledger.proofs.Words.{View, StoreError, Ruled, Done, FindsRecord, State, Does}
+use Rattle.table_ledger.proofs.Words.{View, StoreError, Ruled, Done, FindsRecord, State}
 use Rattle.table_ledger.proofs.Words.{Looks, stored_entry, StoredRecord, Saw, IsAt, LeavesOne}
 use Rattle.table_ledger.proofs.Words.{MakesOf, StagesBy, opens}
+use Rattle.table_ledger.specs.Entries.{DoesRuling, NumbersEntries, enter_row}
 use Rattle.table_ledger.specs.Premises.{IsNext}
 use Rattle.table_ledger.specs.ChoiceReads.{FindsChoiceEffects}
 use Rattle.table_ledger.specs.declared.summary.Summary.{Summary}
 use Rattle.table_ledger.proofs.AcceptTries.{none_found, saw_as}
 use Rattle.book_core.proofs.OpenAnswers.{opens_if}
 use Rattle.table_ledger.proofs.LineReadings.{found_row}
+use Rattle.table_ledger.proofs.EnteredRulings.{entries_numbered, ruling_entered}
 use Rattle.table_ledger.proofs.Remembered.{Says}
 use Rattle.table_ledger.proofs.StageLemmas.{IsEvent, stage_steps}
 use Rattle.table_ledger.proofs.TryLemmas.{saw_found, saw_so, saw_then}
@@ -139,34 +142,44 @@ module _ (naming : Naming) (was : Summary) (name : List ℕ) (view : View) (book
         chosen_by (many == 1 && not ever) stored.charged (nat_le most_choices was.choices) ≡ Ok Done
         → (period : ℕ) (through : Option ℤ) (effects : ChoiceEffects)
         → period ≡ open_by (ruled_in was.rulings) → through ≡ last_close (ruled_in was.rulings)
-        → FindsChoiceEffects through (stored_entry stored) tables effects
-        → IsEvent (λ (ruled : Ruled). ruled) naming (choose_outcome naming name) Done
+        → FindsChoiceEffects through (stored_entry stored) tables effects → (noted : Option Note)
+        → IsEvent (λ (ruled : Ruled). ruled) naming (choose_outcome naming noted name) Done
         (Says (ruled_in was.rulings) (was.choices + 1) was.replaced was.credits was.held was.total)
-        (IsNext (was.choices + 1)) (put_choice (was.choices + 1) period name effects) book
-    choose_is_event tests period through effects period_is through_is effects_are =
+        (λ tables. IsNext (was.choices + 1) tables
+        × NumbersEntries (put_choice (was.choices + 1) period name effects tables))
+        (λ tables. enter_row noted (ChoiceOf (was.choices + 1))
+        (put_choice (was.choices + 1) period name effects tables)) book
+    choose_is_event tests period through effects period_is through_is effects_are noted =
         let done = choose_told ∙ tests in
         let one = chosen_one naming book name done in
         let named = its_name naming book.held name one.0 one.1 in
         let current = choices_follow.current naming book row.identity readable in
         let count = ap (λ n. n + 1) ready.remembers.choices in
+        let ruling = RecordChosen one.0 in
+        let answered : IsAnswered naming (RulingGiven noted ruling) book = (
+          ap (choose_answer naming book) named ∙ done,
+          ap (record_named naming book.held) named ∙ one.1,
+        ) in
+        let made : put_choice (was.choices + 1) period name effects tables
+        ≡ rows_changed naming book.rulings (RulingGiven noted ruling) tables =
+        (λ i. put_choice (count i) ((period_is ∙ ap open_by ready.remembers.rulings) i) name
+        ((effects_are
+        ∙ (λ i. choice_effects ((through_is ∙ ap last_close ready.remembers.rulings) i)
+        (current i) (member_at (sym found.1 i, row)))) i) tables)
+        ∙ (λ i. option_map_or (λ row. chosen_at book.rulings (sym named i) row tables)
+        ((sym found.0 ∙ ap (get tables.records) (sym named)) i) tables) in
         record {
-          event = RulingGiven (RecordChosen one.0);
-          is = ap (if_done (meant_by (record_named naming book.held name))) done
-              ∙ ap meant_by one.1;
+          event = RulingGiven noted ruling;
+          is = ap (if_done (meant_by noted (record_named naming book.held name))) done
+              ∙ ap (meant_by noted) one.1;
           answer = done;
-          answered = (
-            ap (choose_answer naming book) named ∙ done,
-            ap (record_named naming book.held) named ∙ one.1,
+          answered = answered;
+          when = (
+            next_is_new naming book (was.choices + 1) count,
+            entries_numbered naming book noted ruling readable answered made,
           );
-          when = next_is_new naming book (was.choices + 1) count;
           submitted = tt;
-          changes =
-              (λ i. put_choice (count i) ((period_is ∙ ap open_by ready.remembers.rulings) i) name
-              ((effects_are
-              ∙ (λ i. choice_effects ((through_is ∙ ap last_close ready.remembers.rulings) i)
-              (current i) (member_at (sym found.1 i, row)))) i) tables)
-              ∙ (λ i. option_map_or (λ row. chosen_at book.rulings (sym named i) row tables)
-              ((sym found.0 ∙ ap (get tables.records) (sym named)) i) tables);
+          changes = ruling_entered naming book noted ruling readable answered made (ap ChoiceOf count);
           remembers = λ follows summary says. record {
             rulings = says.rulings ∙ ready.remembers.rulings;
             choices = says.choices ∙ count ∙ sym (length-append book.rulings.choices _);
@@ -180,26 +193,26 @@ module _ (naming : Naming) (was : Summary) (name : List ℕ) (view : View) (book
 -- What a choice writes is staged, after the looks that its tests and its effects rest on.
 pub choose_staged : {first second third fourth fifth last : State} {found : Option StoredRecord}
     {identity its : List ℕ} {effects : ChoiceEffects} {T : Type 0} {written : Result T StoreError}
-    {many : ℕ} {ever : Bool} (naming : Naming) (was : Summary) (name : List ℕ)
+    {many : ℕ} {ever : Bool} (naming : Naming) (noted : Option Note) (was : Summary) (name : List ℕ)
     (stored : StoredRecord) (period : ℕ) (through : Option ℤ)
     → found ≡ Some stored → identity ≡ stored.identity.items → its ≡ stored.identity.items
     → Looks (Ok found) first second (FindsRecord name)
     → Looks (Ok many) second third (CountsSharing identity)
     → Looks (Ok ever) third fourth (λ tables ever. ever ≡ was_withheld_in tables its)
     → Looks (Ok effects) fourth fifth (FindsChoiceEffects through (stored_entry stored))
-    → Does written fifth last (IsNext (was.choices + 1))
-    (put_choice (was.choices + 1) period name effects)
+    → DoesRuling written fifth last (IsNext (was.choices + 1))
+    (put_choice (was.choices + 1) period name effects) noted (ChoiceOf (was.choices + 1))
     → chosen_by (many == 1 && not ever) stored.charged (nat_le most_choices was.choices) ≡ Ok Done
     → period ≡ open_by (ruled_in was.rulings) → through ≡ last_close (ruled_in was.rulings)
     → StagesBy (λ tables. tables) (λ (done : T). Ok Done)
-    (MakesOf (λ (ruled : Ruled). ruled) (choose_outcome naming name))
-    (LeavesOne (choose_outcome naming name)) naming was
+    (MakesOf (λ (ruled : Ruled). ruled) (choose_outcome naming noted name))
+    (LeavesOne (choose_outcome naming noted name)) naming was
     (Says (ruled_in was.rulings) (was.choices + 1) was.replaced was.credits was.held was.total)
     first last written
-choose_staged {effects = effects} {written = written} {ever = ever} naming was name stored period
-    through is same its_same looks shared withheld seen writes tests period_is through_is =
+choose_staged {effects = effects} {written = written} {ever = ever} naming noted was name stored
+    period through is same its_same looks shared withheld seen writes tests period_is through_is =
     stage_steps written
     (saw_then (saw_asked name stored is same its_same looks shared withheld) (saw_found seen))
     writes
     (λ book at known. choose_is_event naming was name _ book at stored known.0.0.0 known.0.0.1
-    known.0.1 tests period through effects period_is through_is known.1)
+    known.0.1 tests period through effects period_is through_is known.1 noted)

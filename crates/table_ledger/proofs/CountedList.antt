@@ -13,6 +13,7 @@ use Rattle.book_model.proofs.Std.{filter-append, IsPermutation-map, IsPermutatio
 use Rattle.book_model.proofs.Std.{list_any-IsPermutation, take_more}
 use Rattle.book_model.specs.Words.{by_bytes, has, set_of}
 use Rattle.book_model.proofs.Lemmas.{has_with, is, same_records, has-set_of}
+use Rattle.table_model.specs.Tables.{CameTable}
 use Rattle.table_model.specs.Words.{charged_before_lines, first_line, NamedRow, count_row, Tables}
 use Rattle.table_model.proofs.WalkLemmas.{or_turn}
 use Rattle.tree_tables.specs.Passes.{HasRecordsLeft, TakesFirst, TakesNext}
@@ -78,17 +79,18 @@ module _ (first : List ℕ → Option Bool) where
     pub passed : List NamedRow
     pub left : List NamedRow
     pub whole : passed ++ left ≡ entries tables.records
-    pub to_come : HasRecordsLeft view left
+    pub to_come : HasRecordsLeft tables.came view left
     pub names : names_of all ≡ names_by first passed
 
   -- the next row is passed
   pub listed_on : (old new : View) (all more : List Counted) (tables : Tables) (row : Row)
       → ListedSo old all tables → TakesNext old new row true
-      → ((entry : NamedRow) → row ≡ record_columns entry
+      → ((came : CameTable) (entry : NamedRow) → row ≡ record_columns came entry
       → AddsCounted (first entry.0) entry (names_of all) (names_of more))
       → ListedSo new more tables
   listed_on old new all more tables row so_far takes adds =
-      let it : TakesFirst so_far.left new row true = takes so_far.left so_far.to_come in
+      let it : TakesFirst tables.came so_far.left new row true =
+      takes tables.came so_far.left so_far.to_come in
       record {
         passed = so_far.passed ++ it.0 ∷ [];
         left = it.1;
@@ -96,7 +98,7 @@ module _ (first : List ℕ → Option Bool) where
             ∙ ap (λ left. so_far.passed ++ left) (sym it.2) ∙ so_far.whole;
         to_come = it.4;
         names = names_more so_far.passed it.0 (names_of all) (names_of more) so_far.names
-            (adds it.0 it.3);
+            (adds tables.came it.0 it.3);
       }
 
   -- none is left: the names are those of all rows, in the order in which they were put then
@@ -104,7 +106,7 @@ module _ (first : List ℕ → Option Bool) where
       → ListedSo old all tables → TakesNext old new row false → IsPermutation all put
       → IsPermutation (names_of put) (names_by first (entries tables.records))
   listed_all old new all put tables row so_far takes order =
-      let none = (takes so_far.left so_far.to_come).0 in
+      let none = (takes tables.came so_far.left so_far.to_come).0 in
       let whole = sym (append-nil so_far.passed)
       ∙ ap (λ left. so_far.passed ++ left) (sym none) ∙ so_far.whole in
       subst (IsPermutation (names_of put)) (so_far.names ∙ ap (names_by first) whole)

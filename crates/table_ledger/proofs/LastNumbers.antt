@@ -1,15 +1,18 @@
--- The number of the last choice, of the last replaced tariff and of the last credit: it is their
--- count.
+-- The number of the last choice, of the last replaced tariff, of the last credit and of the last
+-- entry: it is their count.
 use Rattle.std.proofs.Common.{◌≡◌, ◌∙◌, ◌+◌, ℕ, List, None, ap, arith, length, map, nat_cmp, refl}
-use Rattle.std.proofs.Common.{unwrap_or}
+use Rattle.std.proofs.Common.{sym, unwrap_or}
 use Rattle.book_model.proofs.Std.{from_entries, last_or, length-map}
 use Rattle.book_model.specs.Words.{Book, Naming}
+use Rattle.table_model.specs.JournalRows.{journal_rows}
 use Rattle.table_model.specs.Words.{tables_of, under_numbers, IsReadable}
 use Rattle.table_model.specs.TablesOf.{replaced_row}
 use Rattle.table_model.proofs.ChoiceLemmas.{choices_follow}
 use Rattle.table_model.proofs.ChoiceReading.{choices_count}
+use Rattle.table_model.proofs.JournalChanges.{newest-is, rows-length}
 use Rattle.table_model.proofs.UnderNumbers.{entries-numbers, last_number as last_of}
 use Rattle.tree_tables.specs.Answers.{last_number}
+use Rattle.table_ledger.specs.Entries.{NumbersEntries}
 
 -- in the tables of a book it is the number of its choices,
 pub last_counts : (naming : Naming) (book : Book) → IsReadable naming book
@@ -35,3 +38,11 @@ last_replaced naming book =
 pub last_credit : (naming : Naming) (book : Book)
     → last_number (tables_of naming book).credits ≡ length book.rulings.credits
 last_credit naming book = counted book.rulings.credits
+
+-- and that of the entries
+pub last_entered : (naming : Naming) (book : Book)
+    → last_number (tables_of naming book).journal ≡ length book.journal
+last_entered naming book = counted (journal_rows book.journal) ∙ rows-length book.journal
+
+pub numbers_entries : (naming : Naming) (book : Book) → NumbersEntries (tables_of naming book)
+numbers_entries naming book = last_entered naming book ∙ sym (newest-is book.journal)

@@ -3,6 +3,7 @@
 mod Words
 pub mod SurvivalLemmas
 pub mod UnchangedStores
+pub mod CameNames
 mod TryLemmas
 mod Answering
 pub mod Refusals
@@ -10,13 +11,20 @@ mod Remembered
 mod StepLemmas
 mod StageLemmas
 mod CommitLemmas
+mod JoinedEntries
 mod ManyLemmas
 mod SumLemmas
 mod ServedWork
 mod OneCall
+mod GroupCalls
 mod RuledCalls
 mod WithheldStages
 mod LastNumbers
+mod EnteredRulings
+mod KeptGroups
+mod GroupEntries
+mod GroupStages
+mod AnswersRead
 mod TariffTries
 mod ReplaceTries
 mod CloseTries
@@ -24,6 +32,7 @@ mod ChoiceTries
 mod WithheldReads
 mod WithholdTries
 mod CreditTries
+mod EndTries
 mod KeptNames
 mod Walks
 mod WalksOf
@@ -55,6 +64,8 @@ mod PostedDetails
 mod OpenLemmas
 mod LoadLemmas
 mod RulingReads
+mod EntryTries
+mod ArrivalTries
 mod TraceLemmas
 mod ChosenOrder
 mod TrailTries

@@ -1,13 +1,12 @@
--- Calls of a ledger come to such work: a single one, and records that are submitted together.
-use Rattle.std.proofs.Common.{◌≡◌, ◌∙◌, ◌||◌, inl, ℕ, Bool, true, false, List, [], Result, Err}
+-- A single call of a ledger comes to such work.
+use Rattle.std.proofs.Common.{◌≡◌, ◌∙◌, ◌||◌, inl, Bool, true, false, [], Result, Err}
 use Rattle.std.proofs.Common.{refl, sym, ap}
-use Rattle.book_model.specs.Words.{Book, Naming, Outcome, accept_outcome}
-use Rattle.book_core.specs.Words.{Calls, IsCall, Makes, Reopens, Takes, first_of, IsTransition}
-use Rattle.table_ledger.proofs.Words.{StoreError, Ghosts, Accepted, LedgerFault, Memory, Reopen}
+use Rattle.book_model.specs.Words.{Book, Naming, Outcome}
+use Rattle.book_core.specs.Words.{Calls, IsCall, Makes, Reopens}
+use Rattle.table_ledger.proofs.Words.{StoreError, Ghosts, LedgerFault, Memory, Reopen}
 use Rattle.table_ledger.proofs.Words.{state}
 use Rattle.table_ledger.proofs.Words.{Finishes, LedgerState, seen_on, state_on, LeavesTheLast}
 use Rattle.table_ledger.proofs.Words.{AttemptsOne, MakesOf, LeavesOne}
-use Rattle.table_ledger.specs.Stages.{TakesOf, LeavesFirst}
 use Rattle.table_ledger.specs.declared.summary.Summary.{Summary}
 use Rattle.table_ledger.proofs.ServedWork.{ComesTo, work_settled}
 
@@ -84,28 +83,3 @@ call_wanting {view = view} {outcome = outcome} shelf is_open =
       reopen = sym is_open;
       store = is_open ∙ ap (λ was. was || false) (sym is_open);
     })
-
--- ---- records that are submitted together
-
--- they come to such work
-pub many_come : (naming : Naming) (records : List (List ℕ))
-    → ComesTo (TakesOf naming records) (LeavesFirst naming records) (Takes naming records)
-many_come naming records = record {
-  served = λ result book events open_now served made. made;
-  wanting = λ book. record { makes = refl; reopens = record { reopen = refl; store = refl } };
-  none = λ book. record { answers = []; accepts = record { none = refl; same = refl } };
-  within = λ book events leaves. record {
-    was_open = refl;
-    closed = refl;
-    answers = leaves.answers;
-    kept = leaves.accepts;
-  };
-}
-
--- A ledger that is to be reopened takes none.
-pub many_reopen : (shelf : LedgerState) (naming : Naming) (records : List (List ℕ))
-    → shelf.must_reopen ≡ true
-    → IsTransition (seen_on shelf) (seen_on shelf) (Takes naming records (Err Reopen))
-many_reopen shelf naming records closed =
-    (call_reopen {V = Accepted} {view = λ (accepted : Accepted). accepted}
-    {outcome = accept_outcome naming (first_of records)} shelf closed).work

@@ -13,6 +13,7 @@ use Rattle.book_model.proofs.Std.{filter-append, sum_by-append, sorted_tail}
 use Rattle.book_model.specs.Words.{Priced, Terms, by_key, most_cost, price_by, rows_of}
 use Rattle.book_model.proofs.Lemmas.{by_key_total}
 use Rattle.book_core.proofs.KeyedRowLemmas.{rows_under_keys}
+use Rattle.table_model.specs.Tables.{CameTable}
 use Rattle.table_model.specs.Words.{Tables, row_record, row_costs, NamedRow}
 use Rattle.tree_tables.specs.Passes.{HasRecordsLeft, TakesFirst, TakesNext}
 use Rattle.table_ledger.proofs.Words.{lookup, View, Row, Full, ChargeRow, RowKey, record_columns}
@@ -99,14 +100,14 @@ module _ (terms : Terms) (test : CountTest) where
     pub left : List NamedRow
     pub many : length passed ≡ steps
     pub whole : passed ++ left ≡ entries tables.records
-    pub to_come : HasRecordsLeft view left
+    pub to_come : HasRecordsLeft tables.came view left
     pub sums_are : AreSumsOf sums (costs_of terms test passed)
 
   -- The next row is the first of those that are still to come.
   module _ (old new : View) (sums : RowSums) (steps : ℕ) (tables : Tables) (row : Row)
       (so_far : PassedSo old sums steps tables) (takes : TakesNext old new row true) where
-    abbrev it : TakesFirst so_far.left new row true
-    it = takes so_far.left so_far.to_come
+    abbrev it : TakesFirst tables.came so_far.left new row true
+    it = takes tables.came so_far.left so_far.to_come
 
     abbrev entry : NamedRow
     entry = it.0
@@ -124,7 +125,7 @@ module _ (terms : Terms) (test : CountTest) where
 
     module _ (more : RowSums) where
       -- the pass goes on
-      pub passed_on : ((passed : List NamedRow) (one : NamedRow) → row ≡ record_columns one
+      pub passed_on : ((passed : List NamedRow) (came : CameTable) (one : NamedRow) → row ≡ record_columns came one
           → SumsUp sums (costs_of terms test passed) true
           → SumsUp more (costs_of terms test (passed ++ one ∷ [])) true)
           → PassedSo new more (steps + 1) tables
@@ -134,16 +135,16 @@ module _ (terms : Terms) (test : CountTest) where
         many = length-append so_far.passed (entry ∷ []) ∙ ap (λ n. n + 1) so_far.many;
         whole = with_it;
         to_come = it.4;
-        sums_are = adds so_far.passed entry it.3 so_far.sums_are;
+        sums_are = adds so_far.passed tables.came entry it.3 so_far.sums_are;
       }
 
       -- or stops, since with the next record all are too dear
-      pub passed_dear : ((passed : List NamedRow) (one : NamedRow) → row ≡ record_columns one
+      pub passed_dear : ((passed : List NamedRow) (came : CameTable) (one : NamedRow) → row ≡ record_columns came one
           → SumsUp sums (costs_of terms test passed) true
           → SumsUp more (costs_of terms test (passed ++ one ∷ [])) false)
           → AreRowsOf (costs_of terms test (entries tables.records)) None
       passed_dear adds =
-          let some = adds so_far.passed entry it.3 so_far.sums_are in
+          let some = adds so_far.passed tables.came entry it.3 so_far.sums_are in
           let within = costs_within (so_far.passed ++ entry ∷ []) others in
           let all = ap (λ rows. sum_by (λ (one : Priced). one.amount) (costs_of terms test rows))
           with_it in
@@ -161,6 +162,6 @@ module _ (terms : Terms) (test : CountTest) where
   passed_all old new sums steps tables row rows takes so_far answers =
       subst (λ all. AreRowsOf (costs_of terms test all) (Some rows))
       (sym (append-nil so_far.passed)
-      ∙ ap (λ left. so_far.passed ++ left) (sym (takes so_far.left so_far.to_come).0)
+      ∙ ap (λ left. so_far.passed ++ left) (sym (takes tables.came so_far.left so_far.to_come).0)
       ∙ so_far.whole)
       (answers (costs_of terms test so_far.passed) so_far.sums_are)

@@ -8,7 +8,8 @@ use Rattle.book_model.proofs.Std.{get, get-from_entries, int_cmp_total, list_any
 use Rattle.book_model.specs.declared.answer.Ruled.TheVariants.{Already}
 use Rattle.book_model.specs.declared.fault.LedgerFault.TheVariants.{NoSuchTariff, TariffDate}
 use Rattle.book_model.specs.declared.fault.LedgerFault.TheVariants.{TariffRefused}
-use Rattle.book_model.specs.Words.{AcceptedTerms, Book, IsDay, Naming, RulingGiven, TariffReplaced}
+use Rattle.book_model.specs.Journal.{ReplacementOf}
+use Rattle.book_model.specs.Words.{AcceptedTerms, Book, IsDay, Naming, Note, RulingGiven, TariffReplaced}
 use Rattle.book_model.specs.Words.{Terms, has_text, if_done, is_after, is_effective, is_too_dear}
 use Rattle.book_model.specs.Words.{is_under, last_close, most_cost, most_replaced, open_by}
 use Rattle.book_model.specs.Words.{replace_outcome, replace_ruled, replaced_in, replacing_answer}
@@ -22,10 +23,12 @@ use Rattle.table_model.specs.Words.{IsReadable, RecordRow, Tables, tables_of, ta
 use Rattle.table_model.proofs.ReplacedChanges.{replaced_alone, replaced_priced, sum_replaced}
 use Rattle.table_ledger.proofs.Words.{AttemptsOne, Done, Full, IsAt, LedgerFault, Memory, Ruled, State}
 use Rattle.table_ledger.proofs.Words.{View, opens}
+use Rattle.table_ledger.specs.Entries.{NumbersEntries, enter_row}
 use Rattle.table_ledger.specs.Replacing.{CostInPlace, HasTextAndCounts, text_begun}
 use Rattle.table_ledger.specs.TariffRefusals.{IsNoTariff}
 use Rattle.table_ledger.specs.declared.summary.Summary.{Summary}
 use Rattle.table_ledger.proofs.Answering.{makes_refused}
+use Rattle.table_ledger.proofs.EnteredRulings.{entries_numbered, ruling_entered}
 use Rattle.table_ledger.proofs.Remembered.{Says, tariffs_are}
 use Rattle.table_ledger.proofs.Repriced.{no_room, room}
 use Rattle.table_ledger.proofs.StageLemmas.{IsEvent}
@@ -70,22 +73,22 @@ first_passing p (x ∷ xs) one more is =
     ] is
 
 -- a text that is no tariff is refused
-pub no_replacement : {naming : Naming} {was : Summary} {state : State} (text : List ℕ)
-    (fault : LedgerFault) → IsNoTariff text fault
-    → AttemptsOne (λ (ruled : Ruled). ruled) naming was was state state (replace_outcome text)
+pub no_replacement : {naming : Naming} {was : Summary} {state : State} (noted : Option Note)
+    (text : List ℕ) (fault : LedgerFault) → IsNoTariff text fault
+    → AttemptsOne (λ (ruled : Ruled). ruled) naming was was state state (replace_outcome noted text)
     (Ok (Err fault))
-no_replacement {naming} {was} {state} text fault (inl memory) =
+no_replacement {naming} {was} {state} noted text fault (inl memory) =
     subst (λ (fault : LedgerFault). AttemptsOne (λ (ruled : Ruled). ruled) naming was was state state
-    (replace_outcome text) (Ok (Err fault))) (sym memory)
-    (try_answered (replace_outcome text) saw_none (opens refl refl) (λ book at known. refl))
-no_replacement {naming} {was} {state} text fault (inr refused) =
+    (replace_outcome noted text) (Ok (Err fault))) (sym memory)
+    (try_answered (replace_outcome noted text) saw_none (opens refl refl) (λ book at known. refl))
+no_replacement {naming} {was} {state} noted text fault (inr refused) =
     subst (λ (fault : LedgerFault). AttemptsOne (λ (ruled : Ruled). ruled) naming was was state state
-    (replace_outcome text) (Ok (Err fault))) (sym refused.1)
-    (try_answered (replace_outcome text) saw_none (opens refl refl)
-    (λ book at known. makes_refused (λ (ruled : Ruled). ruled) (replace_outcome text book)
+    (replace_outcome noted text) (Ok (Err fault))) (sym refused.1)
+    (try_answered (replace_outcome noted text) saw_none (opens refl refl)
+    (λ book at known. makes_refused (λ (ruled : Ruled). ruled) (replace_outcome noted text book)
     (TariffRefused refused.0) (ap (replacing_answer book text) refused.2)))
 
-module _ (summary : Summary) (text : List ℕ) (terms : Terms) where
+module _ (noted : Option Note) (summary : Summary) (text : List ℕ) (terms : Terms) where
   -- the rulings that are remembered, and the three tests by them
   abbrev ruled : Rulings
   ruled = ruled_in summary.rulings
@@ -121,7 +124,7 @@ module _ (summary : Summary) (text : List ℕ) (terms : Terms) where
     readable = ready.kept.readable
 
     -- the answer to the text
-    answered : (replace_outcome text book).answer ≡ replace_ruled ruled (much || many) text terms
+    answered : (replace_outcome noted text book).answer ≡ replace_ruled ruled (much || many) text terms
     answered =
         let dear : is_too_dear (with_replaced text terms book.rulings) book.held ≡ much =
         ap (nat_lt most_cost)
@@ -132,19 +135,19 @@ module _ (summary : Summary) (text : List ℕ) (terms : Terms) where
 
     -- an answer that is not Done is given without a look at the records
     pub replace_other : replace_ruled ruled false text terms ≢ Ok Done
-        → (replace_outcome text book).answer ≡ replace_ruled ruled false text terms
+        → (replace_outcome noted text book).answer ≡ replace_ruled ruled false text terms
     replace_other other = answered ∙ full_other told there late (much || many) other
 
     module _ (done : replace_ruled ruled false text terms ≡ Ok Done) where
       -- else the room decides
       decided : (full : Bool) → (much || many) ≡ full
-          → (replace_outcome text book).answer ≡ (if full then Err Full else Ok Done)
+          → (replace_outcome noted text book).answer ≡ (if full then Err Full else Ok Done)
       decided full is =
           answered ∙ full_decides told there late (much || many) done
           ∙ ap (λ (full : Bool). if full then Err Full else Ok Done) is
 
       -- it is Full where no more can be replaced,
-      pub replace_most : many ≡ true → (replace_outcome text book).answer ≡ Err Full
+      pub replace_most : many ≡ true → (replace_outcome noted text book).answer ≡ Err Full
       replace_most most = decided true (ap (λ b. much || b) most ∙ or-true much)
 
       module _ (tariffs : List AcceptedTerms) (are : tariffs ≡ ruled.tariffs) where
@@ -154,7 +157,7 @@ module _ (summary : Summary) (text : List ℕ) (terms : Terms) where
 
         -- or where there is no room for what the records cost
         pub replace_full : CostInPlace tariffs terms tables None
-            → (replace_outcome text book).answer ≡ Err Full
+            → (replace_outcome noted text book).answer ≡ Err Full
         replace_full known =
             let under = subst (λ tariffs. CostInPlace tariffs terms tables None) its known in
             decided true (ap (λ b. b || many) (no_room cost under.cost))
@@ -164,11 +167,13 @@ module _ (summary : Summary) (text : List ℕ) (terms : Terms) where
             → CostInPlace tariffs terms tables (Some amount) → IsUtf8 text
             → IsDay terms.effective → (period : ℕ) → period ≡ open_by ruled → (was : List ℕ)
             → text_begun terms.effective tariffs ≡ Some was
-            → IsEvent (λ (ruled : Ruled). ruled) naming (replace_outcome text) Done
+            → IsEvent (λ (ruled : Ruled). ruled) naming (replace_outcome noted text) Done
             (Says (in_its_place (record { text = Some text; terms = terms }) ruled) summary.choices
             (summary.replaced + 1) summary.credits summary.held amount)
-            (HasTextAndCounts terms was summary.held)
-            (replaced_at (summary.replaced + 1) period tariffs text terms amount) book
+            (λ tables. HasTextAndCounts terms was summary.held tables
+            × NumbersEntries (replaced_at (summary.replaced + 1) period tariffs text terms amount tables))
+            (λ tables. enter_row noted (ReplacementOf (summary.replaced + 1))
+            (replaced_at (summary.replaced + 1) period tariffs text terms amount tables)) book
         replace_is_event few amount known utf8 day period number_is was begun =
             let own : AcceptedTerms = record { text = Some text; terms = terms } in
             let under = subst (λ tariffs. CostInPlace tariffs terms tables (Some amount)) its known in
@@ -189,23 +194,34 @@ module _ (summary : Summary) (text : List ℕ) (terms : Terms) where
             ∙ ap (text_begun terms.effective) (sym its) ∙ begun in
             let kept = λ (some : List AcceptedTerms).
             length book.rulings.replaced + length (map (replaced_in (open_by book.rulings)) some) in
+            let ruling = TariffReplaced text terms in
+            let answer = sym (ap (replacing_answer book text) said) ∙ is_done in
+            let made : replaced_at (summary.replaced + 1) period tariffs text terms amount tables
+            ≡ replaced_at (length book.rulings.replaced + 1) (open_by book.rulings) book.rulings.tariffs
+            text terms cost tables =
+            λ i. replaced_at (count i) (number i) (its i) text terms (cost_is.1 i) tables in
             record {
-              event = RulingGiven (TariffReplaced text terms);
-              is = ap (if_done (said_so text (terms_in text))) is_done ∙ ap (said_so text) said;
+              event = RulingGiven noted ruling;
+              is = ap (if_done (said_so noted text (terms_in text))) is_done
+                  ∙ ap (said_so noted text) said;
               answer = is_done;
-              answered = sym (ap (replacing_answer book text) said) ∙ is_done;
-              when = record {
-                text =
-                    get-from_entries int_cmp_total (tariff_entries book.rulings.tariffs)
-                    terms.effective
-                    ∙ alone.2 ∙ ap Some was_is;
-                counted = sym ready.remembers.held;
-              };
+              answered = answer;
+              when = (
+                record {
+                  text =
+                      get-from_entries int_cmp_total (tariff_entries book.rulings.tariffs)
+                      terms.effective
+                      ∙ alone.2 ∙ ap Some was_is;
+                  counted = sym ready.remembers.held;
+                },
+                entries_numbered naming book noted ruling readable answer made,
+              );
               submitted = (
                 record { characters = utf8; said = said; day = day },
                 replaced_priced naming book text terms readable (under.can refl),
               );
-              changes = λ i. replaced_at (count i) (number i) (its i) text terms (cost_is.1 i) tables;
+              changes = ruling_entered naming book noted ruling readable answer made
+                  (ap ReplacementOf count);
               remembers = λ follows other says. record {
                 rulings = says.rulings ∙ ap (in_its_place own) ready.remembers.rulings;
                 choices = says.choices ∙ ready.remembers.choices;

@@ -92,7 +92,7 @@ all_seen {book} (one ∷ rest) all =
 -- ---- credits by their numbers
 
 -- the row of a credit is under its number, from 1
-credit_at : (naming : Naming) (book : Book) (place : ℕ)
+pub credit_at : (naming : Naming) (book : Book) (place : ℕ)
     → get (tables_of naming book).credits (place + 1) ≡ slice_get book.rulings.credits place
 credit_at naming book place =
     get-from_entries nat_cmp_total (under_numbers 1 book.rulings.credits) (place + 1)

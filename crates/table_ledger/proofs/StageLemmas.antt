@@ -11,6 +11,7 @@ use Rattle.table_ledger.proofs.Words.{StoreError, LedgerFault, kept_after_look, 
 use Rattle.table_ledger.proofs.Words.{HasCleanDisk, Survives, Does, KeepsLastCommit, Looks, kept_last}
 use Rattle.table_ledger.proofs.Words.{only_both, Saw, Remembers, IsAtAs, LeavesOne, MakesOf}
 use Rattle.table_ledger.proofs.Words.{StagesAs, StagesBy}
+use Rattle.table_ledger.specs.Stages.{IsStaged, StagesWhere}
 use Rattle.table_ledger.specs.Ready.{IsStoredAs}
 use Rattle.table_ledger.specs.declared.summary.Summary.{Summary}
 use Rattle.table_model.proofs.JournalStays.{journaled_stays}
@@ -143,6 +144,41 @@ stage_answered {naming = naming} written outcome {old = old} {new = new} saw pla
       };
 }
 
+-- The steps of an event are staged after looks.
+event_staged : {V A T : Type 0} {view : V → A} {naming : Naming} {was : Summary}
+    {outcome : Book → Outcome A} {first middle last : State} {Known When : Tables → Type 0}
+    {change : Tables → Tables} {value : V} {Is : Summary → Type 0} {written : Tables → Tables}
+    {done : T} → Saw first middle Known → Does (Ok done) middle last When change
+    → HasCleanDisk last → (book : Book) → IsAtAs written naming was first.view book
+    → (Known (written (tables_of naming book))
+    → IsEventAs written view naming outcome value Is When change book)
+    → IsStaged written (MakesOf view outcome (Ok value)) (LeavesOne outcome) naming Is first.view
+    last.view book
+event_staged {naming = naming} {first = first} {middle = middle} {last = last} {written = written} saw
+    does clean book at is_event =
+    let tables = written (tables_of naming book) in
+    let seen = saw.seen (clean_before does.survives clean) in
+    let event = is_event (seen.known tables at.kept.holds) in
+    let changes = does.done clean in
+    let whole = at.kept.readable in
+    let follows =
+    event_follows naming book event.event whole.sound whole.usage at.kept.journaled event.answered
+    whole.rising in
+    record {
+      events = event.event ∷ [];
+      made = (event.answer, ap listed (sym event.is));
+      leaves = inr (ap listed (sym event.is));
+      only = only_both first.view (only_looks first.view seen.same) changes.only;
+      kept = record {
+        readable = readable_stays naming book event.event whole event.submitted event.answered;
+        journaled = journaled_stays naming book event.event at.kept.journaled event.answered;
+        holds = subst (Holds last.view.trees) (event.changes ∙ ap written (sym follows))
+            (changes.made tables
+            (holds_on first.view middle.view tables seen.same at.kept.holds) event.when);
+      };
+      remembers = event.remembers follows;
+    }
+
 -- The steps of a call are staged after its looks.
 pub stage_steps : {V A T : Type 0} {view : V → A} {naming : Naming} {was : Summary}
     {outcome : Book → Outcome A} {first middle last : State} {Known When : Tables → Type 0}
@@ -154,31 +190,62 @@ pub stage_steps : {V A T : Type 0} {view : V → A} {naming : Naming} {was : Sum
     → IsEventAs written view naming outcome value Is When change book)
     → StagesBy written (λ done. Ok value) (MakesOf view outcome) (LeavesOne outcome) naming was Is
     first last staged
-stage_steps {naming = naming} {first = first} {middle = middle} {last = last} {written = written} (Ok done) saw does events = record {
+stage_steps (Ok done) saw does events = record {
   plain = record { stored = refl; served = refl };
   survives = survives_then saw.survives does.survives;
   found = λ clean book at.
-      let tables = written (tables_of naming book) in
-      let seen = saw.seen (clean_before does.survives clean) in
-      let event = events book at (seen.known tables at.kept.holds) in
-      let changes = does.done clean in
-      let whole = at.kept.readable in
-      let follows =
-      event_follows naming book event.event whole.sound whole.usage at.kept.journaled event.answered
-      whole.rising in
-      record {
-        events = event.event ∷ [];
-        made = (event.answer, ap listed (sym event.is));
-        leaves = inr (ap listed (sym event.is));
-        only = only_both first.view (only_looks first.view seen.same) changes.only;
-        kept = record {
-          readable = readable_stays naming book event.event whole event.submitted event.answered;
-          journaled = journaled_stays naming book event.event at.kept.journaled event.answered;
-          holds = subst (Holds last.view.trees) (event.changes ∙ ap written (sym follows))
-              (changes.made tables
-              (holds_on first.view middle.view tables seen.same at.kept.holds) event.when);
-        };
-        remembers = event.remembers follows;
-      };
+      event_staged saw does clean book at (λ known. events book at known);
 }
 stage_steps (Err error) saw does events = stage_undone (Err error) refl saw does
+
+-- ---- of books of which something else is given
+
+module _ {V T : Type 0} {Given : Book → Type 0} {written : Tables → Tables}
+    {answered : T → Result V LedgerFault} {Made : Result V LedgerFault → Book → List Event → Type 0}
+    {Leaves : Book → List Event → Type 0} {naming : Naming} {was : Summary}
+    {Is : Summary → Type 0} where
+  -- what is staged of any book is staged of these
+  pub stages_where : {old new : State} {staged : Result T StoreError}
+      → StagesBy written answered Made Leaves naming was Is old new staged
+      → StagesWhere Given written answered Made Leaves naming was Is old new staged
+  stages_where stages = record {
+    plain = stages.plain;
+    survives = stages.survives;
+    found = λ clean book given at. stages.found clean book at;
+  }
+
+  -- work is not staged where the store refused it
+  pub unstaged_where : {old new : State} (staged : Result T StoreError) → IsErr staged
+      → Survives old new (λ trees. ⊥)
+      → (HasCleanDisk new → (book : Book) → Given book → IsAtAs written naming was old.view book
+      → KeepsLastCommit old.view new.view)
+      → StagesWhere Given written answered Made Leaves naming was Is old new staged
+  unstaged_where (Err error) failed survives stands =
+      record { plain = tt; survives = survives; found = stands }
+  unstaged_where (Ok value) failed survives stands = absurd (true≢false (sym failed))
+
+-- the steps of a call are staged after its looks, and this summary remembers the book
+pub steps_where : {V A T : Type 0} {Given : Book → Type 0} {view : V → A} {naming : Naming}
+    {was : Summary} {outcome : Book → Outcome A} {first middle last : State}
+    {Known When : Tables → Type 0} {change : Tables → Tables} {value : V} {Is : Summary → Type 0}
+    {written : Tables → Tables} {done : T} (is : Summary) → Is is → Saw first middle Known
+    → Does (Ok done) middle last When change
+    → ((book : Book) → Given book → IsAtAs written naming was first.view book
+    → Known (written (tables_of naming book))
+    → IsEventAs written view naming outcome value Is When change book)
+    → StagesWhere Given written (λ (answer : Result V LedgerFault). answer) (MakesOf view outcome)
+    (LeavesOne outcome) naming was (λ summary. summary ≡ is) first last (Ok (Ok value))
+steps_where is told saw does events = record {
+  plain = record { stored = refl; served = refl };
+  survives = survives_then saw.survives does.survives;
+  found = λ clean book given at.
+      let staged = event_staged saw does clean book at (λ known. events book given at known) in
+      record {
+        events = staged.events;
+        made = staged.made;
+        leaves = staged.leaves;
+        only = staged.only;
+        kept = staged.kept;
+        remembers = λ summary same. remembers_as (staged.remembers is told) same;
+      };
+}

@@ -2,7 +2,8 @@
 use Rattle.std.proofs.Common.{◌≡◌, ◌≢◌, ◌∙◌, ℕ, List, refl, sym, ap, Bool, true, false, Ok, Err}
 use Rattle.std.proofs.Common.{Option, Some, None, if◌then◌else◌, nat_lt, sum_by, IsUtf8}
 use Rattle.book_model.proofs.Std.{values, list_any}
-use Rattle.book_model.specs.Words.{terms_ruled, IsDay, Terms, terms_in, Book, TariffAccepted}
+use Rattle.book_model.specs.Journal.{TariffOf}
+use Rattle.book_model.specs.Words.{terms_ruled, IsDay, Note, Terms, terms_in, Book, TariffAccepted}
 use Rattle.book_model.specs.Words.{most_cost, open_by, open_number, tariff_outcome, if_done, Naming}
 use Rattle.book_model.specs.Words.{has_text, RulingGiven, is_effective, is_later, tariff_answer}
 use Rattle.book_model.specs.Words.{with_tariff, Rulings}
@@ -14,15 +15,17 @@ use Rattle.table_model.proofs.LateRows.{amount_is_read, late_counted}
 use Rattle.table_model.proofs.RulingLemmas.{terms_follow}
 use Rattle.table_ledger.proofs.Words.{View, Ruled, Done, Full, CanBeSummed, CostUnder, TakesTariff}
 use Rattle.table_ledger.proofs.Words.{IsAt}
+use Rattle.table_ledger.specs.Entries.{NumbersEntries, enter_row}
 use Rattle.table_ledger.specs.Repricing.{CountsRecords}
 use Rattle.table_ledger.specs.declared.summary.Summary.{Summary}
+use Rattle.table_ledger.proofs.EnteredRulings.{entries_numbered, ruling_entered}
 use Rattle.table_ledger.proofs.Remembered.{Says}
 use Rattle.table_ledger.proofs.Repriced.{no_room, room}
 use Rattle.table_ledger.proofs.StageLemmas.{IsEvent}
 
 -- ---- the tests
 
-module _ (summary : Summary) (text : List ℕ) (terms : Terms) where
+module _ (noted : Option Note) (summary : Summary) (text : List ℕ) (terms : Terms) where
   -- the rulings that are remembered, and the three tests by them
   abbrev ruled : Rulings
   ruled = ruled_in summary.rulings
@@ -51,7 +54,7 @@ module _ (summary : Summary) (text : List ℕ) (terms : Terms) where
     readable = ready.kept.readable
 
     -- the answer to the text
-    answered : (tariff_outcome text book).answer ≡ terms_ruled ruled much text terms
+    answered : (tariff_outcome noted text book).answer ≡ terms_ruled ruled much text terms
     answered =
         ap (tariff_answer book text) said
         ∙ terms_follow.answer naming book text terms readable
@@ -59,13 +62,13 @@ module _ (summary : Summary) (text : List ℕ) (terms : Terms) where
 
     -- an answer that is not Done is given without a look at the records
     pub tariff_other : terms_ruled ruled false text terms ≢ Ok Done
-        → (tariff_outcome text book).answer ≡ terms_ruled ruled false text terms
+        → (tariff_outcome noted text book).answer ≡ terms_ruled ruled false text terms
     tariff_other other = answered ∙ other_by told there later much other
 
     module _ (done : terms_ruled ruled false text terms ≡ Ok Done) where
       -- else the cost decides
       decided : (found : Bool) → much ≡ found
-          → (tariff_outcome text book).answer ≡ (if found then Err Full else Ok Done)
+          → (tariff_outcome noted text book).answer ≡ (if found then Err Full else Ok Done)
       decided found is =
           answered ∙ done_by told there later much done
           ∙ ap (λ (found : Bool). if found then Err Full else Ok Done) is
@@ -85,48 +88,56 @@ module _ (summary : Summary) (text : List ℕ) (terms : Terms) where
           → CostUnder terms (tables_of naming book) found
 
       -- so it is Full if there is no room
-      pub tariff_full : Found None → (tariff_outcome text book).answer ≡ Err Full
+      pub tariff_full : Found None → (tariff_outcome noted text book).answer ≡ Err Full
       tariff_full known = decided true (no_room cost (known can_be).cost)
 
       -- A tariff that is answered Done is an event.
       pub tariff_is_event : (amount : ℕ) → Found (Some amount) → IsUtf8 text
           → IsDay terms.effective → (period : ℕ) → period ≡ open_by ruled
-          → IsEvent (λ (ruled : Ruled). ruled) naming (tariff_outcome text) Done
+          → IsEvent (λ (ruled : Ruled). ruled) naming (tariff_outcome noted text) Done
           (Says (with_tariff (Some text) terms ruled) summary.choices summary.replaced
           summary.credits summary.held amount)
-          (λ tables. TakesTariff period terms tables × CountsRecords summary.held tables)
-          (tariff_at period (Some text) terms amount) book
+          (λ tables. (TakesTariff period terms tables × CountsRecords summary.held tables)
+          × NumbersEntries (tariff_at period (Some text) terms amount tables))
+          (λ tables. enter_row noted (TariffOf terms.effective)
+          (tariff_at period (Some text) terms amount tables)) book
       tariff_is_event amount known utf8 day period number_is =
-          let event = RulingGiven (TariffAccepted (Some text) terms) in
+          let ruling = TariffAccepted (Some text) terms in
           let under = known can_be in
           let cost_is = room cost amount under.cost in
           let number : period ≡ open_number book =
           number_is ∙ ap open_by ready.remembers.rulings in
           let is_done = decided false cost_is.0 in
           let answer = sym (ap (tariff_answer book text) said) ∙ is_done in
+          let tables = tables_of naming book in
+          let made : tariff_at period (Some text) terms amount tables
+          ≡ tariff_at (open_number book) (Some text) terms cost tables =
+          λ i. tariff_at (number i) (Some text) terms (cost_is.1 i) tables in
           record {
-            event = event;
-            is = ap (if_done (said_by text (terms_in text))) is_done ∙ ap (said_by text) said;
+            event = RulingGiven noted ruling;
+            is = ap (if_done (said_by noted text (terms_in text))) is_done ∙ ap (said_by noted text) said;
             answer = is_done;
             answered = answer;
             when = (
-              record {
-                naming = naming;
-                book = book;
-                text = text;
-                readable = readable;
-                done = answer;
-                number = number;
-                are = refl;
-              },
-              sym ready.remembers.held,
+              (
+                record {
+                  naming = naming;
+                  book = book;
+                  text = text;
+                  readable = readable;
+                  done = answer;
+                  number = number;
+                  are = refl;
+                },
+                sym ready.remembers.held,
+              ),
+              entries_numbered naming book noted ruling readable answer made,
             );
             submitted = (
               record { characters = utf8; said = said; day = day },
               terms_follow.priced naming book text terms readable answer (under.can refl),
             );
-            changes = λ i. tariff_at (number i) (Some text) terms (cost_is.1 i)
-                (tables_of naming book);
+            changes = ruling_entered naming book noted ruling readable answer made refl;
             remembers = λ follows other says. record {
               rulings = says.rulings ∙ ap (with_tariff (Some text) terms) ready.remembers.rulings;
               choices = says.choices ∙ ready.remembers.choices;

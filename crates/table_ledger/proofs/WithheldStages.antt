@@ -3,7 +3,7 @@ use Rattle.std.proofs.Common.{◌≡◌, ◌∙◌, ◌<◌, ◌+◌, ℕ, List,
 use Rattle.std.proofs.Common.{sym, ap, subst, false, true, drop, get_or, length, append-nil}
 use Rattle.std.proofs.Common.{append_assoc, add-one, drop-cons, IsErr, IfOk, Bool, ◌≤◌, arith}
 use Rattle.std.proofs.Common.{inl, inr, Option, Some, None}
-use Rattle.book_model.specs.Words.{Book, Event, after_all, Naming, withhold_outcome}
+use Rattle.book_model.specs.Words.{Book, Event, after_all, Naming, Note, withhold_outcome}
 use Rattle.book_core.specs.declared.withheld.Withheld.{Withheld}
 use Rattle.book_core.specs.Withholdings.{is_not_held, told_as, with_answer, withheld_of}
 use Rattle.book_core.specs.Words.{Calls, IsTransition, LeavesOpen, Makes, NoEvent, Reopens}
@@ -33,34 +33,34 @@ abbrev said : Ruled → Ruled
 said ruled = ruled
 
 -- a work is staged, with this answer
-abbrev IsAnswered : Naming → List ℕ → Result Ruled LedgerFault → Summary → View → View → Book → Type 0
-IsAnswered naming name answer is old new book =
-    let outcome = withhold_outcome naming name in
+abbrev IsAnswered : Naming → Option Note → List ℕ → Result Ruled LedgerFault → Summary → View → View → Book → Type 0
+IsAnswered naming noted name answer is old new book =
+    let outcome = withhold_outcome naming noted name in
     IsStaged (λ tables. tables) (MakesOf said outcome answer) (LeavesOne outcome) naming
     (λ summary. summary ≡ is) old new book
 
 -- the works so far were taken: whatever is taken of the rest, all of it is
-pub record AreWithheld (naming : Naming) (names rest : List (List ℕ)) (is : Summary) (old new : View)
+pub record AreWithheld (naming : Naming) (noted : Option Note) (names rest : List (List ℕ)) (is : Summary) (old new : View)
     (book : Book) (counts : Withheld) : Type 0 where
   pub answers : List (Option Ruled)
   pub counted : counts ≡ withheld_of answers
   pub events : List Event
   pub leads : (later : List (Option Ruled)) (late : List Event)
-      → Withholds naming rest later false (after_all events book) late false
-      → Withholds naming names (answers ++ later) false book (late ++ events) false
+      → Withholds naming noted rest later false (after_all events book) late false
+      → Withholds naming noted names (answers ++ later) false book (late ++ events) false
   pub only : OnlyWrites old new
   pub at : IsAt naming is new (after_all events book)
 
 -- none was taken yet
-pub none_taken : (naming : Naming) (names : List (List ℕ)) {is : Summary} {view : View} {book : Book}
+pub none_taken : (naming : Naming) (noted : Option Note) (names : List (List ℕ)) {is : Summary} {view : View} {book : Book}
     {counts : Withheld} → IsAt naming is view book → counts ≡ withheld_of []
-    → AreWithheld naming names names is view view book counts
-none_taken naming names {view = view} {book = book} at counted = record {
+    → AreWithheld naming noted names names is view view book counts
+none_taken naming noted names {view = view} {book = book} at counted = record {
   answers = [];
   counted = counted;
   events = [];
   leads = λ later late made.
-      subst (λ events. Withholds naming names later false book events false) (sym (append-nil late)) made;
+      subst (λ events. Withholds naming noted names later false book events false) (sym (append-nil late)) made;
   only = only_looks view refl;
   at = at;
 }
@@ -71,28 +71,28 @@ stays_open (Some ruled) = record { reopen = refl; store = refl }
 stays_open None = record { reopen = refl; store = refl }
 
 -- one more work was answered and written
-more_taken : {naming : Naming} {names rest : List (List ℕ)} {name : List ℕ} {was is : Summary}
+more_taken : {naming : Naming} {noted : Option Note} {names rest : List (List ℕ)} {name : List ℕ} {was is : Summary}
     {old middle new : View} {book : Book} {counts : Withheld} (answer : Option Ruled)
-    (taken : AreWithheld naming names (name ∷ rest) was old middle book counts)
-    → IsAnswered naming name (told_as answer) is middle new (after_all taken.events book)
-    → AreWithheld naming names rest is old new book (with_answer counts answer)
-more_taken {naming} {names} {rest} {name} {was} {is} {old} {middle} {new} {book} {counts} answer taken
+    (taken : AreWithheld naming noted names (name ∷ rest) was old middle book counts)
+    → IsAnswered naming noted name (told_as answer) is middle new (after_all taken.events book)
+    → AreWithheld naming noted names rest is old new book (with_answer counts answer)
+more_taken {naming} {noted} {names} {rest} {name} {was} {is} {old} {middle} {new} {book} {counts} answer taken
     staged = record {
       answers = taken.answers ++ answer ∷ [];
       counted = ap (λ (told : Withheld). with_answer told answer) taken.counted
           ∙ more_withheld taken.answers answer;
       events = staged.events ++ taken.events;
       leads = λ later late made.
-          subst (λ all. Withholds naming names all false book (late ++ (staged.events ++ taken.events)) false)
+          subst (λ all. Withholds naming noted names all false book (late ++ (staged.events ++ taken.events)) false)
           (sym (append_assoc taken.answers (answer ∷ []) later))
-          (subst (λ events. Withholds naming names (taken.answers ++ answer ∷ later) false book events false)
+          (subst (λ events. Withholds naming noted names (taken.answers ++ answer ∷ later) false book events false)
           (append_assoc late staged.events taken.events)
           (taken.leads (answer ∷ later) (late ++ staged.events) (record {
             between = false;
             early = staged.events;
             late = late;
             first = record { makes = staged.made; reopens = stays_open answer };
-            next = subst (λ book. Withholds naming rest later false book late false)
+            next = subst (λ book. Withholds naming noted rest later false book late false)
                 (after_all-append staged.events taken.events book) made;
             all = refl;
           })));
@@ -102,22 +102,22 @@ more_taken {naming} {names} {rest} {name} {was} {is} {old} {middle} {new} {book}
     }
 
 -- the first of the works are staged: so many were answered, and if none was, this is why
-abbrev AreStaged : Naming → List (List ℕ) → Summary → View → View → Book → Withheld
+abbrev AreStaged : Naming → Option Note → List (List ℕ) → Summary → View → View → Book → Withheld
     → Result (Unit {0}) LedgerFault → Type 0
-AreStaged naming names is old new book counts told =
-    IsStaged (λ tables. tables) (AnswersWorks naming names counts told) (LeavesWorks naming names) naming
+AreStaged naming noted names is old new book counts told =
+    IsStaged (λ tables. tables) (AnswersWorks naming noted names counts told) (LeavesWorks naming noted names) naming
     (λ summary. summary ≡ is) old new book
 
 -- the works that were taken are staged, and nothing more is
-pub all_withheld : {naming : Naming} {names rest : List (List ℕ)} {is : Summary} {old new : View}
+pub all_withheld : {naming : Naming} {noted : Option Note} {names rest : List (List ℕ)} {is : Summary} {old new : View}
     {book : Book} {counts : Withheld} {told : Result (Unit {0}) LedgerFault}
-    (taken : AreWithheld naming names rest is old new book counts)
-    → (Withholds naming names taken.answers false book taken.events false → counts.taken ≡ 0
-    → RefusesName naming names book told)
-    → AreStaged naming names is old new book counts told
-all_withheld {naming = naming} {names = names} {book = book} {counts = counts} taken why =
-    let made : Withholds naming names taken.answers false book taken.events false =
-    subst (λ all. Withholds naming names all false book taken.events false)
+    (taken : AreWithheld naming noted names rest is old new book counts)
+    → (Withholds naming noted names taken.answers false book taken.events false → counts.taken ≡ 0
+    → RefusesName naming noted names book told)
+    → AreStaged naming noted names is old new book counts told
+all_withheld {naming = naming} {noted = noted} {names = names} {book = book} {counts = counts} taken why =
+    let made : Withholds naming noted names taken.answers false book taken.events false =
+    subst (λ all. Withholds naming noted names all false book taken.events false)
     (append-nil taken.answers) (taken.leads [] [] (record { none = refl; same = refl })) in
     record {
       events = taken.events;
@@ -132,18 +132,18 @@ all_withheld {naming = naming} {names = names} {book = book} {counts = counts} t
     }
 
 -- the next work was refused, and those before it are staged
-refused_next : {naming : Naming} {names rest : List (List ℕ)} {name : List ℕ} {was is : Summary}
+refused_next : {naming : Naming} {noted : Option Note} {names rest : List (List ℕ)} {name : List ℕ} {was is : Summary}
     {old middle new : View} {book : Book} {counts : Withheld} (fault : LedgerFault)
-    (taken : AreWithheld naming names (name ∷ rest) was old middle book counts)
+    (taken : AreWithheld naming noted names (name ∷ rest) was old middle book counts)
     → LeavesOpen {V = Ruled} (Err fault) → is_not_held fault ≡ false
-    → IsAnswered naming name (Err fault) is middle new (after_all taken.events book)
+    → IsAnswered naming noted name (Err fault) is middle new (after_all taken.events book)
     → (counts.taken ≡ 0 → names ≡ name ∷ rest)
-    → AreStaged naming names is old new book counts (Err fault)
-refused_next {naming} {names} {rest} {name} {was} {is} {old} {middle} {new} {book} {counts} fault taken
+    → AreStaged naming noted names is old new book counts (Err fault)
+refused_next {naming} {noted} {names} {rest} {name} {was} {is} {old} {middle} {new} {book} {counts} fault taken
     plain held staged all =
-    let outcome = withhold_outcome naming name (after_all taken.events book) in
+    let outcome = withhold_outcome naming noted name (after_all taken.events book) in
     let none : staged.events ≡ [] = refused_none said outcome fault staged.events plain staged.made in
-    let still : AreWithheld naming names (name ∷ rest) is old new book counts = record {
+    let still : AreWithheld naming noted names (name ∷ rest) is old new book counts = record {
       answers = taken.answers;
       counted = taken.counted;
       events = taken.events;
@@ -154,15 +154,15 @@ refused_next {naming} {names} {rest} {name} {was} {is} {old} {middle} {new} {boo
     } in
     all_withheld {told = Err fault} still (λ made empty.
     let nothing : NoEvent false book taken.events false =
-    subst (λ answers. Withholds naming names answers false book taken.events false)
+    subst (λ answers. Withholds naming noted names answers false book taken.events false)
     (none_withheld counts taken.answers taken.counted empty) made in
     record {
       held = held;
-      refused = subst (λ names. Calls said (withhold_outcome naming (first_of names)) (Err fault) false
+      refused = subst (λ names. Calls said (withhold_outcome naming noted (first_of names)) (Err fault) false
           book [] false)
           (sym (all empty)) (record {
             makes = subst
-                (λ events. Makes said (withhold_outcome naming name (after_all events book)) (Err fault)
+                (λ events. Makes said (withhold_outcome naming noted name (after_all events book)) (Err fault)
                 [])
                 nothing.none
                 (subst (λ events. Makes said outcome (Err fault) events) none staged.made);
@@ -177,38 +177,38 @@ name_is names i d within =
     drop-cons names i d within
     ∙ ap (λ later. get_or names i d ∷ drop later names) (sym (add-one i))
 
-module _ {naming : Naming} (names : List (List ℕ)) {was is : Summary} {old middle : State}
+module _ {naming : Naming} {noted : Option Note} (names : List (List ℕ)) {was is : Summary} {old middle : State}
     {counts : Withheld} (i : ℕ) (d : List ℕ) (within : i < length names)
     (early : Survives old middle (λ trees. ⊥))
     (taken : HasCleanDisk middle → (book : Book) → IsAt naming was old.view book
-    → AreWithheld naming names (drop i names) is old.view middle.view book counts) (new : State)
+    → AreWithheld naming noted names (drop i names) is old.view middle.view book counts) (new : State)
   where
     -- what was taken before the work
     before_it : HasCleanDisk middle → (book : Book) → IsAt naming was old.view book
-        → AreWithheld naming names (get_or names i d ∷ drop (i + 1) names) is old.view middle.view book counts
+        → AreWithheld naming noted names (get_or names i d ∷ drop (i + 1) names) is old.view middle.view book counts
     before_it clean book at =
-        subst (λ rest. AreWithheld naming names rest is old.view middle.view book counts)
+        subst (λ rest. AreWithheld naming noted names rest is old.view middle.view book counts)
         (name_is names i d within) (taken clean book at)
 
     -- the work was answered, and its choice written where it is withheld
     pub work_taken : {next : Summary} {given : Result Ruled LedgerFault} (answer : Option Ruled)
         → given ≡ told_as answer
-        → StagesAs (λ tables. tables) said naming is next middle new (withhold_outcome naming (get_or names i d)) (Ok given)
+        → StagesAs (λ tables. tables) said naming is next middle new (withhold_outcome naming noted (get_or names i d)) (Ok given)
         → HasCleanDisk new → (book : Book) → IsAt naming was old.view book
-        → AreWithheld naming names (drop (i + 1) names) next old.view new.view book
+        → AreWithheld naming noted names (drop (i + 1) names) next old.view new.view book
         (with_answer counts answer)
     work_taken {next = next} answer given_is stages clean book at =
         let before = before_it (clean_before stages.survives clean) book at in
         more_taken answer before
-        (subst (λ given. IsAnswered naming (get_or names i d) given next middle.view new.view
+        (subst (λ given. IsAnswered naming noted (get_or names i d) given next middle.view new.view
         (after_all before.events book)) given_is
         (stages.found clean (after_all before.events book) before.at))
 
     -- the books refused it, and its record is held
     pub work_refused : {next : Summary} {given : Result Ruled LedgerFault} (fault : LedgerFault)
         → given ≡ Err fault → is_not_held fault ≡ false → counts.taken ≡ i
-        → StagesAs (λ tables. tables) said naming is next middle new (withhold_outcome naming (get_or names i d)) (Ok given)
-        → StagesWorks naming names was next old new counts (Ok (Err fault))
+        → StagesAs (λ tables. tables) said naming is next middle new (withhold_outcome naming noted (get_or names i d)) (Ok given)
+        → StagesWorks naming noted names was next old new counts (Ok (Err fault))
     work_refused {next = next} {given = given} fault given_is held count stages =
         let plain : LeavesOpen {V = Ruled} (Err fault) =
         subst (λ (given : Result Ruled LedgerFault). LeavesOpen given) given_is stages.plain in
@@ -218,7 +218,7 @@ module _ {naming : Naming} (names : List (List ℕ)) {was is : Summary} {old mid
           found = λ clean book at.
               let before = before_it (clean_before stages.survives clean) book at in
               refused_next fault before plain held
-              (subst (λ given. IsAnswered naming (get_or names i d) given next middle.view new.view
+              (subst (λ given. IsAnswered naming noted (get_or names i d) given next middle.view new.view
               (after_all before.events book)) given_is
               (stages.found clean (after_all before.events book) before.at))
               (λ empty. ap (λ n. drop n names) (sym empty ∙ count)
@@ -228,8 +228,8 @@ module _ {naming : Naming} (names : List (List ℕ)) {was is : Summary} {old mid
     -- the store refused it
     pub work_failed : {next : Summary} {error : StoreError} (late : Withheld)
         (tried : Result (Result (Unit {0}) LedgerFault) StoreError) → IsErr tried
-        → StagesAs (λ tables. tables) said naming is next middle new (withhold_outcome naming (get_or names i d)) (Err error)
-        → StagesWorks naming names was next old new late tried
+        → StagesAs (λ tables. tables) said naming is next middle new (withhold_outcome naming noted (get_or names i d)) (Err error)
+        → StagesWorks naming noted names was next old new late tried
     work_failed late tried failed stages =
         unstaged tried failed (survives_then early stages.survives) (λ clean book at.
         let before = before_it (clean_before stages.survives clean) book at in
@@ -237,10 +237,10 @@ module _ {naming : Naming} (names : List (List ℕ)) {was is : Summary} {old mid
         (stages.found clean (after_all before.events book) before.at))
 
 -- Works that were staged one after another are staged as one: those that were taken,
-pub works_staged : {naming : Naming} {names : List (List ℕ)} {was is : Summary} {old new : State}
+pub works_staged : {naming : Naming} {noted : Option Note} {names : List (List ℕ)} {was is : Summary} {old new : State}
     {told : Result (Unit {0}) LedgerFault} {counts : Withheld}
-    → StagesWorks naming names was is old new counts (Ok told)
-    → StagesAsOne naming names was is old new (Ok (Ok counts))
+    → StagesWorks naming noted names was is old new counts (Ok told)
+    → StagesAsOne naming noted names was is old new (Ok (Ok counts))
 works_staged stages = record {
   plain = record { stored = refl; served = refl };
   survives = stages.survives;
@@ -257,25 +257,25 @@ works_staged stages = record {
 }
 
 -- or none, where the first was refused
-pub no_work_staged : {naming : Naming} {names : List (List ℕ)} {was is : Summary} {old new : State}
+pub no_work_staged : {naming : Naming} {noted : Option Note} {names : List (List ℕ)} {was is : Summary} {old new : State}
     (fault : LedgerFault) {counts : Withheld} → counts.taken ≡ 0 → 0 < length names
-    → StagesWorks naming names was is old new counts (Ok (Err fault))
-    → StagesAsOne naming names was is old new (Ok (Err fault))
-no_work_staged {naming} {names} fault {counts} empty some stages = record {
+    → StagesWorks naming noted names was is old new counts (Ok (Err fault))
+    → StagesAsOne naming noted names was is old new (Ok (Err fault))
+no_work_staged {naming} {noted} {names} fault {counts} empty some stages = record {
   plain = open_as {V = Unit {0}} {W = Withheld} fault stages.plain;
   survives = stages.survives;
   found = λ clean book at.
       let staged = stages.found clean book at in
       let takes = staged.made.takes in
       let nothing : NoEvent false book staged.events false =
-      subst (λ answers. Withholds naming names answers false book staged.events false)
+      subst (λ answers. Withholds naming noted names answers false book staged.events false)
       (none_withheld counts takes.answers takes.counts empty) takes.made in
       record {
         events = staged.events;
-        made = subst (λ events. TakesWorks naming names (Err fault) false book events false)
+        made = subst (λ events. TakesWorks naming noted names (Err fault) false book events false)
             (sym nothing.none)
             (let first = staged.made.none empty in
-            refused_work naming names fault some first.held false book [] false first.refused);
+            refused_work naming noted names fault some first.held false book [] false first.refused);
         leaves = staged.leaves;
         only = staged.only;
         kept = staged.kept;
@@ -286,9 +286,9 @@ no_work_staged {naming} {names} fault {counts} empty some stages = record {
 -- ---- as work of a ledger
 
 -- they come to such work
-pub works_come : (naming : Naming) (names : List (List ℕ))
-    → ComesTo (WorksOf naming names) (LeavesWorks naming names) (TakesWorks naming names)
-works_come naming names = record {
+pub works_come : (naming : Naming) (noted : Option Note) (names : List (List ℕ))
+    → ComesTo (WorksOf naming noted names) (LeavesWorks naming noted names) (TakesWorks naming noted names)
+works_come naming noted names = record {
   served = λ result book events open_now served made. made;
   wanting = λ book. record { makes = refl; reopens = record { reopen = refl; store = refl } };
   none = λ book. record { answers = []; made = record { none = refl; same = refl } };
@@ -301,11 +301,11 @@ works_come naming names = record {
 }
 
 -- a ledger that is to be reopened takes none
-pub works_reopen : (shelf : LedgerState) (naming : Naming) (names : List (List ℕ))
+pub works_reopen : (shelf : LedgerState) (naming : Naming) (noted : Option Note) (names : List (List ℕ))
     → shelf.must_reopen ≡ true
-    → IsTransition (seen_on shelf) (seen_on shelf) (TakesWorks naming names (Err Reopen))
-works_reopen shelf naming names closed =
-    (call_reopen {V = Ruled} {view = said} {outcome = withhold_outcome naming (first_of names)} shelf
+    → IsTransition (seen_on shelf) (seen_on shelf) (TakesWorks naming noted names (Err Reopen))
+works_reopen shelf naming noted names closed =
+    (call_reopen {V = Ruled} {view = said} {outcome = withhold_outcome naming noted (first_of names)} shelf
     closed).work
 
 -- what is so of each answer of what was tried is so of the answer that is given

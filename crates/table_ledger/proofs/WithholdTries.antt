@@ -4,11 +4,13 @@ use Rattle.std.proofs.Common.{Some, Result, ℤ, length-append, nat_le, option_m
 use Rattle.book_model.proofs.Std.{get, option_map_or}
 use Rattle.book_core.specs.Words.{ruled_in, withdraw, LeavesOpen}
 use Rattle.book_core.specs.declared.effects.Effects.{Effects}
-use Rattle.book_model.specs.Words.{Book, Naming, WorkWithheld, RulingGiven, if_done, last_close}
+use Rattle.book_model.specs.Journal.{ChoiceOf}
+use Rattle.book_model.specs.Words.{Book, IsAnswered, Naming, Note, WorkWithheld, RulingGiven}
+use Rattle.book_model.specs.Words.{if_done, last_close}
 use Rattle.book_model.specs.Words.{most_choices, open_by, record_named, withheld_answer}
 use Rattle.book_model.specs.Words.{withhold_answer, withhold_outcome}
 use Rattle.book_model.specs.declared.fault.LedgerFault.TheVariants.{NoSuchRecord}
-use Rattle.table_model.specs.Changed.{withheld_at}
+use Rattle.table_model.specs.Changed.{rows_changed, withheld_at}
 use Rattle.table_model.specs.RulingsRead.{withheld_by, withhold_row}
 use Rattle.table_model.specs.Words.{IsReadable, RecordRow, Tables, is_withheld_in, put_withheld}
 use Rattle.table_model.specs.Words.{tables_of}
@@ -17,15 +19,17 @@ use Rattle.table_model.proofs.ChoiceReading.{choices_count}
 use Rattle.book_core.proofs.NamedLemmas.{its_name}
 use Rattle.book_core.proofs.OpenAnswers.{opens_if}
 use Rattle.book_core.proofs.RulingLemmas.{withheld_by as meant_by}
-use Rattle.table_ledger.proofs.Words.{Does, Done, FindsRecord, IsAt, LeavesOne, Looks, MakesOf, Ruled}
+use Rattle.table_ledger.proofs.Words.{Done, FindsRecord, IsAt, LeavesOne, Looks, MakesOf, Ruled}
 use Rattle.table_ledger.proofs.Words.{Saw, StagesBy, State, StoreError, StoredRecord, View, opens}
 use Rattle.table_ledger.proofs.Words.{stored_entry}
 use Rattle.table_ledger.specs.ChoiceReads.{FindsWithdrawn}
+use Rattle.table_ledger.specs.Entries.{DoesRuling, NumbersEntries, enter_row}
 use Rattle.table_ledger.specs.Premises.{IsNext}
 use Rattle.table_ledger.specs.declared.summary.Summary.{Summary}
 use Rattle.table_ledger.proofs.AcceptTries.{none_found, saw_as}
 use Rattle.table_ledger.proofs.ChoiceTries.{next_is_new}
 use Rattle.table_ledger.proofs.LineReadings.{found_row}
+use Rattle.table_ledger.proofs.EnteredRulings.{entries_numbered, ruling_entered}
 use Rattle.table_ledger.proofs.Remembered.{Says}
 use Rattle.table_ledger.proofs.StageLemmas.{IsEvent, stage_steps}
 use Rattle.table_ledger.proofs.TryLemmas.{saw_found, saw_so, saw_then}
@@ -104,35 +108,45 @@ module _ (naming : Naming) (was : Summary) (name : List ℕ) (view : View) (book
       pub withhold_is_event : withheld_by withheld (nat_le most_choices was.choices) ≡ Ok Done
           → (period : ℕ) (through : Option ℤ) (withdrawn : Option Effects)
           → period ≡ open_by (ruled_in was.rulings) → through ≡ last_close (ruled_in was.rulings)
-          → FindsWithdrawn through (stored_entry stored) tables withdrawn
-          → IsEvent (λ (ruled : Ruled). ruled) naming (withhold_outcome naming name) Done
+          → FindsWithdrawn through (stored_entry stored) tables withdrawn → (noted : Option Note)
+          → IsEvent (λ (ruled : Ruled). ruled) naming (withhold_outcome naming noted name) Done
           (Says (ruled_in was.rulings) (was.choices + 1) was.replaced was.credits was.held was.total)
-          (IsNext (was.choices + 1)) (put_withheld (was.choices + 1) period name withdrawn) book
-      withhold_is_event tests period through withdrawn period_is through_is withdrawn_is =
+          (λ tables. IsNext (was.choices + 1) tables
+          × NumbersEntries (put_withheld (was.choices + 1) period name withdrawn tables))
+          (λ tables. enter_row noted (ChoiceOf (was.choices + 1))
+          (put_withheld (was.choices + 1) period name withdrawn tables)) book
+      withhold_is_event tests period through withdrawn period_is through_is withdrawn_is noted =
           let done = withhold_told ∙ tests in
           let one = withheld_one naming book name done in
           let named = its_name naming book.held name one.0 one.1 in
           let current = choices_follow.current naming book row.identity readable in
           let count = ap (λ n. n + 1) ready.remembers.choices in
+          let ruling = WorkWithheld one.0 in
+          let answered : IsAnswered naming (RulingGiven noted ruling) book = (
+            ap (withhold_answer naming book) named ∙ done,
+            ap (record_named naming book.held) named ∙ one.1,
+          ) in
+          let made : put_withheld (was.choices + 1) period name withdrawn tables
+          ≡ rows_changed naming book.rulings (RulingGiven noted ruling) tables =
+          (λ i. put_withheld (count i) ((period_is ∙ ap open_by ready.remembers.rulings) i) name
+          ((withdrawn_is
+          ∙ (λ i. option_map (withdraw ((through_is ∙ ap last_close ready.remembers.rulings) i))
+          (current i))) i) tables)
+          ∙ (λ i. option_map_or (λ row. withheld_at book.rulings (sym named i) row tables)
+          ((sym found.0 ∙ ap (get tables.records) (sym named)) i) tables) in
           record {
-            event = RulingGiven (WorkWithheld one.0);
-            is = ap (if_done (meant_by (record_named naming book.held name))) done
-                ∙ ap meant_by one.1;
+            event = RulingGiven noted ruling;
+            is = ap (if_done (meant_by noted (record_named naming book.held name))) done
+                ∙ ap (meant_by noted) one.1;
             answer = done;
-            answered = (
-              ap (withhold_answer naming book) named ∙ done,
-              ap (record_named naming book.held) named ∙ one.1,
+            answered = answered;
+            when = (
+              next_is_new naming book (was.choices + 1) count,
+              entries_numbered naming book noted ruling readable answered made,
             );
-            when = next_is_new naming book (was.choices + 1) count;
             submitted = tt;
-            changes =
-                (λ i. put_withheld (count i) ((period_is ∙ ap open_by ready.remembers.rulings) i)
-                name
-                ((withdrawn_is
-                ∙ (λ i. option_map (withdraw ((through_is ∙ ap last_close ready.remembers.rulings) i))
-                (current i))) i) tables)
-                ∙ (λ i. option_map_or (λ row. withheld_at book.rulings (sym named i) row tables)
-                ((sym found.0 ∙ ap (get tables.records) (sym named)) i) tables);
+            changes = ruling_entered naming book noted ruling readable answered made
+                (ap ChoiceOf count);
             remembers = λ follows summary says. record {
               rulings = says.rulings ∙ ready.remembers.rulings;
               choices = says.choices ∙ count ∙ sym (length-append book.rulings.choices _);
@@ -146,25 +160,26 @@ module _ (naming : Naming) (was : Summary) (name : List ℕ) (view : View) (book
 -- What a choice of none writes is staged, after the looks that its test and its effects rest on.
 pub withhold_staged : {first second third fourth last : State} {found : Option StoredRecord}
     {identity : List ℕ} {withdrawn : Option Effects} {T : Type 0} {written : Result T StoreError}
-    {withheld : Bool} (naming : Naming) (was : Summary) (name : List ℕ) (stored : StoredRecord)
-    (period : ℕ) (through : Option ℤ)
+    {withheld : Bool} (naming : Naming) (noted : Option Note) (was : Summary) (name : List ℕ)
+    (stored : StoredRecord) (period : ℕ) (through : Option ℤ)
     → found ≡ Some stored → identity ≡ stored.identity.items
     → Looks (Ok found) first second (FindsRecord name)
     → Looks (Ok withheld) second third
     (λ tables withheld. withheld ≡ is_withheld_in tables identity)
     → Looks (Ok withdrawn) third fourth (FindsWithdrawn through (stored_entry stored))
-    → Does written fourth last (IsNext (was.choices + 1))
-    (put_withheld (was.choices + 1) period name withdrawn)
+    → DoesRuling written fourth last (IsNext (was.choices + 1))
+    (put_withheld (was.choices + 1) period name withdrawn) noted (ChoiceOf (was.choices + 1))
     → withheld_by withheld (nat_le most_choices was.choices) ≡ Ok Done
     → period ≡ open_by (ruled_in was.rulings) → through ≡ last_close (ruled_in was.rulings)
     → StagesBy (λ tables. tables) (λ (done : T). Ok Done)
-    (MakesOf (λ (ruled : Ruled). ruled) (withhold_outcome naming name))
-    (LeavesOne (withhold_outcome naming name)) naming was
+    (MakesOf (λ (ruled : Ruled). ruled) (withhold_outcome naming noted name))
+    (LeavesOne (withhold_outcome naming noted name)) naming was
     (Says (ruled_in was.rulings) (was.choices + 1) was.replaced was.credits was.held was.total)
     first last written
-withhold_staged {withdrawn = withdrawn} {written = written} naming was name stored period through is
+withhold_staged {withdrawn = withdrawn} {written = written} naming noted was name stored period
+    through is
     same looks told seen writes tests period_is through_is =
     stage_steps written
     (saw_then (saw_withheld name stored is same looks told) (saw_found seen)) writes
     (λ book at known. withhold_is_event naming was name _ book at stored known.0.0 known.0.1 tests
-    period through withdrawn period_is through_is known.1)
+    period through withdrawn period_is through_is known.1 noted)

@@ -12,6 +12,7 @@ use Rattle.book_model.specs.Words.{Priced, Rulings, Terms, by_bytes, is_between,
 use Rattle.book_model.specs.Words.{rows_if_room}
 use Rattle.book_core.specs.Words.{keyed_rows}
 use Rattle.table_model.specs.Words.{Tables, charged_before_lines, is_row_counted, row_costs}
+use Rattle.table_model.specs.Tables.{CameTable}
 use Rattle.table_model.specs.Words.{NamedRow}
 use Rattle.tree_tables.specs.Columns.{record_columns}
 use Rattle.tree_tables.specs.Stored.{mark_of}
@@ -57,7 +58,7 @@ costs_of terms test rows = row_costs terms (filter (passes test) rows)
 -- of all of them, or there is no room.
 abbrev pub JoinsSums : Terms → CountTest → Row → RowSums → RowSums → Bool → Type 0
 JoinsSums terms test row old new room =
-    (passed : List NamedRow) (entry : NamedRow) → row ≡ record_columns entry
+    (passed : List NamedRow) (came : CameTable) (entry : NamedRow) → row ≡ record_columns came entry
     → SumsUp old (costs_of terms test passed) true
     → SumsUp new (costs_of terms test (passed ++ entry ∷ [])) room
 

@@ -43,7 +43,7 @@ book_of_stored {naming} {book} {trees} kept =
     ap book_in (tables_read trees (tables_of naming book) kept.holds)
     ∙ book_alike empty (came_among (tables_of naming book)) (tables_of naming book)
     ∙ ap (λ came. book_in (record (tables_of naming book) { came = came }))
-    (among_all naming book kept.readable.sound kept.readable.lines kept.journaled)
+    (among_all naming book kept.readable.sound kept.journaled)
     ∙ book_follows naming book kept.readable kept.journaled
 
 -- what a ledger that is ready shows determines its book

@@ -1,7 +1,8 @@
 //! The second rule of identity, which an office adopts once.
 
 ghost use Rattle.std.specs.Prelude.{◌≡◌};
-ghost use Rattle.book_model.specs.Words.{Naming, adopt_outcome};
+ghost use Rattle.book_model.specs.Journal.{AdoptionOf};
+ghost use Rattle.book_model.specs.Words.{Naming, adopt_outcome, note_given};
 ghost use Rattle.table_model.specs.Changed.{adopted_at};
 ghost use Rattle.table_model.specs.TableChanges.{charge_each_due};
 ghost use Rattle.table_model.specs.Views.{is_due_in};
@@ -9,14 +10,17 @@ ghost use Rattle.tree_tables.specs.States.{state_of};
 ghost use Rattle.tree_tables.specs.Steps.{Always, Does, Looks};
 ghost use Rattle.tree_tables.specs.Stored.{IsAsRead};
 ghost use Rattle.table_ledger.specs.Adoptions.{IsLast, charge_where_due};
+ghost use Rattle.table_ledger.specs.Entries.{DoesRuling};
 ghost use Rattle.table_ledger.specs.Stages.{AttemptsOne};
 
 use crate::choices::charge;
 use crate::chosen::{Chosen, look_for_chosen};
 use crate::commits::commit_written;
 use crate::effects::member_of;
+use crate::entries::enter;
 use crate::summary::Summary;
 use book_core::{LedgerFault, Ruled, is_done, plan_charge};
+use book_model::{Note, Place};
 use sqlite_trees::error::StoreError;
 use sqlite_trees::store::Store;
 use std::alloc::Global;
@@ -104,19 +108,22 @@ fn charge_due<S: Store>(
     charge_all_due(tables, alloc, period, through, &chosen)
 }
 
-/// Writes the second rule: the identities, what is charged by them, and the row of the book.
+/// Writes the second rule: the identities, what is charged by them, the row of the book, and the
+/// entry.
 fn write_adoption<S: Store>(
     tables: &mut TreeTables<S>,
     alloc: Global,
     period: u16,
     through: Option<i32>,
+    note: &Option<Note>,
 ) -> Result<(), StoreError>
-    ensures { Does result (state_of tables.old) (state_of tables.new) Always
-        (adopted_at period through) }
+    ensures { DoesRuling result (state_of tables.old) (state_of tables.new) Always
+        (adopted_at period through) (note_given note.now) AdoptionOf }
 {
     tables.rename_records(alloc)?;
     charge_due(tables, alloc, period, through)?;
-    tables.set_rule(SECOND_RULE, period)
+    tables.set_rule(SECOND_RULE, period)?;
+    enter(tables, note, Place::Adoption)
 }
 
 /// Answers a rule of identity, and adopts it if it is the second and the first is in force.
@@ -125,16 +132,18 @@ pub(crate) fn try_adopt<S: Store>(
     alloc: Global,
     summary: &mut Summary,
     rule: u8,
+    note: &Option<Note>,
 ) -> Result<Result<Ruled, LedgerFault>, StoreError>
     ensures tries { (naming : Naming) → AttemptsOne (λ ruled. ruled) naming summary.old summary.new
-        (state_of tables.old) (state_of tables.new) (adopt_outcome rule) result }
+        (state_of tables.old) (state_of tables.new)
+        (adopt_outcome (note_given note.now) rule) result }
 {
     let answer = summary.rulings.adopt_answer(rule);
     if !is_done(&answer) {
         return Ok(answer);
     }
     let period = summary.rulings.open_number();
-    let written = write_adoption(tables, alloc, period, summary.rulings.last_close());
+    let written = write_adoption(tables, alloc, period, summary.rulings.last_close(), note);
     commit_written(tables, written)?;
     summary.rulings.adopt();
     Ok(Ok(Ruled::Done))

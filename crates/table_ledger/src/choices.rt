@@ -2,21 +2,25 @@
 
 ghost use Rattle.std.specs.Prelude.{◌≡◌, ◌<◌, ◌==◌, ◌&&◌, Ok, nat_le, not};
 ghost use Rattle.std.specs.Option.{option_map_or};
-ghost use Rattle.book_model.specs.Words.{choose_outcome, most_choices, Naming};
+ghost use Rattle.book_model.specs.Journal.{ChoiceOf};
+ghost use Rattle.book_model.specs.Words.{choose_outcome, most_choices, Naming, note_given};
 ghost use Rattle.table_model.specs.TableChanges as change;
 ghost use Rattle.table_model.specs.RulingsRead.{chosen_by};
 ghost use Rattle.tree_tables.specs.States.{state_of};
 ghost use Rattle.tree_tables.specs.Steps.{Always, Does, Looks};
 ghost use Rattle.tree_tables.specs.Stored.{stored_entry};
 ghost use Rattle.table_ledger.specs.ChoiceReads.{FindsChoiceEffects};
+ghost use Rattle.table_ledger.specs.Entries.{DoesRuling};
 ghost use Rattle.table_ledger.specs.Premises.{IsNext};
 ghost use Rattle.table_ledger.specs.Stages.{AttemptsOne};
 
 use crate::commits::{commit_written, write_counted, write_effects};
 use crate::effects::member_of;
+use crate::entries::enter;
 use crate::summary::Summary;
 use crate::withheld::was_withheld;
 use book_core::{ChoiceEffects, Effects, LedgerFault, MAX_CHOICES, Ruled, is_done, plan_choice};
+use book_model::{Note, Place};
 use sqlite_trees::error::StoreError;
 use sqlite_trees::store::Store;
 use std::alloc::Global;
@@ -80,14 +84,21 @@ pub(crate) fn charge<S: Store>(
     write_counted(tables, &effects.day, name)
 }
 
-/// Writes a choice.
-fn write_choice<S: Store>(tables: &mut TreeTables<S>, choice: &Choice) -> Result<(), StoreError>
-    ensures { Does result (state_of tables.old) (state_of tables.new) (IsNext choice.now.number)
-        (change.put_choice choice.now.number choice.now.period choice.now.name choice.now.effects) }
+/// Writes a choice, and its entry.
+fn write_choice<S: Store>(
+    tables: &mut TreeTables<S>,
+    choice: &Choice,
+    note: &Option<Note>,
+) -> Result<(), StoreError>
+    ensures { DoesRuling result (state_of tables.old) (state_of tables.new)
+        (IsNext choice.now.number)
+        (change.put_choice choice.now.number choice.now.period choice.now.name choice.now.effects)
+        (note_given note.now) (ChoiceOf choice.now.number) }
 {
     withdraw(tables, choice.period, &choice.effects.withdrawn)?;
     charge(tables, choice.period, &choice.name, &choice.effects.chosen)?;
-    tables.put_choice(choice.number, &choice.name, true, choice.period)
+    tables.put_choice(choice.number, &choice.name, true, choice.period)?;
+    enter(tables, note, Place::Choice(choice.number))
 }
 
 /// The answer to the choice of a record, by how many were found of its identity, whether its work
@@ -122,9 +133,11 @@ pub(crate) fn try_choose<S: Store>(
     alloc: Global,
     summary: &mut Summary,
     name: [u8; 32],
+    note: &Option<Note>,
 ) -> Result<Result<Ruled, LedgerFault>, StoreError>
     ensures tries { (naming : Naming) → AttemptsOne (λ ruled. ruled) naming summary.old summary.new
-        (state_of tables.old) (state_of tables.new) (choose_outcome naming name) result }
+        (state_of tables.old) (state_of tables.new)
+        (choose_outcome naming (note_given note.now) name) result }
 {
     let Some(stored) = tables.find_record(alloc, &name)? else {
         return Ok(Err(LedgerFault::NoSuchRecord));
@@ -142,7 +155,7 @@ pub(crate) fn try_choose<S: Store>(
         name,
         effects,
     };
-    let written = write_choice(tables, &choice);
+    let written = write_choice(tables, &choice, note);
     commit_written(tables, written)?;
     summary.choices += 1;
     Ok(Ok(Ruled::Done))

@@ -1,19 +1,23 @@
 //! Closes of the open period.
 
-ghost use Rattle.book_model.specs.Words.{IsDay, close_outcome, Naming};
+ghost use Rattle.book_model.specs.Journal.{CloseOf};
+ghost use Rattle.book_model.specs.Words.{IsDay, close_outcome, Naming, note_given};
 ghost use Rattle.table_model.specs.Changed.{closed_at};
 ghost use Rattle.table_model.specs.PostedLaws.{PostsTouched};
 ghost use Rattle.table_model.specs.Steps as step;
 ghost use Rattle.tree_tables.specs.States.{state_of};
 ghost use Rattle.tree_tables.specs.Steps.{Always, Does, Looks};
+ghost use Rattle.table_ledger.specs.Entries.{DoesRuling};
 ghost use Rattle.table_ledger.specs.Posting.{CanClose, Gathers, RestIsPosted, names_in};
 ghost use Rattle.table_ledger.specs.Stages.{AttemptsOne};
 
 use crate::commits::commit_written;
 use crate::details::{Sought, next_sought};
+use crate::entries::enter;
 use crate::many::counts_many;
 use crate::summary::Summary;
 use book_core::{Detail, LedgerFault, Ruled, is_done};
+use book_model::{Note, Place};
 use smf_text::FIRST_DAY;
 use sqlite_trees::error::StoreError;
 use sqlite_trees::store::Store;
@@ -148,22 +152,25 @@ fn post_charged<S: Store>(
     post_details(tables, alloc, last, close)
 }
 
-/// Writes a close: its day, the marks of what it charged, and the rows that it leaves to the next
-/// period.
+/// Writes a close: its day, the marks of what it charged, the rows that it leaves to the next
+/// period, and its entry.
 fn write_close<S: Store>(
     tables: &mut TreeTables<S>,
     alloc: Global,
     last: Option<i32>,
     held: usize,
     close: &Close,
+    note: &Option<Note>,
 ) -> Result<(), StoreError>
     requires { IsDay close.now.through }
-    ensures { Does result (state_of tables.old) (state_of tables.new)
-        (CanClose close.now.period last) (closed_at close.now.period close.now.through) }
+    ensures { DoesRuling result (state_of tables.old) (state_of tables.new)
+        (CanClose close.now.period last) (closed_at close.now.period close.now.through)
+        (note_given note.now) (CloseOf close.now.period) }
 {
     tables.put_close(close)?;
     post_charged(tables, alloc, last, held, close)?;
-    tables.move_days(close)
+    tables.move_days(close)?;
+    enter(tables, note, Place::Close(close.period))
 }
 
 /// Answers a close, and closes the open period if it is this one and the day is later than the
@@ -173,11 +180,12 @@ pub(crate) fn try_close<S: Store>(
     alloc: Global,
     summary: &mut Summary,
     close: &Close,
+    note: &Option<Note>,
 ) -> Result<Result<Ruled, LedgerFault>, StoreError>
     requires day { IsDay close.now.through }
     ensures tries { (naming : Naming) → AttemptsOne (λ ruled. ruled) naming summary.old summary.new
         (state_of tables.old) (state_of tables.new)
-        (close_outcome close.now.period close.now.through) result }
+        (close_outcome (note_given note.now) close.now.period close.now.through) result }
 {
     let answer = summary.rulings.close_answer(close.period, close.through);
     if !is_done(&answer) {
@@ -186,7 +194,7 @@ pub(crate) fn try_close<S: Store>(
     let last = summary.rulings.last_close();
     // The memory is taken first: if there is too little, the books stay as they were.
     summary.rulings.reserve_close()?;
-    let written = write_close(tables, alloc, last, summary.held, close);
+    let written = write_close(tables, alloc, last, summary.held, close, note);
     commit_written(tables, written)?;
     summary.rulings.put_close(close.through);
     Ok(Ok(Ruled::Done))

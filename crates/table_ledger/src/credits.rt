@@ -3,18 +3,23 @@
 ghost use Rattle.std.specs.Prelude.{◌≡◌, ◌<◌, Ok, nat_le};
 ghost use Rattle.std.specs.FinMap.{values};
 ghost use Rattle.std.specs.List.{list_any};
+ghost use Rattle.book_model.specs.Journal.{CreditOf};
 ghost use Rattle.book_model.specs.Words.{IsCreditOf, Naming, credit_outcome, credit_ruled};
-ghost use Rattle.book_model.specs.Words.{most_credits};
+ghost use Rattle.book_model.specs.Words.{most_credits, note_given};
+ghost use Rattle.table_model.specs.Steps.{put_credit_row};
 ghost use Rattle.book_core.specs.OfficeRulings.{ruled_in};
 ghost use Rattle.tree_tables.specs.States.{state_of};
-ghost use Rattle.tree_tables.specs.Steps.{Looks};
-ghost use Rattle.tree_tables.specs.Stored.{credit_entry};
+ghost use Rattle.tree_tables.specs.Steps.{Always, Looks};
+ghost use Rattle.tree_tables.specs.Stored.{credit_entry, credit_given};
 ghost use Rattle.table_ledger.specs.CreditReads.{is_given_as};
+ghost use Rattle.table_ledger.specs.Entries.{DoesRuling};
 ghost use Rattle.table_ledger.specs.Stages.{AttemptsOne};
 
 use crate::commits::commit_written;
+use crate::entries::enter;
 use crate::summary::Summary;
 use book_core::{LedgerFault, MAX_CREDITS, Ruled, Rulings, is_done};
+use book_model::{Note, Place};
 use sqlite_trees::error::StoreError;
 use sqlite_trees::store::Store;
 use std::alloc::Global;
@@ -78,17 +83,34 @@ fn answer_to(
     rulings.credit_answer(credit.period, credit.centre, given, full)
 }
 
+/// Writes a credit, and its entry.
+fn write_credit<S: Store>(
+    tables: &mut TreeTables<S>,
+    number: u32,
+    credit: &CreditText<'_>,
+    note: &Option<Note>,
+) -> Result<(), StoreError>
+    ensures { DoesRuling result (state_of tables.old) (state_of tables.new) Always
+        (put_credit_row number (credit_given credit.now)) (note_given note.now)
+        (CreditOf number) }
+{
+    tables.put_credit(number, credit)?;
+    enter(tables, note, Place::Credit(number))
+}
+
 /// Answers a credit, and keeps it if it is a new one of the open period, to a centre that is there.
 pub(crate) fn try_credit<S: Store>(
     tables: &mut TreeTables<S>,
     alloc: Global,
     summary: &mut Summary,
     credit: &CreditText<'_>,
+    note: &Option<Note>,
 ) -> Result<Result<Ruled, LedgerFault>, StoreError>
     requires { IsCreditOf credit.now.centre credit.now.amount credit.now.reason.now }
     ensures tries { (naming : Naming) → AttemptsOne (λ ruled. ruled) naming summary.old summary.new
-        (state_of tables.old) (state_of tables.new) (credit_outcome credit.now.period
-        credit.now.centre credit.now.amount credit.now.reason.now) result }
+        (state_of tables.old) (state_of tables.new)
+        (credit_outcome (note_given note.now) credit.now.period credit.now.centre
+        credit.now.amount credit.now.reason.now) result }
 {
     let given = is_given(tables, alloc, credit)?;
     let count = summary.credits;
@@ -96,7 +118,7 @@ pub(crate) fn try_credit<S: Store>(
     if !is_done(&answer) {
         return Ok(answer);
     }
-    let written = tables.put_credit(summary.credits + 1, credit);
+    let written = write_credit(tables, summary.credits + 1, credit, note);
     commit_written(tables, written)?;
     summary.credits += 1;
     Ok(Ok(Ruled::Done))

@@ -9,14 +9,17 @@ mod opening;
 use crate::accept::{alone, first_answer, try_accept_many};
 use crate::adjustments::try_adjustments;
 use crate::adoption::try_adopt;
+use crate::arrivals::try_arrival;
 use crate::charges::try_charges;
 use crate::choices::try_choose;
 use crate::close::try_close;
 use crate::credits::try_credit;
 use crate::details::try_next_detail;
 use crate::disputes::{try_dispute, try_disputes};
+use crate::ends::try_end;
 use crate::finish::finish;
 use crate::given_credits::try_credit_given;
+use crate::listed_entries::try_entry;
 use crate::listed_rulings::try_ruling;
 use crate::named_records::try_record;
 use crate::other_prices::try_charges_under;
@@ -28,8 +31,8 @@ use crate::trails::try_trail_of;
 use crate::withheld_together::try_withhold_many;
 use crate::withholding::try_withhold;
 use book_core::{
-    Accepted, ChargeRow, Credit, Detail, Dispute, Ledger, LedgerFault, Line, ListedRuling, Name,
-    Naming, Ruled, Ruling, Trail, Withheld,
+    Accepted, Arrival, ChargeRow, Credit, Detail, Dispute, Ledger, LedgerFault, Line, ListedEntry,
+    ListedRuling, Name, Naming, Note, Ruled, Ruling, Share, Stop, Trail, Withheld,
 };
 use sqlite_trees::store::Store;
 use std::alloc::Global;
@@ -80,14 +83,15 @@ impl<S: Store, N: Naming + Drop> Ledger for TableLedger<S, N> {
     ghost use Rattle.std.specs.Prelude.{All, IfOk};
     ghost use Rattle.book_model.specs.Words.{IsUsageRecord};
     ghost use Rattle.book_core.specs.Calls.{Reopens};
-    ghost use Rattle.book_core.specs.Submissions.{Takes, records_in};
+    ghost use Rattle.book_core.specs.Submissions.{TakesOf, records_in};
     ghost use Rattle.book_core.specs.Transition.{IsTransition};
     ghost use Rattle.table_ledger.specs.LedgerState.{seen_in};
     ghost use Rattle.table_ledger.specs.ReadyBooks.{settled_on};
+    ghost use Rattle.table_ledger.specs.Stages.{TakesFew};
 
     ghost seen = { seen_in N.name_of };
 
-    fn rule(&mut self, ruling: Ruling<'_>) -> Result<Ruled, LedgerFault> {
+    fn rule(&mut self, ruling: Ruling<'_>, note: &Option<Note>) -> Result<Ruled, LedgerFault> {
         if self.must_reopen {
             return Err(LedgerFault::Reopen);
         }
@@ -95,14 +99,14 @@ impl<S: Store, N: Naming + Drop> Ledger for TableLedger<S, N> {
         let summary = &mut self.summary;
         let alloc = self.alloc;
         let tried = match ruling {
-            Ruling::Tariff(text) => try_tariff(tables, summary, alloc, text),
+            Ruling::Tariff(text) => try_tariff(tables, summary, alloc, text, note),
             Ruling::Close { period, through } => {
-                try_close(tables, alloc, summary, &Close { period, through })
+                try_close(tables, alloc, summary, &Close { period, through }, note)
             }
-            Ruling::Choose(name) => try_choose(tables, alloc, summary, name),
-            Ruling::Adopt(rule) => try_adopt(tables, alloc, summary, rule),
-            Ruling::Replace(text) => try_replace(tables, summary, alloc, text),
-            Ruling::Withhold(name) => try_withhold(tables, alloc, summary, name),
+            Ruling::Choose(name) => try_choose(tables, alloc, summary, name, note),
+            Ruling::Adopt(rule) => try_adopt(tables, alloc, summary, rule, note),
+            Ruling::Replace(text) => try_replace(tables, summary, alloc, text, note),
+            Ruling::Withhold(name) => try_withhold(tables, alloc, summary, name, note),
             Ruling::Credit {
                 period,
                 centre,
@@ -115,18 +119,22 @@ impl<S: Store, N: Naming + Drop> Ledger for TableLedger<S, N> {
                     amount,
                     reason,
                 };
-                try_credit(tables, alloc, summary, &credit)
+                try_credit(tables, alloc, summary, &credit, note)
             }
         };
         finish(&mut self.tables, &mut self.must_reopen, tried)
     }
 
-    fn withhold_many(&mut self, names: &[[u8; 32]]) -> Result<Withheld, LedgerFault> {
+    fn withhold_many(
+        &mut self,
+        names: &[[u8; 32]],
+        note: &Option<Note>,
+    ) -> Result<Withheld, LedgerFault> {
         if self.must_reopen {
             return Err(LedgerFault::Reopen);
         }
         let first = first_names(names);
-        let tried = try_withhold_many(&mut self.tables, self.alloc, &mut self.summary, first);
+        let tried = try_withhold_many(&mut self.tables, self.alloc, &mut self.summary, first, note);
         finish(&mut self.tables, &mut self.must_reopen, tried)
     }
 
@@ -135,23 +143,27 @@ impl<S: Store, N: Naming + Drop> Ledger for TableLedger<S, N> {
             return Err(LedgerFault::Reopen);
         }
         let records = alone(self.alloc, bytes)?;
-        let answers = self.accept_many(&records)?;
+        let answers = self.accept_many(&records, &None)?;
         Ok(first_answer(answers))
     }
 
-    fn accept_many(&mut self, records: &[Vec<u8>]) -> Result<Vec<Accepted>, LedgerFault>
+    fn accept_many(
+        &mut self,
+        records: &[Vec<u8>],
+        import: &Option<Share>,
+    ) -> Result<Vec<Accepted>, LedgerFault>
         requires some { 0 < length records.now }
         requires usage { All (λ one. IsUsageRecord one.items) records.now }
         ensures takes { IsTransition (seen_in N.name_of self.old) (seen_in N.name_of self.new)
-            (Takes (N.name_of self.old.naming) (records_in records.now) result) }
+            (TakesOf (N.name_of self.old.naming) import.now (records_in records.now) result) }
         ensures some { IfOk result (λ answers. 0 < length answers.items) }
         ensures reopens { Reopens result (seen_in N.name_of self.old).must_reopen
             (seen_in N.name_of self.new).must_reopen }
 
         // It is one commit, which takes no more records than this, also where a stop comes within.
         ensures few { IsTransition (seen_in N.name_of self.old) (seen_in N.name_of self.new)
-            (Takes (N.name_of self.old.naming) (records_in (take most_in_commit records.now))
-            result) }
+            (TakesFew (N.name_of self.old.naming) import.now (length records.now)
+            (records_in (take most_in_commit records.now)) result) }
     {
         if self.must_reopen {
             return Err(LedgerFault::Reopen);
@@ -162,8 +174,18 @@ impl<S: Store, N: Naming + Drop> Ledger for TableLedger<S, N> {
             self.alloc,
             &self.naming,
             &mut self.summary,
+            import,
+            records.len(),
             first,
         );
+        finish(&mut self.tables, &mut self.must_reopen, tried)
+    }
+
+    fn end_import(&mut self, stop: Stop) -> Result<(), LedgerFault> {
+        if self.must_reopen {
+            return Err(LedgerFault::Reopen);
+        }
+        let tried = try_end(&mut self.tables, &self.summary, self.alloc, stop);
         finish(&mut self.tables, &mut self.must_reopen, tried)
     }
 
@@ -245,6 +267,22 @@ impl<S: Store, N: Naming + Drop> Ledger for TableLedger<S, N> {
             return Err(LedgerFault::Reopen);
         }
         let tried = try_credit_given(&mut self.tables, &self.summary, self.alloc, number);
+        finish(&mut self.tables, &mut self.must_reopen, tried)
+    }
+
+    fn entry(&mut self, number: u64) -> Result<Option<ListedEntry>, LedgerFault> {
+        if self.must_reopen {
+            return Err(LedgerFault::Reopen);
+        }
+        let tried = try_entry(&mut self.tables, &self.summary, self.alloc, number);
+        finish(&mut self.tables, &mut self.must_reopen, tried)
+    }
+
+    fn arrival_from(&mut self, from: &[u8]) -> Result<Option<Arrival>, LedgerFault> {
+        if self.must_reopen {
+            return Err(LedgerFault::Reopen);
+        }
+        let tried = try_arrival(&mut self.tables, &self.summary, from);
         finish(&mut self.tables, &mut self.must_reopen, tried)
     }
 

@@ -44,7 +44,7 @@ fn listed_choice(choice: &StoredChoice) -> ListedRuling
 }
 
 /// The choice at a place among the choices, from 0, which is there.
-fn look_for_choice<S: Store>(
+pub(crate) fn look_for_choice<S: Store>(
     tables: &mut TreeTables<S>,
     place: u32,
 ) -> Result<ListedRuling, StoreError>
@@ -105,7 +105,7 @@ fn listed_credit(number: u32, credit: Credit) -> ListedRuling
 }
 
 /// The credit at a place among the credits, from 0, which is there.
-fn look_for_credit<S: Store>(
+pub(crate) fn look_for_credit<S: Store>(
     tables: &mut TreeTables<S>,
     alloc: Global,
     place: u32,

@@ -3,20 +3,23 @@
 ghost use Rattle.std.specs.Prelude.{◌≡◌, ◌<◌, ◌^◌, false, find, IfOk, nat_le, Ok, option_copied};
 ghost use Rattle.std.specs.Prelude.{Some, string_bytes, true};
 ghost use Rattle.book_model.specs.RulingAnswers.{replace_ruled};
+ghost use Rattle.book_model.specs.Journal.{ReplacementOf};
 ghost use Rattle.book_model.specs.Words.{Naming, are_rising, is_effective, most_replaced};
-ghost use Rattle.book_model.specs.Words.{replace_outcome, terms_in};
+ghost use Rattle.book_model.specs.Words.{note_given, replace_outcome, terms_in};
 ghost use Rattle.book_core.specs.OfficeRulings.{ruled_in};
 ghost use Rattle.table_model.specs.Changed.{replaced_at};
 ghost use Rattle.tree_tables.specs.States.{state_of};
-ghost use Rattle.tree_tables.specs.Steps.{Does};
+ghost use Rattle.table_ledger.specs.Entries.{DoesRuling};
 ghost use Rattle.table_ledger.specs.Replacing.{HasTextAndCounts, text_begun};
 ghost use Rattle.table_ledger.specs.Stages.{AttemptsOne};
 
 use crate::commits::commit_written;
+use crate::entries::enter;
 use crate::replaced_prices::{cost_in_place, replace_all};
 use crate::summary::Summary;
 use crate::tariff::{take_memory, tariff_of};
 use book_core::{AcceptedTariff, LedgerFault, MAX_REPLACED, Ruled, is_done};
+use book_model::{Note, Place};
 use sqlite_trees::error::StoreError;
 use sqlite_trees::store::Store;
 use std::alloc::Global;
@@ -67,7 +70,7 @@ fn replaced_text(
 }
 
 /// Writes a tariff in the place of another: the prices of the records whose day has that, both
-/// texts, and what the book counts then.
+/// texts, what the book counts then, and the entry.
 fn write_replacement<S: Store>(
     tables: &mut TreeTables<S>,
     alloc: Global,
@@ -75,14 +78,15 @@ fn write_replacement<S: Store>(
     tariff: &Tariff,
     given: &Replacement<'_>,
     sums: &Sums,
+    note: &Option<Note>,
 ) -> Result<(), StoreError>
     requires rising { are_rising tariffs.now ≡ true }
     requires held { sums.now.held < 2 ^ 63 }
     requires amount { sums.now.amount < 2 ^ 63 }
-    ensures { Does result (state_of tables.old) (state_of tables.new)
+    ensures { DoesRuling result (state_of tables.old) (state_of tables.new)
         (HasTextAndCounts tariff.now given.now.was.now sums.now.held)
         (replaced_at given.now.number given.now.period tariffs.now given.now.text.now tariff.now
-        sums.now.amount) }
+        sums.now.amount) (note_given note.now) (ReplacementOf given.now.number) }
 {
     let day = tariff.effective();
     replace_all(tables, alloc, given.period, tariffs, tariff)?;
@@ -96,7 +100,8 @@ fn write_replacement<S: Store>(
         day,
         body: given.text,
     })?;
-    tables.set_sums(sums)
+    tables.set_sums(sums)?;
+    enter(tables, note, Place::Replacement(given.number))
 }
 
 /// No more tariffs can be replaced.
@@ -115,12 +120,14 @@ fn put_in_place<S: Store>(
     alloc: Global,
     text: &str,
     tariff: Tariff,
+    note: &Option<Note>,
 ) -> Result<Result<Ruled, LedgerFault>, StoreError>
     requires said { terms_in text.now ≡ Ok tariff }
     requires done { replace_ruled (ruled_in summary.old.rulings) false text.now tariff
         ≡ Ok Ruled.Done }
     ensures tries { (naming : Naming) → AttemptsOne (λ ruled. ruled) naming summary.old summary.new
-        (state_of tables.old) (state_of tables.new) (replace_outcome text.now) result }
+        (state_of tables.old) (state_of tables.new)
+        (replace_outcome (note_given note.now) text.now) result }
 {
     if has_most(summary.replaced) {
         return Ok(Err(LedgerFault::Full));
@@ -142,7 +149,7 @@ fn put_in_place<S: Store>(
         amount,
     };
     let tariffs = summary.rulings.tariffs();
-    let written = write_replacement(tables, alloc, tariffs, &tariff, &given, &sums);
+    let written = write_replacement(tables, alloc, tariffs, &tariff, &given, &sums, note);
     commit_written(tables, written)?;
     summary.rulings.put_replacement(own, tariff);
     summary.replaced += 1;
@@ -157,9 +164,11 @@ pub(crate) fn try_replace<S: Store>(
     summary: &mut Summary,
     alloc: Global,
     text: &str,
+    note: &Option<Note>,
 ) -> Result<Result<Ruled, LedgerFault>, StoreError>
     ensures tries { (naming : Naming) → AttemptsOne (λ ruled. ruled) naming summary.old summary.new
-        (state_of tables.old) (state_of tables.new) (replace_outcome text.now) result }
+        (state_of tables.old) (state_of tables.new)
+        (replace_outcome (note_given note.now) text.now) result }
 {
     let tariff = match tariff_of(alloc, text) {
         Ok(tariff) => tariff,
@@ -169,5 +178,5 @@ pub(crate) fn try_replace<S: Store>(
     if !is_done(&answer) {
         return Ok(answer);
     }
-    put_in_place(tables, summary, alloc, text, tariff)
+    put_in_place(tables, summary, alloc, text, tariff, note)
 }

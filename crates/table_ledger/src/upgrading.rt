@@ -10,7 +10,7 @@ ghost use Rattle.sqlite_trees.specs.View.{IsClean, KeepsSchema};
 ghost use Rattle.sqlite_value.specs.declared.value.Value.TheVariants.{Int};
 ghost use Rattle.book_model.specs.Words.{by_bytes};
 ghost use Rattle.table_model.specs.CountedRead.{charged_before_lines, first_line};
-ghost use Rattle.table_model.specs.Tables.{RecordRow};
+ghost use Rattle.table_model.specs.Tables.{CameTable, RecordRow};
 ghost use Rattle.tree_rows.specs.Calls.{CommitsNothing, IsSorted, LeavesCommitted, OnlyLooks};
 ghost use Rattle.tree_tables.specs.Columns.{record_columns};
 ghost use Rattle.tree_tables.specs.Holds.{has_book};
@@ -109,8 +109,8 @@ fn add_counted(
     lines: &BTreeMap<[u8; 32], bool>,
     row: &Row,
 ) -> Result<(), StoreError>
-    ensures { OnOk result ((entry : List ℕ × RecordRow) → row.now ≡ record_columns entry
-        → AddsCounted (get by_bytes lines.now entry.0) entry
+    ensures { OnOk result ((came : CameTable) (entry : List ℕ × RecordRow)
+        → row.now ≡ record_columns came entry → AddsCounted (get by_bytes lines.now entry.0) entry
         (names_of all.old.items) (names_of all.new.items)) }
 {
     let mark = read_mark(row)?;

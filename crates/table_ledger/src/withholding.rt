@@ -1,22 +1,26 @@
 //! Choices of none: a work that is withheld from then on.
 
 ghost use Rattle.std.specs.Prelude.{◌≡◌, ◌<◌, Ok, nat_le};
-ghost use Rattle.book_model.specs.Words.{most_choices, Naming, withhold_outcome};
+ghost use Rattle.book_model.specs.Journal.{ChoiceOf};
+ghost use Rattle.book_model.specs.Words.{most_choices, Naming, note_given, withhold_outcome};
 ghost use Rattle.table_model.specs.TableChanges as change;
 ghost use Rattle.table_model.specs.RulingsRead.{withheld_by};
 ghost use Rattle.tree_tables.specs.States.{state_of};
-ghost use Rattle.tree_tables.specs.Steps.{Does, Looks};
+ghost use Rattle.tree_tables.specs.Steps.{Looks};
 ghost use Rattle.tree_tables.specs.Stored.{stored_entry};
 ghost use Rattle.table_ledger.specs.ChoiceReads.{FindsWithdrawn};
+ghost use Rattle.table_ledger.specs.Entries.{DoesRuling};
 ghost use Rattle.table_ledger.specs.Premises.{IsNext};
 ghost use Rattle.table_ledger.specs.Stages.{AttemptsOne};
 
 use crate::choices::withdraw;
 use crate::commits::commit_written;
 use crate::effects::member_of;
+use crate::entries::enter;
 use crate::summary::Summary;
 use crate::withheld::is_withheld;
 use book_core::{Effects, LedgerFault, MAX_CHOICES, Ruled, is_done, plan_withheld};
+use book_model::{Note, Place};
 use sqlite_trees::error::StoreError;
 use sqlite_trees::store::Store;
 use std::alloc::Global;
@@ -51,17 +55,20 @@ pub(crate) fn look_for_withdrawn<S: Store>(
     Ok(plan_withheld(through, current))
 }
 
-/// Writes a choice of none.
+/// Writes a choice of none, and its entry.
 pub(crate) fn write_none<S: Store>(
     tables: &mut TreeTables<S>,
     choice: &NoneChoice,
+    note: &Option<Note>,
 ) -> Result<(), StoreError>
-    ensures { Does result (state_of tables.old) (state_of tables.new) (IsNext choice.now.number)
+    ensures { DoesRuling result (state_of tables.old) (state_of tables.new)
+        (IsNext choice.now.number)
         (change.put_withheld choice.now.number choice.now.period choice.now.name
-        choice.now.withdrawn) }
+        choice.now.withdrawn) (note_given note.now) (ChoiceOf choice.now.number) }
 {
     withdraw(tables, choice.period, &choice.withdrawn)?;
-    tables.put_choice(choice.number, &choice.name, false, choice.period)
+    tables.put_choice(choice.number, &choice.name, false, choice.period)?;
+    enter(tables, note, Place::Choice(choice.number))
 }
 
 /// The answer to the choice of none of a work, by whether it is withheld, and how many choices were
@@ -86,9 +93,11 @@ pub(crate) fn try_withhold<S: Store>(
     alloc: Global,
     summary: &mut Summary,
     name: [u8; 32],
+    note: &Option<Note>,
 ) -> Result<Result<Ruled, LedgerFault>, StoreError>
     ensures tries { (naming : Naming) → AttemptsOne (λ ruled. ruled) naming summary.old summary.new
-        (state_of tables.old) (state_of tables.new) (withhold_outcome naming name) result }
+        (state_of tables.old) (state_of tables.new)
+        (withhold_outcome naming (note_given note.now) name) result }
 {
     let Some(stored) = tables.find_record(alloc, &name)? else {
         return Ok(Err(LedgerFault::NoSuchRecord));
@@ -105,7 +114,7 @@ pub(crate) fn try_withhold<S: Store>(
         name,
         withdrawn,
     };
-    let written = write_none(tables, &choice);
+    let written = write_none(tables, &choice, note);
     commit_written(tables, written)?;
     summary.choices += 1;
     Ok(Ok(Ruled::Done))

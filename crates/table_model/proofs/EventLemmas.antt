@@ -121,7 +121,7 @@ begun naming terms =
     no_walk = ap made no_entries
 
 -- the tables after an event, but for the journal
-rows_follow : (naming : Naming) (book : Book) (event : Event)
+pub rows_follow : (naming : Naming) (book : Book) (event : Event)
     → IsSound naming book → AreUsage book.held
     → IsAnswered naming event book → are_rising book.rulings.tariffs ≡ true
     → tables_of naming (changed_by event book)

@@ -127,7 +127,7 @@ all-same change changed same [] = tt
 all-same change changed same (entry ∷ older) = same entry.act
 
 -- what the newest entry kept is held
-newest-kept : (entry : Entry) (older : List Entry) (bytes : List ℕ)
+pub newest-kept : (entry : Entry) (older : List Entry) (bytes : List ℕ)
     → times_kept (entry ∷ older) bytes ≡ 0 → has (kept_by entry.act) bytes ≡ false
 newest-kept entry older bytes none =
     (cond_none (has (kept_by entry.act) bytes) (times_kept older bytes)
@@ -168,7 +168,7 @@ abbrev pub came_table : Naming → List Entry → CameTable
 came_table naming entries = from_entries (came_entries naming entries)
 
 -- an entry that kept none adds none
-came-none : (naming : Naming) (entry : Entry) (older : List Entry) → kept_by entry.act ≡ fin.empty
+pub came-none : (naming : Naming) (entry : Entry) (older : List Entry) → kept_by entry.act ≡ fin.empty
     → came_table naming (entry ∷ older) ≡ came_table naming older
 came-none naming entry older none =
     let at : List (List ℕ) → List (List ℕ × ℕ) =
@@ -183,7 +183,7 @@ came-entry naming None place entries = refl
 came-entry naming (Some note) place entries =
     came-none naming (record { note = note; act = Ruled place }) entries refl
 
-came-changed : (naming : Naming) (change : Act → Act)
+pub came-changed : (naming : Naming) (change : Act → Act)
     → ((act : Act) → kept_by (change act) ≡ kept_by act) → (entries : List Entry)
     → came_table naming (change_newest change entries) ≡ came_table naming entries
 came-changed naming change same [] = refl
@@ -211,7 +211,7 @@ came-more naming number bytes kept rest unnamed =
     (sym (find-both by_bytes q (under_names naming number kept) rest)))
 
 -- whether an import goes on is seen in its row
-row-goes : (act : Act) → row_goes_on (act_row act) ≡ goes_on act
+pub row-goes : (act : Act) → row_goes_on (act_row act) ≡ goes_on act
 row-goes (Ruled place) = refl
 row-goes (Importing reading kept) = refl
 row-goes (Imported reading ending kept) = refl

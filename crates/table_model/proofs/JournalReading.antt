@@ -31,7 +31,7 @@ use Rattle.std.specs.FinMap as fin
 -- the newest kept what is held, and the others are such entries
 module _ (held : Records) (entry : Entry) (older : List Entry) (are : AreEntries held (entry ∷ older))
   where
-    first-among : AreAmong (kept_by entry.act) held
+    pub first-among : AreAmong (kept_by entry.act) held
     first-among bytes there =
         elim (has held bytes) as (λ b. has held bytes ≡ b → b ≡ true) [
           | true ↦ λ in_it. refl
@@ -42,7 +42,7 @@ module _ (held : Records) (entry : Entry) (older : List Entry) (are : AreEntries
               absurd (omega arith)
         ] refl
 
-    rest-are : AreEntries held older
+    pub rest-are : AreEntries held older
     rest-are = record {
       held = λ bytes out.
           let none = are.held bytes out in

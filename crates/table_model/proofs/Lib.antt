@@ -83,6 +83,7 @@ pub mod ChoiceReading
 pub mod ListedChoices
 pub mod LineSides
 pub mod JournalReading
+pub mod CameHeld
 pub mod BookLemmas
 pub mod AcceptLemmas
 pub mod ChoiceLemmas

@@ -525,7 +525,7 @@ readable_changed naming book (ImportRead reading) whole handed answered = whole
 readable_changed naming book (ImportEnded ending) whole handed answered = whole
 
 -- a book can be read back whatever its journal
-readable_still : (naming : Naming) (book : Book) (entries : List Entry) → IsReadable naming book
+pub readable_still : (naming : Naming) (book : Book) (entries : List Entry) → IsReadable naming book
     → IsReadable naming (record book { journal = entries })
 readable_still naming book entries whole =
     let later : Book = record book { journal = entries } in

@@ -23,6 +23,7 @@ pub mod ReplacedRows
 pub mod EntryRows
 pub mod OldChoices
 pub mod CameRows
+pub mod ArrivalRows
 pub mod Records
 pub mod FoundNames
 pub mod RecordLists

@@ -8,12 +8,14 @@ use Rattle.std.specs.List.Sorted.{IsPermutation, IsStrictlySortedBy}
 use Rattle.std.specs.Option.{option_map}
 use Rattle.std.specs.Ordering.{nat_cmp}
 use Rattle.book_model.specs.Words.{Credit, is_from, same_bytes}
+use Rattle.book_model.specs.declared.entry.Arrival.{Arrival}
 use Rattle.book_model.specs.declared.row.ChargeRow.{ChargeRow}
 use Rattle.book_model.specs.declared.row.RowKey.{RowKey}
 use Rattle.table_model.specs.DisputesRead.{by_identity}
 use Rattle.table_model.specs.PeriodRows.{rows_under}
 use Rattle.table_model.specs.PeriodLists.{rows_read}
-use Rattle.table_model.specs.Tables.{ChoiceRow, RecordRow, RecordTable, ReplacedRow, Tables}
+use Rattle.table_model.specs.Tables.{CameTable, ChoiceRow, RecordRow, RecordTable, ReplacedRow}
+use Rattle.table_model.specs.Tables.{Tables}
 use Rattle.table_model.specs.Views.{has_choice, rows_with}
 use Rattle.tree_rows.specs.Changes.{above}
 use Rattle.tree_tables.specs.Stored.{book_entry, choice_entry, close_entry, credit_entry}
@@ -101,6 +103,26 @@ abbrev pub FindsUncharged : List ℕ → Tables → Option (Vec ℕ Global) → 
 FindsUncharged from tables None =
     (row : List ℕ × RecordRow) → IsUnchargedFrom from tables row → ⊥
 FindsUncharged from tables (Some identity) = IsNextUncharged from tables identity.items
+
+-- a record by its name and by which entry of the journal it came
+abbrev pub arrival_of : CameTable → List ℕ → Arrival
+arrival_of came name = record { name = name; entry = unwrap_or (get came name) 0 }
+
+-- the record with the least name that is some bytes or comes after them
+pub record IsNextArrival (from : List ℕ) (tables : Tables) (arrival : Arrival) : Type 0 where
+  pub row : RecordRow
+  pub there : get tables.records arrival.name ≡ Some row
+  pub own : arrival ≡ arrival_of tables.came arrival.name
+  pub reached : is_from from arrival.name ≡ true
+  pub least : (name : List ℕ) (row : RecordRow) → get tables.records name ≡ Some row
+      → is_from from name ≡ true → is_from arrival.name name ≡ true
+
+-- that record, if there is one
+abbrev pub FindsArrival : List ℕ → Tables → Option Arrival → Type 0
+FindsArrival from tables None =
+    (name : List ℕ) (row : RecordRow) → get tables.records name ≡ Some row
+    → is_from from name ≡ false
+FindsArrival from tables (Some arrival) = IsNextArrival from tables arrival
 
 -- a record that is charged
 abbrev pub is_charged : List ℕ × RecordRow → Bool

@@ -62,7 +62,7 @@ fn place_word(place: Place) -> &'static str
 }
 
 /// The number under which a ruling stands.
-fn place_number(place: Place) -> i64
+pub fn place_number(place: Place) -> i64
     ensures { result ≡ spec.place_number (place_shown place) }
 {
     match place {

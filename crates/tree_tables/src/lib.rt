@@ -2,6 +2,7 @@
 //! step of a change, says what it is of the tables of `table_model`.
 #![tactic(auto)]
 
+mod arrivals;
 mod book_row;
 mod charged_rows;
 mod choice_rows;
@@ -46,7 +47,7 @@ pub use day_rows::{DayKey, DayRow};
 pub use detail_changes::{DetailScratch, count_in};
 pub use detail_fill::{closes_in, lines_in, next_record_in, start_records};
 pub use detail_rows::DetailStart;
-pub use entry_rows::{StoredAct, StoredEntry, read_entry};
+pub use entry_rows::{StoredAct, StoredEntry, place_number, read_entry};
 pub use forms::THIS_FORM;
 pub use found_names::FoundName;
 pub use late_records::LateRecord;

@@ -23,12 +23,12 @@ use Rattle.tree_rows.proofs.IndexOrders.{by_bytes_exact}
 use Rattle.tree_rows.proofs.PartIndexes.{part_in_order}
 use Rattle.tree_rows.proofs.Runs.{run_named}
 use Rattle.tree_rows.proofs.Keyed.{row_found}
-use Rattle.tree_tables.specs.Columns.{identity_columns, record_columns}
+use Rattle.tree_tables.specs.Columns.{identity_columns}
 use Rattle.tree_tables.specs.Holds.{Holds, identity_index, identity_key}
 use Rattle.tree_tables.proofs.FoundNames.{Entry}
 use Rattle.tree_tables.proofs.Layouts.{identity_layout, record_layout}
 use Rattle.tree_tables.proofs.LineRows.{line_found, line_missing}
-use Rattle.book_audit.specs.Records.{GoesBack, HasPast, IsLine, Turns}
+use Rattle.book_audit.specs.Records.{GoesBack, HasPast, IsHeld, IsLine, Turns, row_with}
 use Rattle.book_audit.specs.Records.Turns.{Stays, Turned}
 use Rattle.book_audit.specs.Trees.{FindsTwo}
 use Rattle.book_audit.proofs.Rows.Counted.{some_kept}
@@ -98,17 +98,17 @@ module _ (trees : Trees) (tables : Tables) (holds : Holds trees tables) where
   -- a record by its name
   pub record_looked : (name : List ℕ) (row : Row) (hit : Bool)
       → Finds (Blob name ∷ []) (trees 3) row hit
-      → Answers record_layout tables.records name row hit
+      → Answers (record_layout tables.came) tables.records name row hit
   record_looked name row hit finds =
-      row_found record_layout tables.records name finds holds.records refl
+      row_found (record_layout tables.came) tables.records name finds holds.records refl
 
   -- a record whose row is found has the name, and is in the table
   pub entry_looked : (name : List ℕ) (entry : List ℕ × RecordRow)
-      → Finds (Blob name ∷ []) (trees 3) (record_columns entry) true
-      → (entry.0 ≡ name) × (get tables.records name ≡ Some entry.1)
-  entry_looked name entry finds =
-      let found = record_looked name (record_columns entry) true finds in
-      let same : entry ≡ (name, found.0) = one_record entry (name, found.0) found.2 in (
+      → IsHeld (trees 3) name entry → (entry.0 ≡ name) × (get tables.records name ≡ Some entry.1)
+  entry_looked name entry held =
+      let found = record_looked name (row_with entry held.came) true held.found in
+      let same : entry ≡ (name, found.0) =
+      one_record entry (name, found.0) held.came (get tables.came name) found.2 in (
         ap (λ (e : List ℕ × RecordRow). e.0) same,
         found.1 ∙ ap (λ (e : List ℕ × RecordRow). Some e.1) (sym same),
       )

@@ -28,8 +28,8 @@ take_own : (a more : Row) → take (length a) (a ++ more) ≡ a
 take_own [] more = refl
 take_own (x ∷ a) more = ap (λ r. x ∷ r) (take_own a more)
 
-module _ {K V : Type 0} {R : K → K → Ordering} (layout : Layout K V R) where
-  -- entries whose keys rise are sorted
+-- entries whose keys rise are sorted
+module _ {K V : Type 0} (R : K → K → Ordering) where
   all_below : (k : K) (es : List (K × V)) → AllByRecursion (λ (b : K × V). R k b.0 ≡ Less) es
       → T (below_all R k es)
   all_below k [] below = tt
@@ -43,12 +43,13 @@ module _ {K V : Type 0} {R : K → K → Ordering} (layout : Layout K V R) where
   sorted (e ∷ es) up =
       both (below_all R e.0 es) (is_sorted R es) (all_below e.0 es up.0) (sorted es up.1)
 
+module _ {K V : Type 0} {R : K → K → Ordering} (layout : Layout K V R) where
   module _ (tree : Tree) (wide : (k : K) → length (layout.key k) ≡ key_width tree) where
     -- the key of an entry's row
     own_key : (e : K × V) → key_in tree (row_of layout e) ≡ layout.key e.0
     own_key e =
         ap (λ n. take n (row_of layout e)) (sym (wide e.0))
-        ∙ take_own (layout.key e.0) (layout.rest e.1)
+        ∙ take_own (layout.key e.0) (layout.rest e.0 e.1)
 
     -- where the keys of rows rise, those of the entries do
     pub keys_rise : (es : List (K × V)) → AreRising tree (map (row_of layout) es)
@@ -66,7 +67,7 @@ module _ {K V : Type 0} {R : K → K → Ordering} (layout : Layout K V R) where
     pub entries_kept : (es : List (K × V)) → AreRising tree (map (row_of layout) es)
         → entries (from_entries {R = R} es) ≡ es
     entries_kept es rising =
-        entries-sorted layout.total layout.exact es (sorted es (keys_rise es rising))
+        entries-sorted layout.total layout.exact es (sorted R es (keys_rise es rising))
 
     -- and so are the rows
     pub rows_kept : (es : List (K × V)) {rows : List Row} → rows ≡ map (row_of layout) es

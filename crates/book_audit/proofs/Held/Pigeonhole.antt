@@ -28,7 +28,7 @@ module _ {X : Type 0} {R : X → X → Ordering} (total : IsTotalOrder R) where
   Rises = IsAscending (λ a b. R a b ≡ Less)
 
   -- nothing is below itself
-  not_below : (x : X) → R x x ≡ Less → ⊥
+  pub not_below : (x : X) → R x x ≡ Less → ⊥
   not_below x less = let tie = tied_itself total x in absurd (cc)
 
   -- an element of a rising list is not below its first

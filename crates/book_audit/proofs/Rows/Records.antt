@@ -12,9 +12,10 @@ use Rattle.book_model.specs.declared.row.RowKey.{RowKey}
 use Rattle.book_core.specs.Words.{keyed_rows}
 use Rattle.book_core.proofs.KeyedRowLemmas.{rows_of-keyed_rows}
 use Rattle.consistent_tables.specs.DueRows.{due_entry}
-use Rattle.tree_tables.specs.Columns.{day_columns, record_columns}
-use Rattle.book_audit.specs.Records.{AreEntries, Counts, IsRight, IsTold, Told, counted_price}
-use Rattle.book_audit.specs.Records.{counted_prices}
+use Rattle.tree_tables.specs.Columns.{day_columns}
+use Rattle.book_audit.specs.Came.{TakesOne, came_one, due_by}
+use Rattle.book_audit.specs.Records.{AreEntries, Counts, IsRight, Takes, TellsRight, Told, came_by}
+use Rattle.book_audit.specs.Records.{counted_price, counted_prices, told_row}
 use Rattle.book_audit.specs.declared.rulings.Rulings.{Rulings}
 
 pub none_yet : (trees : Trees) (rulings : Rulings) → AreEntries trees rulings 0 0 []
@@ -24,7 +25,7 @@ none_yet trees rulings =
 -- one more row
 pub entries_pushed : (trees : Trees) (rulings : Rulings) (count amount next : ℕ)
     (entries : List Told) (told : Told) → AreEntries trees rulings count amount entries
-    → IsRight trees rulings told.0 → IsTold trees rulings.closes.items told
+    → IsRight trees rulings told.0 → TellsRight trees rulings.closes.items told
     → next ≡ amount + told.0.1.priced.amount → next ≤ most_cost
     → AreEntries trees rulings (count + 1) next (entries ++ told ∷ [])
 entries_pushed trees rulings count amount next entries told so_far right past is within =
@@ -35,7 +36,7 @@ entries_pushed trees rulings count amount next entries told so_far right past is
     record {
       right = all-append (λ (one : Told). IsRight trees rulings one.0) entries (told ∷ [])
           so_far.right (right, tt);
-      past = all-append (IsTold trees rulings.closes.items) entries (told ∷ []) so_far.past
+      past = all-append (TellsRight trees rulings.closes.items) entries (told ∷ []) so_far.past
           (past, tt);
       counted = omega (arith, counted, long);
       summed = omega (arith, is, summed, cost);
@@ -43,28 +44,52 @@ entries_pushed trees rulings count amount next entries told so_far right past is
     }
 
 -- and its row
-pub row_pushed : (entries : List Told) (told : Told) (row : Row) → row ≡ record_columns told.0
-    → map (λ (one : Told). record_columns one.0) entries ++ row ∷ []
-    ≡ map (λ (one : Told). record_columns one.0) (entries ++ told ∷ [])
+pub row_pushed : (entries : List Told) (told : Told) (row : Row) → row ≡ told_row told
+    → map told_row entries ++ row ∷ [] ≡ map told_row (entries ++ told ∷ [])
 row_pushed entries told row is =
-    ap (λ r. map (λ (one : Told). record_columns one.0) entries ++ r ∷ []) is
-    ∙ sym (map-append (λ (one : Told). record_columns one.0) entries (told ∷ []))
+    ap (λ r. map told_row entries ++ r ∷ []) is ∙ sym (map-append told_row entries (told ∷ []))
+
+-- by which entries records came, with one more record
+came_pushed : (number : ℕ) (entries : List Told) (told : Told)
+    → came_by number (entries ++ told ∷ []) ≡ came_by number entries + came_one number told.2
+came_pushed number [] told = refl
+came_pushed number (first ∷ entries) told =
+    ap (λ n. n + came_one number first.2) (came_pushed number entries told)
+    ∙ turned (came_by number entries) (came_one number told.2) (came_one number first.2)
+  where
+    turned : (a b c : ℕ) → (a + b) + c ≡ (a + c) + b
+    turned a b c = omega arith
+
+-- before any record all are due,
+pub takes_none : (due : List ℕ) → Takes due due []
+takes_none due number = refl
+
+-- and with one more record those of that are due no more
+pub takes_on : (old mid new : List ℕ) (entries : List Told) (told : Told) → Takes old mid entries
+    → TakesOne mid new told.2 → Takes old new (entries ++ told ∷ [])
+takes_on old mid new entries told before after number =
+    before number ∙ ap (λ n. n + came_by number entries) (after number)
+    ∙ turned (due_by new number) (came_one number told.2) (came_by number entries)
+    ∙ ap (λ n. due_by new number + n) (sym (came_pushed number entries told))
+  where
+    turned : (a b c : ℕ) → (a + b) + c ≡ a + (c + b)
+    turned a b c = omega arith
 
 -- what is counted with one more record
 prices_pushed : (entries : List Told) (told : Told)
-    → counted_prices (entries ++ told ∷ []) ≡ counted_prices entries ++ counted_price told
-prices_pushed [] told = append-nil (counted_price told)
+    → counted_prices (entries ++ told ∷ []) ≡ counted_prices entries ++ counted_price told.1 told.0.1.priced
+prices_pushed [] told = append-nil (counted_price told.1 told.0.1.priced)
 prices_pushed (first ∷ entries) told =
-    ap (λ more. counted_price first ++ more) (prices_pushed entries told)
-    ∙ sym (append_assoc (counted_price first) (counted_prices entries) (counted_price told))
+    ap (λ more. counted_price first.1 first.0.1.priced ++ more) (prices_pushed entries told)
+    ∙ sym (append_assoc (counted_price first.1 first.0.1.priced) (counted_prices entries) (counted_price told.1 told.0.1.priced))
 
 -- rows of places that count some records count those and one more
 pub counts_on : (old mid new : List (RowKey × ChargeRow)) (entries : List Told) (told : Told)
-    → Counts old mid (counted_prices entries) → Counts mid new (counted_price told)
+    → Counts old mid (counted_prices entries) → Counts mid new (counted_price told.1 told.0.1.priced)
     → Counts old new (counted_prices (entries ++ told ∷ []))
 counts_on old mid new entries told before after prices kept =
     after (prices ++ counted_prices entries) (before prices kept)
-    ∙ ap keyed_rows (append_assoc prices (counted_prices entries) (counted_price told)
+    ∙ ap keyed_rows (append_assoc prices (counted_prices entries) (counted_price told.1 told.0.1.priced)
     ∙ ap (λ more. prices ++ more) (sym (prices_pushed entries told)))
 
 pub counts_none : (rows : List (RowKey × ChargeRow)) → Counts rows rows []

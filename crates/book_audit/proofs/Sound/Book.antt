@@ -19,6 +19,7 @@ use Rattle.book_audit.specs.declared.audited.Counts.{Counts as Numbers}
 use Rattle.book_audit.specs.declared.finding.Tree.TheVariants.{Days, Lines}
 use Rattle.book_audit.proofs.Held.Maps.{entries_kept}
 use Rattle.book_audit.proofs.Sound.Counts.{lines_many, rows_many}
+use Rattle.book_audit.proofs.Sound.Journal.{journal_entered, own_came, own_kept}
 use Rattle.book_audit.proofs.Sound.Records.{own_row}
 use Rattle.book_audit.proofs.Sound.Rows.{amount_is, days_are, held_are, held_few, names_are}
 use Rattle.book_audit.proofs.Sound.Rows.{own_line}
@@ -51,6 +52,9 @@ module _ (trees : Trees) (numbers : Numbers) (sound : AreSound trees numbers) wh
     replaced_own = replaced_own trees numbers sound;
     credits = credits_entered trees numbers sound;
     credits_own = credits_own trees numbers sound;
+    entered = journal_entered trees numbers sound;
+    kept = own_kept trees numbers sound;
+    came = own_came trees numbers sound;
     records = own_row trees numbers sound;
     lines = own_line trees numbers sound;
     days = days_are trees numbers sound;
@@ -112,6 +116,7 @@ module _ (trees : Trees) (numbers : Numbers) (sound : AreSound trees numbers) wh
   of_book = record {
     book = book_in tables;
     readable = can_be_read;
+    journaled = consistent_are_readable.journals sha_names tables are_consistent;
     holds = subst (Holds trees) its (trees_hold trees numbers sound);
     counted = are_counts;
   }

@@ -15,7 +15,7 @@ use Rattle.tree_tables.proofs.Layouts.{record_layout}
 use Rattle.book_audit.specs.Days.{is_closed}
 use Rattle.book_audit.specs.Marks.{is_posted_so}
 use Rattle.book_audit.specs.OfBook.{sha_names}
-use Rattle.book_audit.specs.Records.{HasPast, IsLine, IsRight, IsTold, Told, later_periods}
+use Rattle.book_audit.specs.Records.{HasPast, IsLine, IsRight, TellsRight, Told, later_periods}
 use Rattle.book_audit.specs.SoundTrees.{AreSound}
 use Rattle.book_audit.specs.declared.audited.Counts.{Counts as Numbers}
 use Rattle.book_audit.proofs.Rows.Rulings.{closed_is}
@@ -71,11 +71,11 @@ module _ (trees : Trees) (numbers : Numbers) (sound : AreSound trees numbers) wh
   its_past : (name : List ℕ) (row : RecordRow) → get tables.records name ≡ Some row
       → IsPast (name, row)
   its_past name row there =
-      get_one record_layout.total record_layout.exact
+      get_one (record_layout tables.came).total (record_layout tables.came).exact
       (λ (name : List ℕ) (row : RecordRow). IsPast (name, row))
       (map (λ (told : Told). told.0) (told_all trees numbers sound))
       (all-map IsPast (λ (told : Told). told.0) (told_all trees numbers sound)
-      (all_weaker (IsTold trees closes) (λ (told : Told). IsPast told.0)
+      (all_weaker (TellsRight trees closes) (λ (told : Told). IsPast told.0)
       (λ told is. (told.1, is.past)) (told_all trees numbers sound)
       sound.records.are.past)) name row there
 

@@ -25,7 +25,7 @@ use Rattle.tree_rows.proofs.Maps.{head_is, prefix_of}
 use Rattle.tree_tables.proofs.Layouts.{line_layout}
 use Rattle.book_audit.specs.Lines.{IsLateLine}
 use Rattle.book_audit.specs.Details.{ShowsCounted}
-use Rattle.book_audit.specs.Records.{HasPast, IsTold, Told, detail_key, spot_of}
+use Rattle.book_audit.specs.Records.{HasPast, TellsRight, Told, detail_key, spot_of}
 use Rattle.book_audit.specs.SoundTrees.{AreSound}
 use Rattle.book_audit.specs.Trees.{HasKey}
 use Rattle.book_audit.specs.declared.audited.Counts.{Counts as Numbers}
@@ -162,7 +162,7 @@ module _ (trees : Trees) (numbers : Numbers) (sound : AreSound trees numbers) wh
   counts = is_counted_row tables
 
   -- what is told of a record is what the tables say
-  is_told : (one : Told) → IsTold trees closes one → one.1 ≡ counts one.0
+  is_told : (one : Told) → TellsRight trees closes one → one.1 ≡ counts one.0
   is_told one is = (past_is trees numbers sound one.0.0 one.0.1 one.1 is.past).0
 
   counted_are : counted_entries tables ≡ filter counts (entries_told told_here)
@@ -175,7 +175,7 @@ module _ (trees : Trees) (numbers : Numbers) (sound : AreSound trees numbers) wh
       from_entries {R = by_period by_key} (map (due_entry all) (charge_rows prices)))
       (sym (closes_said trees numbers sound))
       (prices_are counts told_here
-      (all_weaker (IsTold trees closes) (λ (one : Told). one.1 ≡ counts one.0) is_told told_here
+      (all_weaker (TellsRight trees closes) (λ (one : Told). one.1 ≡ counts one.0) is_told told_here
       sound.records.are.past)
       ∙ ap (map (λ (entry : List ℕ × RecordRow). entry.1.priced)) (sym counted_are))
 
@@ -196,7 +196,7 @@ module _ (trees : Trees) (numbers : Numbers) (sound : AreSound trees numbers) wh
   counted_shown : (one : Told) → IsOneOf one told_here → counts one.0 ≡ true
       → find by_bytes one.0.0 (names_shown (shown trees numbers sound)) ≡ Some tt
   counted_shown one is counted =
-      let told = of_one (IsTold trees closes) told_here sound.records.are.past one is in
+      let told = of_one (TellsRight trees closes) told_here sound.records.are.past one is in
       let spot : DetailKey = spot_of (detail_shown one.0) in
       let has : HasKey (detail_key spot) (map shown_row (shown trees numbers sound)) =
       subst (HasKey (detail_key spot)) sound.details.are (told.shown (is_told one told ∙ counted)) in

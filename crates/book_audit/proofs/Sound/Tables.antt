@@ -20,6 +20,7 @@ use Rattle.book_model.specs.declared.row.RowKey.{RowKey}
 use Rattle.table_model.specs.Words.{row_record, detail_shown, ChoiceRow, ChoiceTable, CountedTable}
 use Rattle.table_model.specs.Words.{DayTable, RecordRow, RecordTable, Tables, close_entries}
 use Rattle.table_model.specs.Words.{row_key, tariff_entries, under_numbers}
+use Rattle.table_model.specs.Tables.{CameTable}
 use Rattle.table_model.proofs.UnderNumbers.{entries-numbers}
 use Rattle.table_model.proofs.Finding.{get_one}
 use Rattle.consistent_tables.specs.DueRows.{due_entry}
@@ -32,6 +33,7 @@ use Rattle.tree_rows.proofs.Keyed.{row_found}
 use Rattle.table_model.specs.TablesOf.{replaced_row}
 use Rattle.tree_tables.specs.Columns.{choice_columns, closed_columns, credit_columns}
 use Rattle.tree_tables.specs.Columns.{detail_columns, replaced_columns}
+use Rattle.tree_tables.specs.JournalColumns.{journal_columns}
 use Rattle.tree_tables.specs.Holds.{AreUnderOwnKeys, Holds, by_shown, choice_name_index}
 use Rattle.tree_tables.specs.Holds.{choice_name_key, counted_among, detail_index, identity_index}
 use Rattle.tree_tables.specs.Holds.{marks}
@@ -45,10 +47,10 @@ use Rattle.tree_tables.proofs.RecordIndexes.{identity_named, mark_named}
 use Rattle.book_audit.specs.ChoiceRows.{IsMade, Made, said}
 use Rattle.book_audit.specs.Details.{ShowsCounted}
 use Rattle.book_audit.specs.Entries.{IsEntry}
-use Rattle.book_audit.specs.Records.{IsRight, Told, counted_prices}
+use Rattle.book_audit.specs.Records.{IsRight, Told, counted_prices, told_row}
 use Rattle.book_audit.specs.SoundTrees.{AreSound}
 use Rattle.book_audit.specs.Trees.{HasKey}
-use Rattle.book_audit.specs.Walks.{AreRising, AreWide, key_in, width}
+use Rattle.book_audit.specs.Walks.{AreRising, AreWide, IsWide, key_in}
 use Rattle.book_audit.specs.declared.audited.Counts.{Counts as Numbers}
 use Rattle.book_audit.specs.declared.finding.Tree.TheVariants.{ChoiceNames, Days, Details}
 use Rattle.book_audit.specs.declared.finding.Tree.TheVariants.{Identities, Lines, Marks, Records}
@@ -58,13 +60,14 @@ use Rattle.book_audit.specs.declared.finding.Tree.{Tree}
 use Rattle.book_audit.proofs.Held.Maps.{entries_kept, entries_rise, index_rows, rows_again, rows_at}
 use Rattle.book_audit.proofs.Held.Maps.{rows_kept}
 use Rattle.book_audit.proofs.Held.Pigeonhole.{IsOneOf, all_of_them, each_is_one, no_more, of_one}
+use Rattle.book_audit.proofs.Rows.Came.{NamesRise, came_pairs, each_came, same_rows}
 use Rattle.book_audit.proofs.Rows.Columns.{long_numbers, one_record, row_is}
 
 -- ---- the entries of the indexes, as their rows say
 
 -- the keys of a tree's rows, if each row has one
 keys_in : {Q : Type 0} {P : Q → Q → Ordering} (layout : Layout Q (Unit {0}) P) (tree : Tree)
-    → ((row : Row) → IsEntry tree row → length row ≡ width tree
+    → ((row : Row) → IsEntry tree row → IsWide tree row
     → (q : Q) × (row ≡ row_of layout (q, tt)))
     → (rows : List Row) → AllByRecursion (IsEntry tree) rows → AreWide tree rows
     → (keys : List Q) × (rows ≡ rows_at layout keys)
@@ -75,14 +78,14 @@ keys_in layout tree key_of (row ∷ rows) each wide =
     (one.0 ∷ more.0, ap₂ (λ (r : Row) (rs : List Row). r ∷ rs) one.1 more.1)
 
 -- of identities, marks and choices
-identity_of : (row : Row) → IsEntry Identities row → length row ≡ width Identities
+identity_of : (row : Row) → IsEntry Identities row → IsWide Identities row
     → (q : List ℕ × List ℕ) × (row ≡ row_of identity_layout (q, tt))
 identity_of row its wide = (
   (its.0.0, its.1.0),
   row_is row (Blob its.0.0 ∷ Blob its.1.0 ∷ []) wide (its.0.1, (its.1.1, tt)),
 )
 
-mark_of : (row : Row) → IsEntry Marks row → length row ≡ width Marks
+mark_of : (row : Row) → IsEntry Marks row → IsWide Marks row
     → (q : ℕ × (List ℕ × List ℕ)) × (row ≡ row_of mark_layout (q, tt))
 mark_of row its wide = (
   (its.0.0, (its.1.0, its.2.0)),
@@ -90,7 +93,7 @@ mark_of row its wide = (
       (its.0.1, (its.1.1, (its.2.1, tt))),
 )
 
-choice_name_of : (row : Row) → IsEntry ChoiceNames row → length row ≡ width ChoiceNames
+choice_name_of : (row : Row) → IsEntry ChoiceNames row → IsWide ChoiceNames row
     → (q : List ℕ × ℕ) × (row ≡ row_of choice_name_layout (q, tt))
 choice_name_of row its wide = (
   (its.0.0, its.1.0),
@@ -202,22 +205,43 @@ module _ (trees : Trees) (numbers : Numbers) (sound : AreSound trees numbers) wh
   abbrev es : List (List ℕ × RecordRow)
   es = map (λ (told : Told). told.0) told_all
 
-  records_are : trees 3 ≡ map (row_of record_layout) es
+  -- by which entries records came
+  abbrev came : CameTable
+  came = from_entries (came_pairs told_all)
+
+  pub names_rise : NamesRise told_all
+  names_rise =
+      ascending_weaker
+      (λ (a : Told) (b : Told). row_cmp (key_in Records (told_row a)) (key_in Records (told_row b)) ≡ Less)
+      (λ (a : Told) (b : Told). by_bytes a.0.0 b.0.0 ≡ Less)
+      (λ a b less. sym ((record_layout came).ordered a.0.0 b.0.0) ∙ less) told_all
+      (ascending_from_map (λ (a : Row) (b : Row). row_cmp (key_in Records a) (key_in Records b) ≡ Less)
+      told_row told_all (subst (AreRising Records) sound.records.all sound.records.rising))
+
+  each_found : AllByRecursion (λ (told : Told). get came told.0.0 ≡ told.2) told_all
+  each_found =
+      all_weaker (λ (told : Told). find by_bytes told.0.0 (came_pairs told_all) ≡ told.2)
+      (λ (told : Told). get came told.0.0 ≡ told.2)
+      (λ told is. get-from_entries nat_list_cmp_total (came_pairs told_all) told.0.0 ∙ is) told_all
+      (each_came told_all names_rise)
+
+  records_are : trees 3 ≡ map (row_of (record_layout came)) es
   records_are =
-      sound.records.all ∙ sym (map-map (row_of record_layout) (λ (told : Told). told.0) told_all)
+      sound.records.all ∙ same_rows came told_all each_found
+      ∙ sym (map-map (row_of (record_layout came)) (λ (told : Told). told.0) told_all)
 
   abbrev records : RecordTable
   records = from_entries es
 
   pub records_in_order : entries records ≡ map (λ (told : Told). told.0) told_all
   records_in_order =
-      entries_kept record_layout Records (λ k. refl) es
+      entries_kept (record_layout came) Records (λ k. refl) es
       (subst (AreRising Records) records_are sound.records.rising)
 
   pub right_of : (name : List ℕ) (row : RecordRow) → get records name ≡ Some row
       → IsRight trees sound.rulings (name, row)
   right_of name row there =
-      get_one record_layout.total record_layout.exact
+      get_one (record_layout came).total (record_layout came).exact
       (λ (name : List ℕ) (row : RecordRow). IsRight trees sound.rulings (name, row)) es
       (all-map (IsRight trees sound.rulings) (λ (told : Told). told.0) told_all
       sound.records.are.right) name row there
@@ -301,12 +325,12 @@ module _ (trees : Trees) (numbers : Numbers) (sound : AreSound trees numbers) wh
       → (row : RecordRow) × (get records d.name ≡ Some row) × (d ≡ detail_shown (d.name, row))
   is_shown d one =
       let shows = of_one (ShowsCounted trees sound.rulings.closes.items) shown sound.details.each d one in
-      let at = row_found record_layout records d.name shows.held
-      (rows_kept record_layout Records (λ k. refl) es records_are sound.records.rising) refl in (
+      let at = row_found (record_layout came) records d.name shows.held.found
+      (rows_kept (record_layout came) Records (λ k. refl) es records_are sound.records.rising) refl in (
         at.0,
         at.1,
         shows.is ∙ ap (λ (e : List ℕ × RecordRow). detail_with d.name (row_record e.1) e.1.priced)
-            (one_record shows.entry (d.name, at.0) at.2),
+            (one_record shows.entry (d.name, at.0) shows.held.came (get came d.name) at.2),
       )
 
   abbrev index_shown : FinMap by_shown (Unit {0})
@@ -381,6 +405,8 @@ module _ (trees : Trees) (numbers : Numbers) (sound : AreSound trees numbers) wh
     days = days;
     lines = from_entries sound.lines.lines;
     counted = counted;
+    journal = from_entries (under_numbers 1 sound.entered.entries);
+    came = came;
   }
 
   pub trees_hold : Holds trees tables_held
@@ -391,7 +417,8 @@ module _ (trees : Trees) (numbers : Numbers) (sound : AreSound trees numbers) wh
         sound.ruled.tariffs.rising;
     closes = sound.ruled.closes.are
         ∙ ap (map closed_columns) (sym (entries-numbers sound.rulings.closes.items));
-    records = rows_kept record_layout Records (λ k. refl) es records_are sound.records.rising;
+    records = rows_kept (record_layout came) Records (λ k. refl) es records_are
+        sound.records.rising;
     days = rows_kept day_layout Days (λ k. refl) due sound.days sound.rising;
     placed = placed;
     lines = rows_kept line_layout Lines (λ k. refl) sound.lines.lines sound.lines.are
@@ -406,4 +433,6 @@ module _ (trees : Trees) (numbers : Numbers) (sound : AreSound trees numbers) wh
     replaced = sound.ruled.kept.replaced.are
         ∙ ap (map replaced_columns)
         (sym (entries-numbers (map replaced_row sound.ruled.kept.replaced.replaced)));
+    journal = sound.entered.are
+        ∙ ap (map journal_columns) (sym (entries-numbers sound.entered.entries));
   }

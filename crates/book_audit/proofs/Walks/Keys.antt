@@ -2,7 +2,7 @@
 use Rattle.std.proofs.Common.{◌≡◌, ◌≢◌, ◌∙◌, ◌++◌, ◌∷◌, [], ℕ, ◌≤◌, ◌<◌, List, true, cond, ap}
 use Rattle.std.proofs.Common.{arith, drop, length, refl, sym, subst, take, true≢false, append_assoc}
 use Rattle.std.proofs.Common.{is_eq, is_gt, is_lt, Ordering, Less, Equal, Greater, length-take-le}
-use Rattle.std.proofs.Common.{take-append-drop}
+use Rattle.std.proofs.Common.{take-append-drop, ◌==◌, Bool, false}
 use Rattle.sqlite_trees.specs.Tree.{from_key}
 use Rattle.sqlite_trees.proofs.ListLemmas.{all-append, ascending-append}
 use Rattle.sqlite_trees.proofs.TreeLemmas.{above}
@@ -17,25 +17,31 @@ use Rattle.book_audit.specs.declared.finding.Tree.{Tree}
 use Rattle.book_audit.specs.declared.finding.Tree.TheVariants.{Book, ChoiceNames, Choices, Closes}
 use Rattle.book_audit.specs.declared.finding.Tree.TheVariants.{Days, Details, Identities, Lines}
 use Rattle.book_audit.specs.declared.finding.Tree.TheVariants.{Credits, Marks, Records, Replaced}
-use Rattle.book_audit.specs.declared.finding.Tree.TheVariants.{Tariffs}
-use Rattle.book_audit.specs.Walks.{AreRising, AreWide, HasWalked, key_in, key_width, last_key}
-use Rattle.book_audit.specs.Walks.{width}
+use Rattle.book_audit.specs.declared.finding.Tree.TheVariants.{Journal, Tariffs}
+use Rattle.book_audit.specs.Walks.{AreRising, AreWide, HasWalked, IsWide, key_in, key_width}
+use Rattle.book_audit.specs.Walks.{last_key, width}
+
+-- two numbers of columns are at least one
+either_wide : (b : Bool) (longer shorter : ℕ) → 1 ≤ longer → 1 ≤ shorter → 1 ≤ cond b longer shorter
+either_wide true longer shorter one other = one
+either_wide false longer shorter one other = other
 
 -- a key is the first columns of a row, and at least one
-within : (tree : Tree) → key_width tree ≤ width tree
-within Book = omega arith
-within Tariffs = omega arith
-within Closes = omega arith
-within Records = omega arith
-within Days = omega arith
-within Lines = omega arith
-within Identities = omega arith
-within Marks = omega arith
-within Choices = omega arith
-within ChoiceNames = omega arith
-within Details = omega arith
-within Credits = omega arith
-within Replaced = omega arith
+within : (tree : Tree) (found : ℕ) → key_width tree ≤ width tree found
+within Book found = omega arith
+within Tariffs found = omega arith
+within Closes found = omega arith
+within Records found = either_wide (found == 12) 12 11 (omega arith) (omega arith)
+within Days found = omega arith
+within Lines found = omega arith
+within Identities found = omega arith
+within Marks found = omega arith
+within Choices found = omega arith
+within ChoiceNames found = omega arith
+within Details found = omega arith
+within Credits found = omega arith
+within Replaced found = omega arith
+within Journal found = either_wide (found == 20) 20 7 (omega arith) (omega arith)
 
 some : (tree : Tree) → 0 < key_width tree
 some Book = omega arith
@@ -51,6 +57,7 @@ some ChoiceNames = omega arith
 some Details = omega arith
 some Credits = omega arith
 some Replaced = omega arith
+some Journal = omega arith
 
 -- over a key of so many columns, a row compares by its first columns
 prefix_is : (n : ℕ) (row key : Row) → n ≤ length row → length key ≡ n
@@ -101,8 +108,8 @@ last_long : (tree : Tree) (done : List Row) → AreWide tree done → done ≢ [
     → length (last_key tree done) ≡ key_width tree
 last_long tree [] wide some = absurd (some refl)
 last_long tree (row ∷ []) wide some =
-    let few = within tree in
-    let long = wide.0 in
+    let few = within tree (length row) in
+    let long : length row ≡ width tree (length row) = wide.0 in
     length-take-le (key_width tree) row (omega arith)
 last_long tree (row ∷ next ∷ rows) wide some =
     last_long tree (next ∷ rows) wide.1 (λ none. absurd (cc))
@@ -115,13 +122,14 @@ last_pushed tree (e ∷ next ∷ done) row = last_pushed tree (next ∷ done) ro
 
 -- rows that have the tree's columns compare with a key as their keys do
 compare_keys : (tree : Tree) (done : List Row) (row : Row) → AreWide tree done
-    → length row ≡ width tree
+    → length row ≡ width tree (length row)
     → AllByRecursion (λ e. row_cmp (key_in tree e) (key_in tree row) ≡ Less) done
     → AllByRecursion (λ e. prefix_cmp plain e (key_in tree row) ≡ Less) done
 compare_keys tree [] row wide long below = tt
 compare_keys tree (e ∷ done) row wide long below =
-    let few = within tree in
-    let its = wide.0 in (
+    let few = within tree (length e) in
+    let others = within tree (length row) in
+    let its : length e ≡ width tree (length e) = wide.0 in (
       prefix_is (key_width tree) e (key_in tree row) (omega arith)
           (length-take-le (key_width tree) row (omega arith)) ∙ below.0,
       compare_keys tree done row wide.1 long below.1,
@@ -136,16 +144,16 @@ each_below tree [] row below = tt
 each_below tree (e ∷ done) row below = ((below.0, tt), each_below tree done row below.1)
 
 module _ (tree : Tree) (key row : Row) (rows done : List Row) (so_far : HasWalked tree key rows done)
-    (there : IsFirst (rows_past key rows) row true) (long : length row ≡ width tree)
+    (there : IsFirst (rows_past key rows) row true) (long : length row ≡ width tree (length row))
     (after : key ≢ [] → is_gt (prefix_cmp plain row key) ≡ true) where
   own : length (key_in tree row) ≡ key_width tree
-  own = let few = within tree in length-take-le (key_width tree) row (omega arith)
+  own = let few = within tree (length row) in length-take-le (key_width tree) row (omega arith)
 
   -- the key is above that of the last row
   last_below : done ≢ [] → row_cmp (last_key tree done) (key_in tree row) ≡ Less
   last_below some_done =
       let some_columns = some tree in
-      let few = within tree in
+      let few = within tree (length row) in
       let same : length key ≡ key_width tree =
       ap length so_far.place ∙ last_long tree done so_far.wide some_done in
       let has : key ≢ [] = λ none. absurd (omega (arith, some_columns, sym same ∙ ap length none)) in
@@ -163,7 +171,7 @@ module _ (tree : Tree) (key row : Row) (rows done : List Row) (so_far : HasWalke
   rest_is : rows_past (key_in tree row) rows ≡ there.0
   rest_is =
       let some_columns = some tree in
-      let few = within tree in
+      let few = within tree (length row) in
       past_is (key_in tree row) rows (omega (arith, own, some_columns))
       ∙ ap (λ all. past_key (key_in tree row) (from_key plain (key_in tree row) all)) all_rows
       ∙ ap (past_key (key_in tree row)) (passes (key_in tree row) done (row ∷ there.0)
@@ -178,7 +186,7 @@ module _ (tree : Tree) (key row : Row) (rows done : List Row) (so_far : HasWalke
     place = sym (last_pushed tree done row);
     left = all_rows ∙ sym (append_assoc done (row ∷ []) (rows_past (key_in tree row) rows)
         ∙ ap (λ rest. done ++ row ∷ rest) rest_is);
-    wide = all-append (λ e. length e ≡ width tree) done (row ∷ []) so_far.wide (long, tt);
+    wide = all-append (IsWide tree) done (row ∷ []) so_far.wide (long, tt);
     rising = ascending-append (λ a b. row_cmp (key_in tree a) (key_in tree b) ≡ Less) done (row ∷ [])
         so_far.rising (tt, tt) (each_below tree done row below);
   }

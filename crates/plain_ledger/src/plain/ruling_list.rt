@@ -16,7 +16,7 @@ impl<N: Naming + Drop> PlainBooks<N> {
     ghost use Rattle.plain_ledger.specs.PlainBook.{book_in, naming_in};
 
     /// The choice at a place among the choices, from 0.
-    fn choice_listed(&self, place: u32) -> ListedRuling
+    pub(super) fn choice_listed(&self, place: u32) -> ListedRuling
         requires { place < length (book_in self.now).rulings.choices }
         ensures listed { Some (ruling_shown result)
             ≡ option_map (choice_seen (N.name_of (naming_in self.now)) (place + 1))
@@ -43,7 +43,7 @@ impl<N: Naming + Drop> PlainBooks<N> {
     }
 
     /// The credit at a place among the credits, from 0.
-    fn credit_listed(&self, place: u32) -> Result<ListedRuling, AllocError>
+    pub(super) fn credit_listed(&self, place: u32) -> Result<ListedRuling, AllocError>
         requires { place < length (book_in self.now).rulings.credits }
         ensures listed { IfOk result (λ ruling. Some (ruling_shown ruling)
             ≡ option_map (credit_seen (place + 1))

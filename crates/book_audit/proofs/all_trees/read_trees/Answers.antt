@@ -1,4 +1,4 @@
-use Rattle.std.proofs.Common.{◌≡◌, ◌∙◌, [], List, ap, length, rules, subst, sym}
+use Rattle.std.proofs.Common.{◌≡◌, ◌∙◌, [], ℕ, List, ap, length, rules, subst, sym}
 use Rattle.std.specs.BTreeMap.{values}
 use Rattle.sqlite_trees.specs.Tree.{Trees}
 use Rattle.sqlite_trees.specs.View.{IsClean}
@@ -12,6 +12,7 @@ use Rattle.tree_rows.proofs.Calls.{quiet_both}
 use Rattle.book_audit.specs.Days.{AreDueRows}
 use Rattle.book_audit.specs.Details.{AreDetails}
 use Rattle.book_audit.specs.Entries.{AreCounted}
+use Rattle.book_audit.specs.Journal.{AreEntered}
 use Rattle.book_audit.specs.Lines.{AreLines}
 use Rattle.book_audit.specs.Looks.{IsLook}
 use Rattle.book_audit.specs.Records.{AreRecords, counted_prices}
@@ -28,7 +29,7 @@ pub returns-clause-sound : goal.returns-clause-sound
 returns-clause-sound g c clean =
     let zero = c.args.trees.now.store in
     let one = c.read_rulings.new.trees.store in
-    let two = c.check_records.new.trees.store in
+    let two = c.check_arrivals.new.trees.store in
     let three = c.check_lines.new.trees.store in
     let four = c.check_rows.new.trees.store in
     let five = c.check_details.new.trees.store in
@@ -52,29 +53,35 @@ returns-clause-sound g c clean =
     let rulings : Rulings = c.in_ok-rulings.rulings in
     let held = c.in_ok-held.held in
     let their = c.in_ok-held.ensures.records at_two in
-    let rows : List (RowKey × ChargeRow) = c.check_records.new.places.rows.entries in
+    let rows : List (RowKey × ChargeRow) = c.check_arrivals.new.places.rows.entries in
     let none : c.new-places.result.rows.entries ≡ [] = c.new-places.ensures ∙ keyed_rows-none in
-    let records : AreRecords trees rulings held.records rulings.amount [] rows =
-    subst (λ (all : Trees). AreRecords all rulings held.records rulings.amount [] rows) stay_one
+    let due : List ℕ = their.due in
+    let left : List ℕ = their.left in
+    let records : AreRecords trees rulings held.records rulings.amount [] rows due left =
+    subst (λ (all : Trees). AreRecords all rulings held.records rulings.amount [] rows due left) stay_one
     (subst (λ (old : List (RowKey × ChargeRow)). AreRecords (g.S.Store.view one).trees rulings
-    held.records rulings.amount old rows) none their.records) in
-    let counted : values c.check_records.new.places.rows ≡ rows_of (counted_prices records.entries) =
+    held.records rulings.amount old rows due left) none their.held.records) in
+    let counted : values c.check_arrivals.new.places.rows ≡ rows_of (counted_prices records.entries) =
     rows_counted (counted_prices records.entries) rows (records.placed [] (sym keyed_rows-none)) in
     record {
       rulings = rulings;
       rows = rows;
+      due = due;
+      left = left;
       ruled = c.in_ok-rulings.ensures.ruled at_one;
+      entered = subst (λ (all : Trees). AreEntered all rulings.rule due) stay_one their.entered;
       records = records;
-      held = their.held;
+      there = their.there;
+      held = their.held.held;
       identities = subst (λ (all : Trees). AreCounted Identities (all 6) held.records) stay_one
-          their.identities;
+          their.held.identities;
       marks = subst (λ (all : Trees). AreCounted Marks (all 7) held.records) stay_one
-          their.marks;
+          their.held.marks;
       lines = subst (λ (all : Trees). AreLines all rulings.closes.items c.in_ok-lines.lines) stay_two
           (c.in_ok-lines.ensures.lines at_three);
       days = subst (λ (sums : List ChargeRow). AreDueRows rulings.closes.items sums (trees 4)) counted
           (subst (λ (all : Trees). AreDueRows rulings.closes.items
-          (values c.check_records.new.places.rows) (all 4)) stay_three
+          (values c.check_arrivals.new.places.rows) (all 4)) stay_three
           (c.in_ok-rows.ensures.rows at_four).0);
       rising = subst (λ (all : Trees). AreRising Days (all 4)) stay_three
           (c.in_ok-rows.ensures.rows at_four).1;
@@ -129,13 +136,13 @@ module _ {S : Type 0} (ghosts : Ghosts S) (zero one two three four five : S)
 pub returns-clause-same : goal.returns-clause-same
 returns-clause-same g c =
     (all_looks g.S.Store c.args.trees.now.store c.read_rulings.new.trees.store
-    c.check_records.new.trees.store c.check_lines.new.trees.store c.check_rows.new.trees.store
+    c.check_arrivals.new.trees.store c.check_lines.new.trees.store c.check_rows.new.trees.store
     c.check_details.new.trees.store c.in_ok-rulings.ensures.looks c.in_ok-held.ensures.looks
     c.in_ok-lines.ensures.looks c.in_ok-rows.ensures.looks c.in_ok-check_details.ensures.looks).same
 
 pub returns-clause-quiet : goal.returns-clause-quiet
 returns-clause-quiet g c =
     (all_looks g.S.Store c.args.trees.now.store c.read_rulings.new.trees.store
-    c.check_records.new.trees.store c.check_lines.new.trees.store c.check_rows.new.trees.store
+    c.check_arrivals.new.trees.store c.check_lines.new.trees.store c.check_rows.new.trees.store
     c.check_details.new.trees.store c.in_ok-rulings.ensures.looks c.in_ok-held.ensures.looks
     c.in_ok-lines.ensures.looks c.in_ok-rows.ensures.looks c.in_ok-check_details.ensures.looks).quiet

@@ -1,14 +1,12 @@
-use Rattle.std.proofs.Common.{◌≡◌, ◌∷◌, [], List, ℕ, true, rules, subst}
+use Rattle.std.proofs.Common.{◌≡◌, List, ℕ, true, rules, subst}
 use Rattle.sqlite_trees.specs.Tree.{Trees}
 use Rattle.sqlite_trees.specs.View.{IsClean}
-use Rattle.sqlite_value.specs.declared.value.Value.TheVariants.{Blob}
 use Rattle.book_model.specs.Words.{record_with, detail_with}
 use Rattle.table_model.specs.Words.{RecordRow}
 use Rattle.tree_rows.specs.Calls.{OnlyLooks}
-use Rattle.tree_rows.specs.Rows.{Finds}
-use Rattle.tree_tables.specs.Columns.{record_columns}
 use Rattle.tree_tables.specs.Stored.{stored_entry}
 use Rattle.book_audit.specs.Details.{IsCounted}
+use Rattle.book_audit.specs.Records.{IsHeld}
 use Rattle.book_audit.proofs.Walks.Looks.{looked_on, passed, some_said, stopped_on}
 use Rattle.book_audit.proofs.Walks.Steps.{look_back, trees_stay}
 use Rattle.book_audit.proofs.details.wrong_with.Goals as goal
@@ -22,9 +20,8 @@ returns-clause-counted g c clean none =
     let shown = c.args.shown.now in
     let stored = c.in-Some.record in
     let entry : List ℕ × RecordRow = stored_entry stored in
-    let held : IsClean (g.S.Store.view mid) → Finds (Blob shown.name ∷ []) (trees 3)
-    (record_columns (stored_entry stored)) true =
-    some_said _ _ _ c.in-Some.is c.in_ok-record.ensures.read in
+    let held : IsClean (g.S.Store.view mid) → IsHeld (trees 3) shown.name entry =
+    some_said _ _ _ c.in-Some.is c.in_ok-record.ensures.held in
     let first : OnlyLooks g.S.Store start mid = c.in_ok-record.ensures.looks.same in
     let back : IsClean (g.S.Store.view mid) =
     look_back g.S.Store mid c.is_counted.new.trees.store c.in_ok-is_counted.ensures.looks.same clean in

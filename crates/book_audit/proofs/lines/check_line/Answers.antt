@@ -1,9 +1,7 @@
-use Rattle.std.proofs.Common.{◌≡◌, ◌<◌, ◌≤◌, ◌+◌, ◌∷◌, [], ℤ, List, true, length, arith, rules}
-use Rattle.sqlite_value.specs.declared.value.Value.TheVariants.{Blob}
+use Rattle.std.proofs.Common.{◌≡◌, ◌<◌, ◌≤◌, ◌+◌, ℤ, List, length, arith, rules}
 use Rattle.consistent_tables.specs.DueRows.{period_from}
-use Rattle.tree_rows.specs.Rows.{Finds}
-use Rattle.tree_tables.specs.Columns.{record_columns}
 use Rattle.tree_tables.specs.Stored.{stored_entry}
+use Rattle.book_audit.specs.Records.{IsHeld}
 use Rattle.book_audit.proofs.Walks.Looks.{passed, some_said}
 use Rattle.book_audit.proofs.lines.check_line.Goals as goal
 
@@ -11,9 +9,9 @@ pub returns-clause-late : goal.returns-clause-late
 returns-clause-late g c clean =
     let stored = c.in-Some.record in
     let closes : List ℤ = c.args.rulings.now.closes.items in
-    let held : Finds (Blob c.args.line.now.name ∷ []) ((g.S.Store.view c.args.trees.now.store).trees 3)
-    (record_columns (stored_entry stored)) true =
-    some_said _ _ _ c.in-Some.is c.in_ok-record.ensures.read clean in
+    let held : IsHeld ((g.S.Store.view c.args.trees.now.store).trees 3) c.args.line.now.name
+    (stored_entry stored) =
+    some_said _ _ _ c.in-Some.is c.in_ok-record.ensures.held clean in
     let own : c.period_of-own.result ≡ period_from 1 closes stored.priced.day = search rules in
     let after : c.period_of-own.result < c.args.line.now.period = search rules in
     let begun : c.args.line.now.period ≤ length closes + 1 = search rules in

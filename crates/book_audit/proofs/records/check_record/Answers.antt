@@ -36,7 +36,7 @@ returns-clause-right g c clean =
       marked = c.in_ok-counted.ensures.marked back;
     } in
     subst (λ (is : Bool). IsChecked trees rulings c.args.places.now.rows.entries
-    c.count.new.self.rows.entries (entry, is)) (sym yes) (record {
+    c.count.new.self.rows.entries entry is) (sym yes) (record {
       right = right;
       past = record {
         past = subst (HasPast (trees 5) rulings.closes.items entry) yes

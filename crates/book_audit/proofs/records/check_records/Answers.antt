@@ -1,4 +1,4 @@
-use Rattle.std.proofs.Common.{◌≡◌, List, rules, subst}
+use Rattle.std.proofs.Common.{◌≡◌, ℕ, List, rules, subst}
 use Rattle.sqlite_trees.specs.Tree.{Trees}
 use Rattle.sqlite_trees.specs.View.{IsClean}
 use Rattle.book_model.specs.declared.row.ChargeRow.{ChargeRow}
@@ -27,11 +27,13 @@ returns-clause-records g c clean =
     let both : IsLook g.S.Store start next = looked_on g.S.Store start mid next first second in
     let at : IsClean (g.S.Store.view next) = look_back g.S.Store next new third.same clean in
     let back : IsClean (g.S.Store.view mid) = look_back g.S.Store mid next second.same at in
+    let due : List ℕ = c.args.due.now.left.items in
+    let left : List ℕ = c.read_records.new.due.left.items in
     let amount : held.amount ≡ c.args.rulings.now.amount = search rules in
     let count : held.records ≡ c.args.rulings.now.held = search rules in
     record {
       records = subst (λ n. AreRecords (g.S.Store.view start).trees c.args.rulings.now held.records n
-          old rows) amount (c.in_ok-held.ensures.records back);
+          old rows due left) amount (c.in_ok-held.ensures.records back);
       held = count;
       identities = subst (λ (all : Trees). AreCounted Identities (all 6) held.records)
           (trees_stay g.S.Store start mid first.same back) (c.in_ok-check_entries.ensures.counted at);

@@ -2,21 +2,20 @@ use Rattle.std.proofs.Common.{◌≡◌, ◌+◌, ◌∙◌, ◌++◌, ◌∷◌
 use Rattle.sqlite_trees.specs.Tree.{Trees}
 use Rattle.sqlite_trees.specs.View.{IsClean}
 use Rattle.sqlite_value.specs.Order.{Row}
-use Rattle.tree_tables.specs.Columns.{record_columns}
 use Rattle.tree_tables.specs.Stored.{stored_entry}
 use Rattle.book_audit.specs.Looks.{IsLook}
-use Rattle.book_audit.specs.Records.{IsRight, IsTold, Told}
+use Rattle.book_audit.specs.Records.{IsRight, TellsRight, Told, told_row}
 use Rattle.book_audit.specs.Walks.{AreRising, HasWalked}
 use Rattle.book_audit.specs.declared.finding.Tree.TheVariants.{Records}
 use Rattle.book_audit.proofs.Rows.Records.{counts_none, counts_on, entries_pushed, none_yet}
-use Rattle.book_audit.proofs.Rows.Records.{row_pushed}
+use Rattle.book_audit.proofs.Rows.Records.{row_pushed, takes_none, takes_on}
 use Rattle.book_audit.proofs.Walks.Looks.{looked_on, nothing, passed, stopped_on}
 use Rattle.book_audit.proofs.Walks.Steps.{look_back, read_all, read_on, trees_stay}
 use Rattle.book_audit.proofs.records.read_records.Goals as goal
 
 -- the rows of records
 abbrev rows_of : List Told → List Row
-rows_of entries = map (λ (one : Told). record_columns one.0) entries
+rows_of entries = map told_row entries
 
 pub records-init : goal.records-init
 records-init g c = record {
@@ -27,6 +26,7 @@ records-init g c = record {
     c.begin.ensures.start ((g.S.Store.view c.args.trees.now.store).trees 3),
     none_yet (g.S.Store.view c.args.trees.now.store).trees c.args.rulings.now,
     counts_none c.args.places.now.rows.entries,
+    takes_none c.args.due.now.left.items,
   );
 }
 
@@ -38,8 +38,9 @@ records-preserved g c =
     let new = c.check_record.new.trees.store in
     let so_far = c.records.invariant in
     let row : Row = c.next.new.self.row in
-    let told : Told = (stored_entry c.in-Ok.record, c.in_ok-check_record.field-0) in
-    let is : row ≡ record_columns told.0 = sym c.row.ensures ∙ c.in-Ok.ensures.read in
+    let one = c.in-Ok.one in
+    let told : Told = (stored_entry one.record, c.in_ok-check_record.field-0, one.came) in
+    let is : row ≡ told_row told = sym c.row.ensures ∙ c.in-Ok.ensures.read in
     let call : IsLook g.S.Store mid next = c.in_ok-next.ensures.looks in
     let check : IsLook g.S.Store next new = c.in_ok-check_record.ensures.looks in
     let both : IsLook g.S.Store start next = looked_on g.S.Store start mid next so_far.looks call in
@@ -53,8 +54,9 @@ records-preserved g c =
           let checked = c.in_ok-check_record.ensures.right clean in
           let right : IsRight (g.S.Store.view start).trees c.args.rulings.now told.0 =
           subst (λ (all : Trees). IsRight all c.args.rulings.now told.0) stay checked.right in
-          let past : IsTold (g.S.Store.view start).trees c.args.rulings.now.closes.items told =
-          subst (λ (all : Trees). IsTold all c.args.rulings.now.closes.items told) stay checked.past in (
+          let past : TellsRight (g.S.Store.view start).trees c.args.rulings.now.closes.items told =
+          subst (λ (all : Trees). TellsRight all c.args.rulings.now.closes.items told) stay
+          checked.past in (
             read.0 ++ told ∷ [],
             subst (HasWalked Records c.next.new.self.key ((g.S.Store.view start).trees 3))
                 (row_pushed read.0 told row is)
@@ -67,6 +69,8 @@ records-preserved g c =
                 past (search rules) (search rules),
             counts_on c.args.places.now.rows.entries c.records.places.rows.entries
                 c.check_record.new.places.rows.entries read.0 told read.3 checked.placed,
+            takes_on c.args.due.now.left.items c.records.due.left.items
+                c.check_came.new.due.left.items read.0 told read.4 c.in_ok-check_came.ensures,
           );
     }
 
@@ -91,6 +95,7 @@ returns-then-not-branch-clause-records g c clean =
       are = read.2;
       few = omega (arith, inside);
       placed = read.3;
+      came = read.4;
     }
 
 pub returns-in_err-next-clause-looks : goal.returns-in_err-next-clause-looks
@@ -122,8 +127,19 @@ returns-in_err-check_record-clause-looks g c =
     (looked_on g.S.Store start mid next c.records.invariant.looks c.in_ok-next.ensures.looks)
     c.in_err-check_record.ensures.looks)
 
-pub returns-then-record-gt-MAX_COST-clause-looks : goal.returns-then-record-gt-MAX_COST-clause-looks
-returns-then-record-gt-MAX_COST-clause-looks g c =
+pub returns-in_err-check_came-clause-looks : goal.returns-in_err-check_came-clause-looks
+returns-in_err-check_came-clause-looks g c =
+    let start = c.args.trees.now.store in
+    let mid = c.records.trees.store in
+    let next = c.next.new.trees.store in
+    let new = c.check_record.new.trees.store in
+    passed g.S.Store start new _ c.from_residual-in_err-check_came.ensures.0
+    (looked_on g.S.Store start next new
+    (looked_on g.S.Store start mid next c.records.invariant.looks c.in_ok-next.ensures.looks)
+    c.in_ok-check_record.ensures.looks).quiet
+
+pub returns-then-cost-gt-MAX_COST-clause-looks : goal.returns-then-cost-gt-MAX_COST-clause-looks
+returns-then-cost-gt-MAX_COST-clause-looks g c =
     let start = c.args.trees.now.store in
     let mid = c.records.trees.store in
     let next = c.next.new.trees.store in

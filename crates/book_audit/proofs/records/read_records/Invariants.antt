@@ -1,7 +1,6 @@
 use Rattle.std.proofs.Common.{◌≡◌, List, map}
 use Rattle.sqlite_trees.specs.View.{IsClean}
-use Rattle.tree_tables.specs.Columns.{record_columns}
-use Rattle.book_audit.specs.Records.{AreEntries, Counts, Told, counted_prices}
+use Rattle.book_audit.specs.Records.{AreEntries, Counts, Takes, Told, counted_prices, told_row}
 use Rattle.book_audit.specs.Looks.{IsLook}
 use Rattle.book_audit.specs.Walks.{HasWalked}
 use Rattle.book_audit.specs.declared.finding.Tree.TheVariants.{Records}
@@ -14,7 +13,8 @@ invariant-records g l = record {
   looks : IsLook g.S.Store l.fn.trees.store l.trees.store;
   read : IsClean (g.S.Store.view l.trees.store) → (entries : List Told)
       × HasWalked Records l.walk.key ((g.S.Store.view l.fn.trees.store).trees 3)
-      (map (λ told. record_columns told.0) entries)
+      (map told_row entries)
       × AreEntries (g.S.Store.view l.fn.trees.store).trees l.rulings l.records l.amount entries
-      × Counts l.fn.places.rows.entries l.places.rows.entries (counted_prices entries);
+      × Counts l.fn.places.rows.entries l.places.rows.entries (counted_prices entries)
+      × Takes l.fn.due.left.items l.due.left.items entries;
 }

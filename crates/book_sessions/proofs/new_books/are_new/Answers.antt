@@ -13,8 +13,9 @@ returns-clause-looks g c =
     let ended : c.len-2.result ≡ length closes.items = c.len-2.ensures ∙ closes.ok.0 in
     let given : c.len-3.result ≡ length credits.items = c.len-3.ensures ∙ credits.ok.0 in
     looks_unused c.in_ok-book.ensures.looks c.in_ok-tariffs.ensures.looks
-    c.in_ok-closes.ensures.looks c.in_ok-credits.ensures.looks
-    (λ tables finds texts days sums. says_unused tables found c.in-Some.book tariffs.items
-    closes.items credits.items c.is_unused.result c.in-Some.is finds texts days sums
-    (c.is_unused.ensures ∙ (λ i. unused_by (many i) (ended i) (given i) c.in-Some.book.held
-    c.in-Some.book.adopted)))
+    c.in_ok-closes.ensures.looks c.in_ok-credits.ensures.looks c.in_ok-entries.ensures.looks
+    (λ tables finds texts days sums last. says_unused tables found c.in-Some.book tariffs.items
+    closes.items credits.items c.in_ok-entries.entries c.is_unused.result c.in-Some.is finds texts
+    days sums last
+    (c.is_unused.ensures ∙ (λ i. unused_by (many i) (ended i) (given i) c.in_ok-entries.entries
+    c.in-Some.book.held c.in-Some.book.adopted)))

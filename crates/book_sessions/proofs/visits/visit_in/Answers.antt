@@ -17,7 +17,7 @@ returns-in-Ok-clause-left g c = λ book stands clean trees left.
     subst (λ store. IsClean (g.S.Store.view store)) same clean in
     let first = work.honest still in
     let at = stands (clean_before _ _ c.in-Ok.ensures.crash.clean first) in
-    let opened = c.in-Ok.ensures.books first book at.kept.readable
+    let opened = c.in-Ok.ensures.books first book at.kept.readable at.kept.journaled
     (record { holds = at.kept.holds; rest = at.rest }) in
     visit_leaves file_names (g.S.Store.view after.tables.store)
     (g.S.Store.recovers after.tables.store) after.must_reopen after.summary

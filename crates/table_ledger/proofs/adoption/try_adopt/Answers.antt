@@ -1,4 +1,5 @@
 use Rattle.std.proofs.Common.{◌∙◌, refl, sym}
+use Rattle.book_model.specs.Words.{note_given}
 use Rattle.table_ledger.proofs.AdoptTries.{adopt_is_event}
 use Rattle.table_ledger.proofs.CommitLemmas.{committed, uncommitted}
 use Rattle.table_ledger.proofs.StageLemmas.{stage_steps}
@@ -14,7 +15,7 @@ returns-in_err-commit_written g c = record {
       ∙ c.is_done.ensures.done c.if-not-is_done.false in
       uncommitted g.S.Store _ _ c.from_residual.ensures.0
       (stage_steps _ saw_none c.write_adoption-written.ensures
-      (λ book at known. adopt_is_event c.args.summary.now c.args.rule done
+      (λ book at known. adopt_is_event (note_given c.args.note.now) c.args.summary.now c.args.rule done
       c.open_number-period.result c.last_close.result c.open_number-period.ensures.number
       c.last_close.ensures book at))
       c.in_err-commit_written.ensures (λ book same. same);
@@ -29,7 +30,7 @@ returns g c = record {
       ∙ c.is_done.ensures.done c.if-not-is_done.false in
       committed g.S.Store
       (stage_steps _ saw_none c.write_adoption-written.ensures
-      (λ book at known. adopt_is_event c.args.summary.now c.args.rule done
+      (λ book at known. adopt_is_event (note_given c.args.note.now) c.args.summary.now c.args.rule done
       c.open_number-period.result c.last_close.result c.open_number-period.ensures.number
       c.last_close.ensures book at))
       c.in_ok-commit_written.ensures

@@ -1,5 +1,5 @@
 use Rattle.std.proofs.Common.{◌∙◌, Some, refl, sym, ap}
-use Rattle.book_model.specs.Words.{PeriodClosed, close_answer, if_done, with_close}
+use Rattle.book_model.specs.Words.{PeriodClosed, close_answer, if_done, note_given, with_close}
 use Rattle.book_core.specs.OfficeRulings.{ruled_in}
 use Rattle.book_core.proofs.OpenAnswers.{close_open}
 use Rattle.table_ledger.proofs.Answering.{ruled_other}
@@ -21,7 +21,8 @@ returns-then-not-is_done g c = record {
       (c.is_done.ensures.other c.if-not-is_done.true) saw_none
       (λ book at known.
       ap (λ rulings. close_answer rulings close.period close.through) (sym at.remembers.rulings))
-      (λ book already. ap (if_done (Some (PeriodClosed close.through))) already);
+      (λ book already.
+      ap (if_done (Some (PeriodClosed (note_given c.args.note.now) close.through))) already);
 }
 
 pub returns-in_err-commit_written : goal.returns-in_err-commit_written
@@ -33,8 +34,8 @@ returns-in_err-commit_written g c = record {
       let done = sym is ∙ c.is_done.ensures.done c.if-not-is_done.false in
       uncommitted g.S.Store _ _ c.from_residual-in_err-commit_written.ensures.0
       (stage_steps _ saw_none c.write_close-written.ensures
-      (λ book at known. close_is_event c.args.summary.now close.period close.through
-      c.last_close-last.result c.requires.day done c.last_close-last.ensures book at))
+      (λ book at known. close_is_event (note_given c.args.note.now) c.args.summary.now close.period
+      close.through c.last_close-last.result c.requires.day done c.last_close-last.ensures book at))
       c.in_err-commit_written.ensures
       (remembers_same c.in_ok-reserve_close.ensures.same refl refl refl refl refl);
 }
@@ -49,8 +50,8 @@ returns g c = record {
       let done = sym is ∙ c.is_done.ensures.done c.if-not-is_done.false in
       committed g.S.Store
       (stage_steps _ saw_none c.write_close-written.ensures
-      (λ book at known. close_is_event c.args.summary.now close.period close.through
-      c.last_close-last.result c.requires.day done c.last_close-last.ensures book at))
+      (λ book at known. close_is_event (note_given c.args.note.now) c.args.summary.now close.period
+      close.through c.last_close-last.result c.requires.day done c.last_close-last.ensures book at))
       c.in_ok-commit_written.ensures (record {
         rulings = c.put_close.ensures
             ∙ (λ i. with_close (day i) (c.in_ok-reserve_close.ensures.same i));

@@ -1,5 +1,5 @@
 use Rattle.std.proofs.Common.{◌∙◌, Some, ap, nat_le, refl, sym}
-use Rattle.book_model.specs.Words.{CreditGiven, RulingGiven, if_done, most_credits}
+use Rattle.book_model.specs.Words.{CreditGiven, RulingGiven, if_done, most_credits, note_given}
 use Rattle.book_core.specs.Words.{ruled_in}
 use Rattle.book_core.proofs.OpenAnswers.{credit_open}
 use Rattle.table_ledger.proofs.Answering.{ruled_other}
@@ -23,8 +23,8 @@ returns-then-not-is_done g c = record {
       (saw_found c.in_ok-given.ensures.looks)
       (λ book at known. credit_told summary credit book at known)
       (λ book already.
-      ap (if_done (Some (RulingGiven (CreditGiven credit.centre credit.amount credit.reason.now))))
-      already);
+      ap (if_done (Some (RulingGiven (note_given c.args.note.now)
+      (CreditGiven credit.centre credit.amount credit.reason.now)))) already);
 }
 
 -- the commit is refused
@@ -35,9 +35,9 @@ returns-in_err-commit_written g c = record {
       let done = sym c.answer_to-answer.ensures.answer
       ∙ c.is_done.ensures.done c.if-not-is_done.false in
       uncommitted g.S.Store _ _ c.from_residual-in_err-commit_written.ensures.0
-      (stage_steps _ (saw_found c.in_ok-given.ensures.looks) c.put_credit-written.ensures.does
+      (stage_steps _ (saw_found c.in_ok-given.ensures.looks) c.write_credit-written.ensures
       (λ book at known. credit_is_event c.args.summary.now c.args.credit.now book at known
-      c.requires done))
+      (note_given c.args.note.now) c.requires done))
       c.in_err-commit_written.ensures (λ book same. same);
 }
 
@@ -49,9 +49,9 @@ returns g c = record {
       let done = sym c.answer_to-answer.ensures.answer
       ∙ c.is_done.ensures.done c.if-not-is_done.false in
       committed g.S.Store
-      (stage_steps _ (saw_found c.in_ok-given.ensures.looks) c.put_credit-written.ensures.does
+      (stage_steps _ (saw_found c.in_ok-given.ensures.looks) c.write_credit-written.ensures
       (λ book at known. credit_is_event c.args.summary.now c.args.credit.now book at known
-      c.requires done))
+      (note_given c.args.note.now) c.requires done))
       c.in_ok-commit_written.ensures
       (record {
         rulings = refl;

@@ -9,10 +9,10 @@ use Rattle.table_ledger.proofs.other_prices.add_counted.Goals as goal
 -- a record that is not counted leaves them
 pub returns-then-not-counts : goal.returns-then-not-counts
 returns-then-not-counts c = record {
-  counted = λ passed entry is are.
+  counted = λ passed came entry is are.
       subst (AreSumsOf c.args.sums.now)
       (sym (costs_same c.args.tariff.now c.args.test.now passed entry
-      (ap (passes_mark c.args.test.now) (sym (c.in_ok-mark.ensures.read entry is))
+      (ap (passes_mark c.args.test.now) (sym (c.in_ok-mark.ensures.read came entry is))
       ∙ sym c.counts.ensures ∙ c.if-not-counts.true))) are;
 }
 
@@ -25,13 +25,13 @@ returns c = record {
       let more = c.add.new.self in
       IfOk-weaker c.add.result (λ room. (costs : Costs) → AreSumsOf c.args.sums.now costs
       → SumsUp more (costs ++ c.price.result ∷ []) room) _
-      (λ room adds passed entry is are.
-      let counted = ap (passes_mark test) (sym (c.in_ok-mark.ensures.read entry is))
+      (λ room adds passed came entry is are.
+      let counted = ap (passes_mark test) (sym (c.in_ok-mark.ensures.read came entry is))
       ∙ sym c.counts.ensures ∙ c.if-not-counts.false in
       let price : c.price.result ≡ price_by terms (row_record entry.1) =
       c.price.ensures.value
       ∙ ap (price_by terms) (c.in_ok-usage_in.ensures.value ∙ c.deref.ensures.value
-      ∙ c.in_ok-put_data.ensures.bytes ∙ ap record_with (c.in_ok-data_of.ensures.read entry is)) in
+      ∙ c.in_ok-put_data.ensures.bytes ∙ ap record_with (c.in_ok-data_of.ensures.read came entry is)) in
       subst (λ costs. SumsUp more costs room)
       (ap (λ (one : Priced). costs_of terms test passed ++ one ∷ []) price
       ∙ sym (costs_more terms test passed entry counted))

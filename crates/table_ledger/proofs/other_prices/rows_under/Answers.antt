@@ -30,9 +30,9 @@ returns-then-not-room g c = record {
       looks_known (saw_then c.records.invariant.seen
       (saw_found (rw c.if-not-there.false at c.in_ok-there.ensures.looks)))
       (λ tables known. passed_dear terms test old new c.records.sums c.records._steps tables
-      c.next_record.new.row known.0 known.1 more (λ passed one is are.
+      c.next_record.new.row known.0 known.1 more (λ passed came one is are.
       subst (SumsUp more (costs_of terms test (passed ++ one ∷ [])))
-      c.if-not-room.true (c.in_ok-room.ensures.counted passed one is are)));
+      c.if-not-room.true (c.in_ok-room.ensures.counted passed came one is are)));
 }
 
 -- the pass goes on
@@ -48,9 +48,9 @@ records-preserved g c =
       seen = saw_so (saw_then c.records.invariant.seen
           (saw_found (rw c.if-not-there.false at c.in_ok-there.ensures.looks)))
           (λ tables known. passed_on terms test old new c.records.sums c.records._steps tables
-          c.next_record.new.row known.0 known.1 more (λ passed one is are.
+          c.next_record.new.row known.0 known.1 more (λ passed came one is are.
           subst (SumsUp more (costs_of terms test (passed ++ one ∷ [])))
-          c.if-not-room.false (c.in_ok-room.ensures.counted passed one is are)));
+          c.if-not-room.false (c.in_ok-room.ensures.counted passed came one is are)));
     }
 
 -- ---- a look that fails leaves all as it was

@@ -1,6 +1,6 @@
 use Rattle.std.proofs.Common.{◌≡◌, ◌∙◌, Some, ap, false, refl, subst, sym}
 use Rattle.book_model.specs.Words.{IsDay, Terms, has_text, is_after, is_effective, last_close}
-use Rattle.book_model.specs.Words.{Rulings, open_by, replace_outcome}
+use Rattle.book_model.specs.Words.{Rulings, note_given, open_by, replace_outcome}
 use Rattle.book_model.proofs.Std.{list_any}
 use Rattle.book_model.proofs.TestLemmas.{replace_tests}
 use Rattle.book_core.specs.Words.{in_its_place, ruled_in}
@@ -27,8 +27,8 @@ returns-then-has_most g c = record {
       λ naming.
       let text = c.args.text.now in
       try_answered _ saw_none (record { stored = refl; served = refl })
-      (λ book at known. makes_refused (λ (ruled : Ruled). ruled) (replace_outcome text book) Full
-      (replace_most c.args.summary.now text c.args.tariff c.requires.said naming _ book at
+      (λ book at known. makes_refused (λ (ruled : Ruled). ruled) (replace_outcome (note_given c.args.note.now) text book) Full
+      (replace_most (note_given c.args.note.now) c.args.summary.now text c.args.tariff c.requires.said naming _ book at
       c.requires.done (sym c.has_most.ensures.full ∙ c.if-has_most.true)));
 }
 
@@ -40,8 +40,8 @@ returns-in_default g c = record {
       let text = c.args.text.now in
       try_answered _ (saw_found (rw c.in_default.is at c.in_ok-amount.ensures.looks))
       (record { stored = refl; served = refl })
-      (λ book at known. makes_refused (λ (ruled : Ruled). ruled) (replace_outcome text book) Full
-      (replace_full c.args.summary.now text c.args.tariff c.requires.said naming _ book at
+      (λ book at known. makes_refused (λ (ruled : Ruled). ruled) (replace_outcome (note_given c.args.note.now) text book) Full
+      (replace_full (note_given c.args.note.now) c.args.summary.now text c.args.tariff c.requires.said naming _ book at
       c.requires.done c.tariffs.result.now c.tariffs.ensures known));
 }
 
@@ -61,7 +61,7 @@ returns-in_err-commit_written g c = record {
       uncommitted g.S.Store _ _ c.from_residual-in_err-commit_written.ensures.0
       (stage_steps _ (saw_found (rw c.in-Some.is at c.in_ok-amount.ensures.looks))
       (rw again at c.write_replacement-written.ensures)
-      (λ book at known. replace_is_event c.args.summary.now c.args.text.now c.args.tariff
+      (λ book at known. replace_is_event (note_given c.args.note.now) c.args.summary.now c.args.text.now c.args.tariff
       c.requires.said naming _ book at c.requires.done c.tariffs.result.now c.tariffs.ensures
       (sym c.has_most.ensures.full ∙ c.if-has_most.false) c.in-Some.amount known c.utf8.text day
       c.open_number.result (c.open_number.ensures.number ∙ ap open_by same)
@@ -86,7 +86,7 @@ returns g c = record {
       committed g.S.Store
       (stage_steps _ (saw_found (rw c.in-Some.is at c.in_ok-amount.ensures.looks))
       (rw again at c.write_replacement-written.ensures)
-      (λ book at known. replace_is_event c.args.summary.now c.args.text.now terms
+      (λ book at known. replace_is_event (note_given c.args.note.now) c.args.summary.now c.args.text.now terms
       c.requires.said naming _ book at c.requires.done c.tariffs.result.now c.tariffs.ensures
       (sym c.has_most.ensures.full ∙ c.if-has_most.false) c.in-Some.amount known c.utf8.text day
       c.open_number.result (c.open_number.ensures.number ∙ ap open_by same)

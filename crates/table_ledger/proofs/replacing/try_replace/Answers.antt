@@ -1,5 +1,5 @@
 use Rattle.std.proofs.Common.{◌≢◌, ◌∙◌, Ok, ap, false}
-use Rattle.book_model.specs.Words.{if_done, terms_in}
+use Rattle.book_model.specs.Words.{if_done, note_given, terms_in}
 use Rattle.book_core.proofs.OpenAnswers.{replaced_open}
 use Rattle.book_core.proofs.RulingLemmas.{replaced_by}
 use Rattle.book_core.specs.Words.{ruled_in}
@@ -12,7 +12,7 @@ use Rattle.table_ledger.proofs.replacing.try_replace.Goals as goal
 -- the text is no tariff
 pub returns-in-Err : goal.returns-in-Err
 returns-in-Err g c = record {
-  tries = λ naming. no_replacement c.args.text.now c.in-Err.fault c.in-Err.ensures.refused;
+  tries = λ naming. no_replacement (note_given c.args.note.now) c.args.text.now c.in-Err.fault c.in-Err.ensures.refused;
 }
 
 -- the answer is not Done
@@ -29,6 +29,6 @@ returns-then-not-is_done g c = record {
       c.is_done.ensures.other c.if-not-is_done.true in
       ruled_other _ is (replaced_open (ruled_in summary.rulings) false text terms) other saw_none
       (λ book at known.
-      replace_other summary text terms said naming _ book at (λ done. other (is ∙ done)))
-      (λ book already. ap (if_done (replaced_by text (terms_in text))) already);
+      replace_other (note_given c.args.note.now) summary text terms said naming _ book at (λ done. other (is ∙ done)))
+      (λ book already. ap (if_done (replaced_by (note_given c.args.note.now) text (terms_in text))) already);
 }

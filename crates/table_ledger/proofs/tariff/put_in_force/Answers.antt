@@ -1,5 +1,5 @@
 use Rattle.std.proofs.Common.{◌≡◌, ◌∙◌, refl, subst, Some}
-use Rattle.book_model.specs.Words.{IsDay, Terms, tariff_outcome, with_tariff}
+use Rattle.book_model.specs.Words.{IsDay, Terms, note_given, tariff_outcome, with_tariff}
 use Rattle.tree_rows.proofs.Calls.{kept_same}
 use Rattle.table_ledger.proofs.Answering.{makes_refused}
 use Rattle.table_ledger.proofs.CommitLemmas.{committed, uncommitted}
@@ -25,8 +25,8 @@ returns-in_default g c = record {
       try_answered _ (saw_then (saw_found c.in_ok-many.ensures)
       (saw_found (rw c.in_default.is at c.in_ok-amount.ensures.looks)))
       (record { stored = refl; served = refl })
-      (λ book at known. makes_refused (λ (ruled : Ruled). ruled) (tariff_outcome text book) Full
-      (tariff_full c.args.summary.now text c.args.tariff c.requires.said naming _ book at
+      (λ book at known. makes_refused (λ (ruled : Ruled). ruled) (tariff_outcome (note_given c.args.note.now) text book) Full
+      (tariff_full (note_given c.args.note.now) c.args.summary.now text c.args.tariff c.requires.said naming _ book at
       c.requires.done known.1));
 }
 
@@ -40,7 +40,7 @@ returns-in_err-commit_written g c = record {
       (stage_steps _ (saw_then (saw_found c.in_ok-many.ensures)
       (saw_found (rw c.in-Some.is at c.in_ok-amount.ensures.looks)))
       c.write_tariff-written.ensures
-      (λ book at known. tariff_is_event c.args.summary.now c.args.text.now c.args.tariff
+      (λ book at known. tariff_is_event (note_given c.args.note.now) c.args.summary.now c.args.text.now c.args.tariff
       c.requires.said naming _ book at c.requires.done c.in-Some.amount known.1 c.utf8.text day
       c.open_number-period.result c.open_number-period.ensures.number))
       c.in_err-commit_written.ensures
@@ -58,7 +58,7 @@ returns g c = record {
       (stage_steps _ (saw_then (saw_found c.in_ok-many.ensures)
       (saw_found (rw c.in-Some.is at c.in_ok-amount.ensures.looks)))
       c.write_tariff-written.ensures
-      (λ book at known. tariff_is_event c.args.summary.now c.args.text.now terms
+      (λ book at known. tariff_is_event (note_given c.args.note.now) c.args.summary.now c.args.text.now terms
       c.requires.said naming _ book at c.requires.done c.in-Some.amount known.1 c.utf8.text day
       c.open_number-period.result c.open_number-period.ensures.number))
       c.in_ok-commit_written.ensures (record {

@@ -1,5 +1,5 @@
 use Rattle.std.proofs.Common.{◌≢◌, ◌∙◌, Ok, ap, false}
-use Rattle.book_model.specs.Words.{if_done, terms_in}
+use Rattle.book_model.specs.Words.{if_done, note_given, terms_in}
 use Rattle.book_core.proofs.OpenAnswers.{terms_open}
 use Rattle.book_core.proofs.RulingLemmas.{said_by}
 use Rattle.book_core.specs.Words.{ruled_in}
@@ -22,6 +22,6 @@ returns-then-not-is_done g c = record {
       c.is_done.ensures.other c.if-not-is_done.true in
       ruled_other _ is (terms_open (ruled_in summary.rulings) false text terms) other saw_none
       (λ book at known.
-      tariff_other summary text terms said naming _ book at (λ done. other (is ∙ done)))
-      (λ book already. ap (if_done (said_by text (terms_in text))) already);
+      tariff_other (note_given c.args.note.now) summary text terms said naming _ book at (λ done. other (is ∙ done)))
+      (λ book already. ap (if_done (said_by (note_given c.args.note.now) text (terms_in text))) already);
 }

@@ -10,9 +10,9 @@ use Rattle.table_ledger.proofs.upgrading.add_counted.Goals as goal
 
 -- a record that is not counted does not join
 pub returns-then-not-is_counted : goal.returns-then-not-is_counted
-returns-then-not-is_counted c = λ entry is.
+returns-then-not-is_counted c = λ came entry is.
     let lines = c.args.lines.now in
-    let same = c.in_ok-mark.ensures.read entry is in
+    let same = c.in_ok-mark.ensures.read came entry is in
     let told : c.is_counted.result
     ≡ charged_before_lines (get by_bytes lines entry.0) entry.1.charged =
     c.is_counted.ensures
@@ -23,10 +23,10 @@ returns-then-not-is_counted c = λ entry is.
 
 -- one that is does
 pub returns : goal.returns
-returns c = λ entry is.
+returns c = λ came entry is.
     let lines = c.args.lines.now in
     let olds = c.args.all.now.items in
-    let same = c.in_ok-mark.ensures.read entry is in
+    let same = c.in_ok-mark.ensures.read came entry is in
     let told : c.is_counted.result
     ≡ charged_before_lines (get by_bytes lines entry.0) entry.1.charged =
     c.is_counted.ensures

@@ -1,4 +1,5 @@
 use Rattle.std.proofs.Common.{Ok, subst}
+use Rattle.book_model.specs.Words.{note_given}
 use Rattle.table_ledger.specs.WithheldTogether.{StagesWorks}
 use Rattle.table_ledger.proofs.StageLemmas.{unstaged}
 use Rattle.table_ledger.proofs.WithheldStages.{no_work_staged, works_staged}
@@ -12,7 +13,8 @@ pub returns-then-counts-eq0-clause-stages : goal.returns-then-counts-eq0-clause-
 returns-then-counts-eq0-clause-stages g c =
     λ naming.
     no_work_staged c.in-Err.fault c.if-counts-eq0.true c.requires.some
-    (subst (λ told. StagesWorks naming c.args.names.now c.args.summary.now c.stage_works.new.summary
+    (subst (λ told. StagesWorks naming (note_given c.args.note.now) c.args.names.now
+    c.args.summary.now c.stage_works.new.summary
     (state g.S.Store c.args.tables.now.store) (state g.S.Store c.stage_works.new.tables.store)
     c.stage_works.new.counts (Ok told)) c.in-Err.is (c.in_ok-told.ensures.stages naming))
 

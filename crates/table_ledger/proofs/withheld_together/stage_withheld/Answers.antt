@@ -1,5 +1,6 @@
 use Rattle.std.proofs.Common.{◌∙◌, ap, nat_le, refl, sym}
-use Rattle.book_model.specs.Words.{if_done, most_choices, record_named, withhold_outcome}
+use Rattle.book_model.specs.Words.{if_done, most_choices, note_given, record_named}
+use Rattle.book_model.specs.Words.{withhold_outcome}
 use Rattle.book_core.proofs.RulingLemmas.{withheld_by as meant_by}
 use Rattle.table_ledger.proofs.AcceptTries.{saw_as}
 use Rattle.table_ledger.proofs.Answering.{ruled_staged}
@@ -15,10 +16,11 @@ pub returns-in_default-clause-stages : goal.returns-in_default-clause-stages
 returns-in_default-clause-stages g c =
     λ naming.
     let name = c.args.name in
-    ruled_staged (withhold_outcome naming name) refl (opens refl refl) (λ is. cc)
+    ruled_staged (withhold_outcome naming (note_given c.args.note.now) name) refl (opens refl refl) (λ is. cc)
     (saw_as name c.in_default.is c.in_ok-stored.ensures.looks)
     (λ book at known. withhold_none naming c.args.summary.now name _ book at known)
-    (λ book already. ap (if_done (meant_by (record_named naming book.held name))) already)
+    (λ book already. ap (if_done (meant_by (note_given c.args.note.now) (record_named naming book.held name)))
+    already)
 
 -- the answer is not Done
 pub returns-then-not-is_done-clause-stages : goal.returns-then-not-is_done-clause-stages
@@ -27,13 +29,14 @@ returns-then-not-is_done-clause-stages g c =
     let summary = c.args.summary.now in
     let name = c.args.name in
     let stored = c.in-Some.stored in
-    ruled_staged (withhold_outcome naming name) c.withheld_answer-answer.ensures.answer
+    ruled_staged (withhold_outcome naming (note_given c.args.note.now) name) c.withheld_answer-answer.ensures.answer
     (withheld_plain c.in_ok-withheld.withheld (nat_le most_choices summary.choices))
     (c.is_done.ensures.other c.if-not-is_done.true)
     (saw_withheld name stored c.in-Some.is c.deref.ensures.value c.in_ok-stored.ensures.looks
     c.in_ok-withheld.ensures.looks)
     (λ book at known. withhold_told naming summary name _ book at stored known.0 known.1)
-    (λ book already. ap (if_done (meant_by (record_named naming book.held name))) already)
+    (λ book already. ap (if_done (meant_by (note_given c.args.note.now) (record_named naming book.held name)))
+    already)
 
 -- the work is withheld
 pub returns-clause-stages : goal.returns-clause-stages
@@ -50,7 +53,7 @@ returns-clause-stages g c =
       held = refl;
       total = refl;
     })
-    (withhold_staged naming c.args.summary.now c.args.name c.in-Some.stored c.open_number.result
+    (withhold_staged naming (note_given c.args.note.now) c.args.summary.now c.args.name c.in-Some.stored c.open_number.result
     c.last_close.result c.in-Some.is c.deref.ensures.value c.in_ok-stored.ensures.looks
     c.in_ok-withheld.ensures.looks c.in_ok-withdrawn.ensures.looks c.in_ok-write_none.ensures
     tests c.open_number.ensures.number c.last_close.ensures)

@@ -1,4 +1,5 @@
 use Rattle.std.proofs.Common.{◌≡◌, ◌∙◌, ◌≤◌, ◌+◌, [], ap, arith, drop, refl, subst, sym}
+use Rattle.book_model.specs.Words.{note_given}
 use Rattle.book_core.specs.Withholdings.{with_answer}
 use Rattle.book_core.specs.declared.withheld.Withheld.{Withheld}
 use Rattle.table_ledger.proofs.SurvivalLemmas.{survives_none, survives_then}
@@ -14,7 +15,8 @@ loop-name-init g c = record {
   count = ap (λ (counts : Withheld). counts.taken) c.requires.none;
   within = subst (λ (counts : Withheld). counts.done + counts.absent ≤ counts.taken)
       (sym c.requires.none) (omega arith);
-  taken = λ naming clean book at. none_taken naming c.args.names.now at c.requires.none;
+  taken = λ naming clean book at.
+      none_taken naming (note_given c.args.note.now) c.args.names.now at c.requires.none;
 }
 
 pub with_answer-requires-clause-few : goal.with_answer-requires-clause-few
@@ -43,7 +45,7 @@ loop-name-preserved g c =
       count = ap (λ (counts : Withheld). counts.taken) counts ∙ ap (λ n. n + 1) before.count;
       within = c.with_answer.ensures.within;
       taken = λ naming clean book at.
-          subst (AreWithheld naming c.args.names.now (drop (c.loop-name.name-index + 1) c.args.names.now)
+          subst (AreWithheld naming (note_given c.args.note.now) c.args.names.now (drop (c.loop-name.name-index + 1) c.args.names.now)
           c.stage_withheld.new.summary (g.S.Store.view c.args.tables.now.store)
           (g.S.Store.view c.stage_withheld.new.tables.store) book) (sym counts)
           (work_taken c.args.names.now c.loop-name.name-index [] c.loop-name-test.true

@@ -1,5 +1,5 @@
 use Rattle.std.proofs.Common.{◌≡◌, ◌≤◌, ◌+◌, drop}
-use Rattle.book_model.specs.Words.{Book, Naming}
+use Rattle.book_model.specs.Words.{Book, Naming, note_given}
 use Rattle.table_ledger.proofs.Words.{HasCleanDisk, IsAt, Survives, Trees, state}
 use Rattle.table_ledger.specs.WithheldTogether.{KeepsButChoices}
 use Rattle.table_ledger.proofs.WithheldStages.{AreWithheld}
@@ -15,6 +15,6 @@ invariant-loop-name g l = record {
   within : l.counts.done + l.counts.absent ≤ l.counts.taken;
   taken : (naming : Naming) → HasCleanDisk (state g.S.Store l.tables.store) → (book : Book)
       → IsAt naming l.initial.summary (g.S.Store.view l.initial.tables.store) book
-      → AreWithheld naming l.names (drop l.name-index l.names) l.summary
+      → AreWithheld naming (note_given l.note) l.names (drop l.name-index l.names) l.summary
       (g.S.Store.view l.initial.tables.store) (g.S.Store.view l.tables.store) book l.counts;
 }

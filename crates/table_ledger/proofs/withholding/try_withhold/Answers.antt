@@ -1,5 +1,5 @@
 use Rattle.std.proofs.Common.{◌∙◌, ap, nat_le, refl, sym}
-use Rattle.book_model.specs.Words.{if_done, most_choices, record_named}
+use Rattle.book_model.specs.Words.{if_done, most_choices, note_given, record_named}
 use Rattle.book_core.proofs.RulingLemmas.{withheld_by as meant_by}
 use Rattle.table_ledger.proofs.AcceptTries.{saw_as}
 use Rattle.table_ledger.proofs.Answering.{ruled_other}
@@ -19,7 +19,8 @@ returns-in_default g c = record {
       ruled_other _ refl (opens refl refl) (λ is. cc)
       (saw_as name c.in_default.is c.in_ok-stored.ensures.looks)
       (λ book at known. withhold_none naming c.args.summary.now name _ book at known)
-      (λ book already. ap (if_done (meant_by (record_named naming book.held name))) already);
+      (λ book already. ap (if_done (meant_by (note_given c.args.note.now) (record_named naming book.held name)))
+      already);
 }
 
 -- the answer is not Done
@@ -36,7 +37,8 @@ returns-then-not-is_done g c = record {
       (saw_withheld name stored c.in-Some.is c.deref.ensures.value c.in_ok-stored.ensures.looks
       c.in_ok-withheld.ensures.looks)
       (λ book at known. withhold_told naming summary name _ book at stored known.0 known.1)
-      (λ book already. ap (if_done (meant_by (record_named naming book.held name))) already);
+      (λ book already. ap (if_done (meant_by (note_given c.args.note.now) (record_named naming book.held name)))
+      already);
 }
 
 -- the commit is refused
@@ -47,7 +49,7 @@ returns-in_err-commit_written g c = record {
       let tests = sym c.withheld_answer-answer.ensures.answer
       ∙ c.is_done.ensures.done c.if-not-is_done.false in
       uncommitted g.S.Store _ _ c.from_residual-in_err-commit_written.ensures.0
-      (withhold_staged naming c.args.summary.now c.args.name c.in-Some.stored c.open_number.result
+      (withhold_staged naming (note_given c.args.note.now) c.args.summary.now c.args.name c.in-Some.stored c.open_number.result
       c.last_close.result c.in-Some.is c.deref.ensures.value c.in_ok-stored.ensures.looks
       c.in_ok-withheld.ensures.looks c.in_ok-withdrawn.ensures.looks c.write_none-written.ensures
       tests c.open_number.ensures.number c.last_close.ensures)
@@ -62,7 +64,7 @@ returns g c = record {
       let tests = sym c.withheld_answer-answer.ensures.answer
       ∙ c.is_done.ensures.done c.if-not-is_done.false in
       committed g.S.Store
-      (withhold_staged naming c.args.summary.now c.args.name c.in-Some.stored c.open_number.result
+      (withhold_staged naming (note_given c.args.note.now) c.args.summary.now c.args.name c.in-Some.stored c.open_number.result
       c.last_close.result c.in-Some.is c.deref.ensures.value c.in_ok-stored.ensures.looks
       c.in_ok-withheld.ensures.looks c.in_ok-withdrawn.ensures.looks c.write_none-written.ensures
       tests c.open_number.ensures.number c.last_close.ensures)

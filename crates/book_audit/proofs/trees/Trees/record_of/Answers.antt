@@ -1,3 +1,8 @@
+use Rattle.std.proofs.Common.{◌∷◌, [], rules, true}
+use Rattle.sqlite_value.specs.declared.value.Value.TheVariants.{Blob}
+use Rattle.tree_rows.specs.Rows.{Finds}
+use Rattle.tree_tables.specs.Stored.{stored_entry}
+use Rattle.book_audit.specs.Records.{row_with}
 use Rattle.book_audit.proofs.Walks.Looks.{nothing, passed}
 use Rattle.book_audit.proofs.trees.Trees.record_of.Goals as goal
 
@@ -20,5 +25,11 @@ returns-in-Ok-clause-looks g c = c.in_ok-finds.ensures.looks
 pub returns-in-Err-clause-looks : goal.returns-in-Err-clause-looks
 returns-in-Err-clause-looks g c = c.in_ok-finds.ensures.looks.quiet
 
-pub returns-then-len-columns-clause-looks : goal.returns-then-len-columns-clause-looks
-returns-then-len-columns-clause-looks g c = c.in_ok-finds.ensures.looks.quiet
+-- the row that was found is that of the record
+pub returns-in-Ok-clause-held : goal.returns-in-Ok-clause-held
+returns-in-Ok-clause-held g c clean =
+    let one = c.in-Ok.one in
+    let looked = c.in_ok-finds.ensures.found clean in
+    let found : Finds (Blob c.args.name.now ∷ []) ((g.S.Store.view c.args.self.now.store).trees 3)
+    (row_with (stored_entry one.record) one.came) true = search (rules, looked) in
+    record { came = one.came; found = found }

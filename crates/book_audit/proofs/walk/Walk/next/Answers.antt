@@ -1,10 +1,10 @@
-use Rattle.std.proofs.Common.{◌≡◌, ◌≢◌, ◌++◌, ◌∷◌, [], List, length, true, rules, subst, sym, is_gt}
+use Rattle.std.proofs.Common.{◌≡◌, ◌≢◌, ◌++◌, ◌∷◌, [], List, true, rules, subst, sym, is_gt}
 use Rattle.sqlite_value.specs.Keys.{plain, prefix_cmp}
 use Rattle.sqlite_value.specs.Order.{Row}
 use Rattle.tree_rows.specs.Rows.{IsFirst}
 use Rattle.tree_tables.specs.Walks.{rows_past}
 use Rattle.book_audit.specs.Trees.{tree_number}
-use Rattle.book_audit.specs.Walks.{HasWalked, key_in, width}
+use Rattle.book_audit.specs.Walks.{HasWalked, IsWide, key_in}
 use Rattle.book_audit.proofs.Walks.Keys.{walk_step}
 use Rattle.book_audit.proofs.Walks.Looks.{passed}
 use Rattle.book_audit.proofs.walk.Walk.next.Goals.{else-not-is_empty-via-else-not-is_empty}
@@ -18,7 +18,7 @@ returns-clause-next g c clean done so_far =
     let row : Row = c.row_past.new.row in
     let rows : List Row = (g.S.Store.view c.args.trees.now.store).trees (tree_number tree) in
     let there : IsFirst (rows_past key rows) row true = search rules in
-    let long : length row ≡ width tree = search rules in
+    let long : IsWide tree row = search rules in
     let after : key ≢ [] → is_gt (prefix_cmp plain row key) ≡ true = λ some.
     elim c.else-not-is_empty.branch [
       | else-not-is_empty-via-then-not-is_empty+else-not-is_gt w ↦ search rules
@@ -43,8 +43,8 @@ returns-in_err-take_key-clause-looks g c =
 pub returns-in-Err-clause-looks : goal.returns-in-Err-clause-looks
 returns-in-Err-clause-looks g c = c.row_past.ensures.quiet
 
-pub returns-then-len-columns-clause-looks : goal.returns-then-len-columns-clause-looks
-returns-then-len-columns-clause-looks g c = c.row_past.ensures.quiet
+pub returns-then-not-has_width-clause-looks : goal.returns-then-not-has_width-clause-looks
+returns-then-not-has_width-clause-looks g c = c.row_past.ensures.quiet
 
 pub returns-then-not-is_gt-clause-looks : goal.returns-then-not-is_gt-clause-looks
 returns-then-not-is_gt-clause-looks g c = c.row_past.ensures.quiet

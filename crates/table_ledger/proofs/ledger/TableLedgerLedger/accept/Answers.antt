@@ -1,9 +1,11 @@
-use Rattle.std.proofs.Common.{◌≡◌, ◌∙◌, ◌∷◌, [], ap, subst, sym, Err, Ok}
+use Rattle.std.proofs.Common.{◌≡◌, ◌∙◌, ◌∷◌, [], ap, subst, sym, Err, None, Ok}
 use Rattle.std.proofs.lemmas.Result.{err_from_is_err_and}
 use Rattle.book_model.specs.declared.answer.Accepted.{Accepted}
 use Rattle.book_model.specs.Words.{accept_outcome}
-use Rattle.book_core.specs.Words.{IsCall, IsTransition, Takes, records_in}
-use Rattle.book_core.proofs.SubmissionLemmas.{alone_some, alone_usage, called_alone, refusal_alone}
+use Rattle.book_core.specs.Words.{IsCall, IsTransition, Takes, TakesOf, records_in}
+use Rattle.book_core.proofs.SubmissionLemmas.{alone_some, alone_usage, called_alone, of_no_import}
+use Rattle.book_core.proofs.SubmissionLemmas.{refusal_alone}
+use Rattle.book_core.proofs.TransitionLemmas.{work_as}
 use Rattle.table_ledger.specs.LedgerState.{ledger_state, seen_in}
 use Rattle.table_ledger.proofs.OneCall.{call_reopen, call_wanting}
 use Rattle.table_ledger.proofs.ledger.TableLedgerLedger.accept.Goals as goal
@@ -45,7 +47,9 @@ returns-in_err-answers g c =
     (accept_outcome old.naming bytes)) (sym (p.1 ∙ ap Err p.2))
     (refusal_alone old.naming bytes fault
     (subst (λ records. IsTransition old new (Takes old.naming records (Err fault))) is
-    c.in_err-answers.ensures.takes)
+    (work_as old new (TakesOf old.naming None (records_in c.deref.result.now) (Err fault))
+    (Takes old.naming (records_in c.deref.result.now) (Err fault))
+    (of_no_import old.naming (records_in c.deref.result.now) (Err fault)) c.in_err-answers.ensures.takes))
     c.in_err-answers.ensures.reopens)
 
 pub returns : goal.returns
@@ -58,5 +62,7 @@ returns g c =
     ap records_in c.deref.ensures.value ∙ c.in_ok-records.ensures in
     called_alone old.naming bytes answers c.first_answer.result _ c.first_answer.ensures
     (subst (λ records. IsTransition old new (Takes old.naming records (Ok answers))) is
-    c.in_ok-answers.ensures.takes)
+    (work_as old new (TakesOf old.naming None (records_in c.deref.result.now) (Ok answers))
+    (Takes old.naming (records_in c.deref.result.now) (Ok answers))
+    (of_no_import old.naming (records_in c.deref.result.now) (Ok answers)) c.in_ok-answers.ensures.takes))
     c.in_ok-answers.ensures.reopens

@@ -1,0 +1,134 @@
+//! The rulings of a plain ledger, by where they stand.
+
+ghost use Rattle.std.specs.Prelude.{◌≡◌, ◌+◌, IfOk};
+ghost use Rattle.book_model.specs.Words.{is_effective};
+ghost use Rattle.plain_ledger.specs.Plain.{replaced_of};
+
+use super::PlainBooks;
+use crate::made_entries::{MadeAct, count_kept};
+use crate::replaced::ReplacedTariff;
+use book_model::{LedgerFault, ListedAct, ListedRuling, Naming, Place};
+use std::alloc::AllocError;
+
+/// It begins on the day.
+fn began_on(replaced: &ReplacedTariff, day: i32) -> bool
+    ensures { result ≡ is_effective day (replaced_of replaced.now).tariff }
+{
+    replaced.tariff.begins_on(day)
+}
+
+/// The place of a number, from 0. No ruling has the number 0.
+fn place_of(number: u32) -> Result<u32, LedgerFault>
+    ensures { IfOk result (λ place. number ≡ place + 1) }
+{
+    let place = number.checked_sub(1).ok_or(LedgerFault::Memory)?;
+    Ok(place)
+}
+
+impl<N: Naming + Drop> PlainBooks<N> {
+    ghost use Rattle.std.specs.Prelude.{◌≡◌, IfOk, option_map};
+    ghost use Rattle.book_model.specs.JournalLists.{act_seen, ruling_at, tariff_brought};
+    ghost use Rattle.book_model.specs.Journal.{ChoiceOf, CreditOf, ReplacementOf};
+    ghost use Rattle.book_model.specs.Words.{ShowsActDays, ShowsDays, act_listed, place_shown};
+    ghost use Rattle.book_model.specs.Words.{ruling_shown};
+    ghost use Rattle.plain_ledger.specs.MadeEntries.{act_of, count_made};
+    ghost use Rattle.plain_ledger.specs.PlainBook.{book_in, naming_in};
+
+    /// The tariff of a day that came first, or in the place of the one that was replaced under a
+    /// number: it is the next of that day that was replaced, or the one in force.
+    fn listed_brought(&self, day: i32, number: u32) -> Result<Option<ListedRuling>, AllocError>
+        ensures shown { IfOk result (λ found. option_map ruling_shown found
+            ≡ tariff_brought day number (book_in self.now).rulings) }
+        ensures days { IfOk result ShowsDays }
+    {
+        for at in number as usize..self.replaced.len() {
+            if began_on(&self.replaced[at], day) {
+                return self.replaced[at].tariff.listed(self.alloc);
+            }
+        }
+        self.rulings.listed_on(self.alloc, day)
+    }
+
+    /// The tariff that came in the place of the one that was replaced under a number.
+    fn listed_replacement(&self, number: u32) -> Result<Option<ListedRuling>, LedgerFault>
+        ensures shown { IfOk result (λ found. option_map ruling_shown found
+            ≡ ruling_at (N.name_of (naming_in self.now)) (book_in self.now).rulings
+            (ReplacementOf number)) }
+        ensures days { IfOk result ShowsDays }
+    {
+        let place = place_of(number)?;
+        let Some(replaced) = self.replaced.get(place as usize) else {
+            return Ok(None);
+        };
+        let day = replaced.tariff.tariff.effective();
+        let found = self.listed_brought(day, number)?;
+        Ok(found)
+    }
+
+    /// The choice of a number.
+    fn listed_choice(&self, number: u32) -> Result<Option<ListedRuling>, LedgerFault>
+        ensures shown { IfOk result (λ found. option_map ruling_shown found
+            ≡ ruling_at (N.name_of (naming_in self.now)) (book_in self.now).rulings
+            (ChoiceOf number)) }
+        ensures days { IfOk result ShowsDays }
+    {
+        let place = place_of(number)?;
+        if self.choices.len() <= place as usize {
+            return Ok(None);
+        }
+        Ok(Some(self.choice_listed(place)))
+    }
+
+    /// The credit of a number.
+    fn listed_credit(&self, number: u32) -> Result<Option<ListedRuling>, LedgerFault>
+        ensures shown { IfOk result (λ found. option_map ruling_shown found
+            ≡ ruling_at (N.name_of (naming_in self.now)) (book_in self.now).rulings
+            (CreditOf number)) }
+        ensures days { IfOk result ShowsDays }
+    {
+        let place = place_of(number)?;
+        if self.credits.len() <= place as usize {
+            return Ok(None);
+        }
+        let ruling = self.credit_listed(place)?;
+        Ok(Some(ruling))
+    }
+
+    /// The ruling that stands at a place.
+    fn listed_at_place(&self, place: Place) -> Result<Option<ListedRuling>, LedgerFault>
+        ensures shown { IfOk result (λ found. option_map ruling_shown found
+            ≡ ruling_at (N.name_of (naming_in self.now)) (book_in self.now).rulings
+            (place_shown place)) }
+        ensures days { IfOk result ShowsDays }
+    {
+        match place {
+            Place::Tariff(day) => Ok(self.listed_brought(day, 0)?),
+            Place::Close(period) => Ok(self.rulings.listed_close(period)),
+            Place::Choice(number) => self.listed_choice(number),
+            Place::Adoption => Ok(self.rulings.listed_adoption()),
+            Place::Replacement(number) => self.listed_replacement(number),
+            Place::Credit(number) => self.listed_credit(number),
+        }
+    }
+
+    /// What an entry is about, as a list shows it.
+    pub(crate) fn listed_act(&self, act: MadeAct) -> Result<ListedAct, LedgerFault>
+        ensures shown { IfOk result (λ listed. act_listed listed
+            ≡ act_seen (N.name_of (naming_in self.now)) (book_in self.now).rulings
+            (count_made act) (act_of act)) }
+        ensures days { IfOk result ShowsActDays }
+    {
+        match act {
+            MadeAct::Ruling(place) => {
+                let found = self.listed_at_place(place)?;
+                Ok(ListedAct::Ruling(place, found))
+            }
+            MadeAct::Going(reading, kept) => {
+                Ok(ListedAct::Import(reading, None, count_kept(&kept)))
+            }
+            MadeAct::Ended(reading, ending, kept) => {
+                Ok(ListedAct::Import(reading, Some(ending), count_kept(&kept)))
+            }
+        }
+    }
+}
