@@ -16,7 +16,6 @@ use Rattle.plain_ledger.specs.declared.made_entries.MadeEntry.{MadeEntry}
 use Rattle.plain_ledger.specs.LedgerBook.{with_entries}
 use Rattle.plain_ledger.specs.MadeEntries.{arrival_made, entries_made}
 use Rattle.plain_ledger.specs.Plain.{AreBooked, Entry, held_in}
-use Rattle.plain_ledger.specs.Treatments.{under_name}
 use Rattle.plain_ledger.proofs.ChosenLemmas.{named-found}
 use Rattle.plain_ledger.proofs.HeldLemmas.{held-alike}
 use Rattle.plain_ledger.proofs.NameLemmas.{own_name}

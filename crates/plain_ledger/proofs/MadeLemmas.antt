@@ -2,14 +2,12 @@
 use Rattle.std.proofs.Common.{◌≡◌, ◌∙◌, ◌+◌, ◌++◌, ◌||◌, ◌<◌, ◌≤◌, ℕ, zero, suc, Bool, true, false, List}
 use Rattle.std.proofs.Common.{[], ◌∷◌, None, Option, Some, Vec, Global, append-nil, append_assoc, ap}
 use Rattle.std.proofs.Common.{length-take-le}
-use Rattle.std.proofs.Common.{arith, cond, get_or, length, map, option_map, refl, slice_get, sym, take}
+use Rattle.std.proofs.Common.{arith, cond, get_or, length, option_map, refl, slice_get, sym, take}
 use Rattle.std.proofs.lemmas.List.{take_more}
-use Rattle.std.proofs.lemmas.Option.{slice_get_past}
 use Rattle.std.proofs.Math.Bool.{or-true}
 use Rattle.book_model.proofs.Std.{list_any}
-use Rattle.book_model.specs.declared.note.Share.{Share}
 use Rattle.book_model.specs.declared.note.Stop.{Stop}
-use Rattle.book_model.specs.Journal.{Act, Entry, Importing, Note, Reading, change_newest, came_by}
+use Rattle.book_model.specs.Journal.{Entry, Importing, Note, Reading, change_newest, came_by}
 use Rattle.book_model.specs.Journal.{keep_in, kept_by, read_on}
 use Rattle.book_model.specs.Words.{EntrySeen, Naming, RecordKept, Records, Rulings, entries_listed}
 use Rattle.book_model.specs.Words.{entry_seen, has, members, note_shown, reading_shown, same_bytes}

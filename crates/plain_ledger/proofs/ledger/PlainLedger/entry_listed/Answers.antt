@@ -3,7 +3,6 @@ use Rattle.std.proofs.lemmas.Option.{slice_get-get_or, slice_get_past}
 use Rattle.book_model.specs.Words.{ActSeen, EntrySeen, entry_seen, note_shown}
 use Rattle.plain_ledger.specs.declared.made_entries.MadeEntry.{MadeEntry}
 use Rattle.plain_ledger.specs.Journals.{entries_in}
-use Rattle.plain_ledger.specs.LedgerBook.{ledger_book}
 use Rattle.plain_ledger.specs.MadeEntries.{entry_of}
 use Rattle.plain_ledger.specs.PlainBook.{book_in, naming_in}
 use Rattle.plain_ledger.proofs.MadeLemmas.{made_at}

@@ -1,7 +1,7 @@
-use Rattle.std.proofs.Common.{◌≡◌, ◌∙◌, ◌+◌, ◌-◌, ap, arith, length, option_map, slice_get, sym}
+use Rattle.std.proofs.Common.{◌≡◌, ◌∙◌, ◌-◌, ap, arith, option_map, slice_get, sym}
 use Rattle.std.proofs.lemmas.Option.{slice_get_past}
 use Rattle.book_model.specs.Words.{credit_seen}
-use Rattle.plain_ledger.specs.PlainBook.{book_in, naming_in}
+use Rattle.plain_ledger.specs.PlainBook.{book_in}
 use Rattle.plain_ledger.proofs.plain.PlainBooks.listed_credit.Goals as goal
 
 -- there are not so many
