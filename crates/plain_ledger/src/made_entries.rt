@@ -1,6 +1,6 @@
 //! The entries of the journal, made of what calls said.
 
-ghost use Rattle.std.specs.Prelude.{◌≡◌, ◌<◌, ◌+◌, ◌^◌, [], IfOk, None, OnOk, if◌then◌else◌, length};
+ghost use Rattle.std.specs.Prelude.{◌≡◌, ◌<◌, ◌+◌, [], IfOk, None, OnOk, if◌then◌else◌, length};
 ghost use Rattle.std.specs.Prelude.{option_map};
 ghost use Rattle.book_model.specs.Journal as journal;
 ghost use Rattle.book_model.specs.Words.{ending_shown, has, members, place_shown, reading_shown};
@@ -246,9 +246,9 @@ fn has_bytes(kept: &[Vec<u8>], bytes: &[u8]) -> bool
     false
 }
 
-/// So many records with one more, if it is new.
-fn counted_with(count: u64, there: bool) -> u64
-    requires { count < 2 ^ 63 }
+/// So many records, fewer than there may be, with one more, if it is new.
+fn counted_with(count: u64, most: u64, there: bool) -> u64
+    requires { count < most }
     ensures { result ≡ (if there then count else count + 1) }
 {
     if there { count } else { count + 1 }
@@ -261,7 +261,7 @@ pub(crate) fn count_kept(kept: &[Vec<u8>]) -> u64
     let mut count: u64 = 0;
     for at in 0..kept.len() {
         let there = has_bytes(&kept[..at], &kept[at]);
-        count = counted_with(count, there);
+        count = counted_with(count, at as u64 + 1, there);
     }
     count
 }

@@ -1,4 +1,4 @@
-use Rattle.std.proofs.Common.{◌∙◌, ap, length, sym, take_all}
+use Rattle.std.proofs.Common.{◌∙◌, ap, arith, length, sym, take_all}
 use Rattle.book_model.specs.Words.{members}
 use Rattle.plain_ledger.specs.MadeEntries.{kept_of}
 use Rattle.plain_ledger.proofs.MadeLemmas.{few_more, next_counted}
@@ -17,6 +17,11 @@ loop-at-preserved c =
       few = few_more there c.loop-at.count c.loop-at.at c.counted_with.result
           c.counted_with.ensures c.loop-at.invariant.few;
     }
+
+pub counted_with-requires : goal.counted_with-requires
+counted_with-requires c =
+    let few = c.loop-at.invariant.few in
+    omega (arith, few)
 
 -- all of them
 pub returns : goal.returns
