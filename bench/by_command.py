@@ -289,7 +289,7 @@ class Commands:
             SAMPLES / name for name in ("february.toml", "month.smf", "february.smf"))
         return (("audit", "audit"), ("audit", "audit"), ("disputes", "disputes"),
                 ("disputes", "disputes-csv", "--csv"), ("record", "record", name),
-                ("rulings", "rulings"), ("periods", "periods"), ("tariff-text", "tariff-text", "2024-01-01"),
+                ("rulings", "rulings"), ("journal", "journal"), ("journal", "journal-csv", "--csv"), ("periods", "periods"), ("tariff-text", "tariff-text", "2024-01-01"),
                 ("adopt", "ruling"), ("choose", "ruling", name), ("choose", "ruling", name, "--none"),
                 ("choose", "dry-run", name, "--none", "--dry-run"), ("choose", "withheld", "--none", "--dump", month),
                 ("tariff", "ruling", tariff, "--replace"),

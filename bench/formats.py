@@ -395,7 +395,9 @@ READ_IN = r"%s READER %s SUBTYPE " % (SHOWN, MOMENT)
 MEMBER = r"  [0-9a-f]{64} %s +%s %s %s\n" % (DAY, AMOUNT, COMPLETION, SHOWN)
 DISPUTES = (r"DISPUTES [0-9]+\n(?:%s[45] STEP [0-9]+(?: START %s)?\n(?:%s){2,})*"
             % (READ_IN, MOMENT, MEMBER))
+TIME = r"%s [0-2][0-9](?::[0-5][0-9]){2}Z" % DAY
 RECORD = (r"RECORD [0-9a-f]{64}\nDATED %s [0-2][0-9](?::[0-5][0-9]){2}\.[0-9]{2} IN PERIOD [0-9]+\n"
+          r"CAME (?:-|[0-9]+ %s(?: [ -~]{1,255})?)\n"
           r"%s(?:4 STEP [0-9]+|5 STEP -)\nSTART %s COMPLETION %s %s ACCOUNTS [0-9]+\n(?:  %s\n)*"
           r"CPU [0-9]+\.[0-9]{2} BLOCKS [0-9]+\n"
           r"TARIFF %s SHIFT %s RULE (?:[0-9]+|-) CENTRE %s RULE (?:[0-9]+|-)\n"
@@ -403,7 +405,7 @@ RECORD = (r"RECORD [0-9a-f]{64}\nDATED %s [0-2][0-9](?::[0-5][0-9]){2}\.[0-9]{2}
           r" \* [0-9]+ / 100000 = [0-9]+\n"
           r"AMOUNT %s\nRIVALS [0-9]+\n(?:%s)*CHOICES [0-9]+\n(?:  PERIOD [0-9]+ [0-9a-f]{64}\n)*"
           r"LIFE [0-9]+\n(?:  PERIOD [0-9]+ (?:CHARGED|ADDED|REVERSED)\n)*NET [01]\n"
-          % (DAY, READ_IN, MOMENT, COMPLETION, SHOWN, SHOWN, DAY, NAME, NAME, AMOUNT, MEMBER))
+          % (DAY, TIME, READ_IN, MOMENT, COMPLETION, SHOWN, SHOWN, DAY, NAME, NAME, AMOUNT, MEMBER))
 DISPUTE_TABLE = (
     DISPUTE_COLUMNS
     + r"\n(?:[0-9]+,%s,%s,%s,%s,[45],[0-9]+,[0-9a-f]{64},%s,[0-9]+\.[0-9]{2},[0-9]+,"
@@ -415,6 +417,17 @@ RULINGS = (r"RULINGS\n(?:TARIFF %s [0-9a-f]{64} [0-9]+\n)*(?:CLOSE [0-9]+ %s\n)*
            r"(?:REPLACED %s PERIOD [0-9]+ [0-9a-f]{64} [0-9]+\n)*"
            r"(?:CREDIT [0-9]+ PERIOD [0-9]+ %s -?%s [ -~]{1,200}\n)*"
            % (DAY, DAY, DAY, NAME, AMOUNT))
+RULED = (r"(?:TARIFF %s [0-9a-f]{64} [0-9]+(?: REPLACES [0-9]+)?|CLOSE [0-9]+ %s|(?:CHOICE|NONE) [0-9]+ PERIOD [0-9]+ [0-9a-f]{64}"
+         r"|ADOPTED PERIOD [0-9]+|CREDIT [0-9]+ PERIOD [0-9]+ %s -?%s [ -~]{1,200}|-)" % (DAY, DAY, NAME, AMOUNT))
+ENDED = r"(?:END|FRAME [1-8]|READ|READLIMIT|LEDGER [0-9]+)"
+JOURNAL = (r"JOURNAL [0-9]+\n(?:[0-9]+ %s (?:%s|IMPORT [0-9a-f]{64} [0-9]+%s STOP (?:-|%s))\n"
+           r"(?:  BY [ -~]{1,40}\n)?(?:  FILE [ -~]{1,255}\n)?(?:  NOTE [ -~]{1,200}\n)?)*"
+           % (TIME, RULED, "".join(" %s [0-9]+" % word for word in COUNTED), ENDED))
+JOURNAL_COLUMNS = ("number,time,act,words,digest,length,kept,known,unpriced,other,headers,trailers,lost,continued,damaged,stop,"
+                   "person,file,note")
+JOURNAL_TABLE = JOURNAL_COLUMNS + (
+    r"\n(?:[0-9]+,%s,(?:[A-Z]+,%s,{13}|IMPORT,,[0-9a-f]{64}(?:,[0-9]+){10},(?:-|%s),)%s,%s,%s\n)*"
+    % (TIME, VALUE, ENDED, VALUE, VALUE, VALUE))
 
 
 # Of the whole office alone: cost and usage, and coverage.
@@ -467,7 +480,7 @@ ONE = r"[ !#-%(-;=?-~\n]"
 OF_BILL = "(?:Bill|Draft of bill) [0-9]+(?:-%s)?" % NAME
 PAGES = {"office-page": html("Office", ONE), "page": html("Period [0-9]+", ONE), "bill-page": html(OF_BILL, ONE, "|b|small")}
 WHOLE = {"disputes": DISPUTES, "disputes-csv": DISPUTE_TABLE, "periods": PERIODS,
-         "record": RECORD, "rulings": RULINGS, **PAGES}
+         "record": RECORD, "rulings": RULINGS, "journal": JOURNAL, "journal-csv": JOURNAL_TABLE, **PAGES}
 SOUND = "SOUND\n" + "".join(
     word + " [0-9]+\n" for word in "FORM RECORDS TARIFFS CLOSES CHOICES ROWS LINES".split())
 UNSOUND = r"UNSOUND [ -~]+: [ -~]+\n"
@@ -577,7 +590,8 @@ OF_DAMAGED = OF_COMMANDS | {
         ("adjustments", "ADJUSTMENTS " + OF_PERIOD[0]), ("disputes", "DISPUTES [0-9]+"),
         ("focus", FOCUS_COLUMNS), ("coverage", "COVERAGE " + OF_PERIOD[0]), ("coverage-csv", COVERAGE_COLUMNS),
         ("adjustments-csv", ADJUSTMENT_COLUMNS), ("disputes-csv", DISPUTE_COLUMNS),
-        ("periods", "PERIODS [0-9]+"), ("record", "RECORD [0-9a-f]{64}"), ("rulings", "RULINGS"))}
+        ("periods", "PERIODS [0-9]+"), ("record", "RECORD [0-9a-f]{64}"), ("rulings", "RULINGS"),
+        ("journal", "JOURNAL [0-9]+"), ("journal-csv", JOURNAL_COLUMNS))}
 # Nor does it make markup then.
 OF_DAMAGED["page"] = form(html("Period [0-9]+", r"[^<>&'\"]"))
 OF_DAMAGED["bill-page"] = form(html(OF_BILL, r"[^<>&'\"]", "|b|small"))

@@ -428,12 +428,12 @@ def other_log(rng):
 
 
 COMMANDS = ("init tariff import close choose adopt credit statement adjustments details bill focus coverage page disputes "
-            "record periods rulings tariff-text upgrade audit trial check explain help serve --help -h --version "
+            "record periods rulings journal tariff-text upgrade audit trial check explain help serve --help -h --version "
             "-V").split()
 WORDS = ("books nothing tariff dump . .. books/ books-wal 0 1 2 3 65535 65536 -1 1e3 0x1 ١ "
          "2024-01-31 2024-02-30 2024-02-29 2024-1-1 --layout --layout=bdw --layout=xyz rdw bdw "
          "--quiet --quiet=1 --whole --names --near --explain --dry-run --csv --html --cpu --cpu=100000000 --cpu=100000001 --excp --record "
-         "--record=-1 -- - -q --help -h --port --requests --from --dump --none --replace --replaced --tariff "
+         "--record=-1 -- - -q --help -h --port --requests --from --dump --import --by --by=meier --note --none --replace --replaced --tariff "
          "--tariff=tariff --tariff=dump "
          "--centre --centre=LEDGER --wait --wait=0 --wait=3601 frame ledger tariff damaged").split()
 WORDS += ["", " ", "\n", "é", "x" * 300, "y" * 100_000, "/dev/null/x", "%s%n", "0" * 64, "ab" * 32,
@@ -445,7 +445,7 @@ PLACES = {
     "init": "B", "tariff": "BF", "import": "BF", "close": "BPD", "choose": "BN", "adopt": "B", "credit": "BPCAR",
     "statement": "BPO", "details": "BP", "bill": "BPO", "focus": "BP", "coverage": "BPO", "page": "BP",
     "adjustments": "BP", "disputes": "B", "record": "BN",
-    "periods": "B", "rulings": "B", "tariff-text": "BD", "upgrade": "B", "audit": "B", "trial": "",
+    "periods": "B", "rulings": "B", "journal": "B", "tariff-text": "BD", "upgrade": "B", "audit": "B", "trial": "",
     "check": "F", "explain": "KP", "serve": "B"}
 PLACED = {
     "B": ("books", "books", "books", "dump", "tariff", "nothing", "other", "books-wal", "other-shm",

@@ -433,8 +433,67 @@ def member_line(one):
     return "  %s %s %21s %s %s %s" % (one.name, one.day, decimals(one.amount, 4), one.code, one.job_id, one.program)
 
 
+class Journal:
+    """Who did what: the lines of each entry, the oldest first, and by which one each record came, with its file. The times are
+    left open: NOW stands for each."""
+
+    # The word of what was ruled, where it is another than the first of its line.
+    WORDS = {"NONE": "CHOICE", "ADOPTED": "ADOPTION"}
+
+    def __init__(self):
+        self.entries, self.came = [], {}
+
+    def after(self, before, books, lines, note, dump=None):
+        """What a command did that found such rulings and records, with its note: a person, a remark and a file."""
+        rulings, held = before
+        new = [line for line in books.rulings() if line not in rulings]
+        replaced = [line for line in new if line.startswith("REPLACED")]
+        for line in new:
+            if line not in replaced:
+                last = " REPLACES %d" % len(books.replaced) if replaced else ""
+                self.entries.append((self.WORDS.get(line.split()[0], "REPLACEMENT" if replaced else line.split()[0]),
+                                     line + last, [""] * 12, note))
+        kept = books.held.keys() - held
+        if kept:
+            counts, stop = re.fullmatch(r"(KEPT .*) STOP (.*)", lines[0]).groups()
+            counts = counts.split()[1::2]
+            self.entries.append(("IMPORT", "", [hashlib.sha256(dump).hexdigest(), str(len(dump)), *counts, stop], note))
+            self.came |= {name: len(self.entries) for name in kept}
+
+    def came_line(self, name):
+        if name not in self.came:
+            return "CAME -"
+        person, remark, file = self.entries[self.came[name] - 1][3]
+        return "CAME %d NOW" % self.came[name] + (" " + file if file else "")
+
+    def lines(self):
+        yield "JOURNAL %d" % len(self.entries)
+        for number, (act, words, read, note) in enumerate(self.entries, 1):
+            counted = " ".join("%s %s" % pair for pair in zip(COUNTED, read[2:]))
+            yield "%d NOW %s" % (number, words or "IMPORT %s %s %s STOP %s" % (*read[:2], counted, read[-1]))
+            person, remark, file = note
+            yield from ("  %s %s" % pair for pair in (("BY", person), ("FILE", file), ("NOTE", remark)) if pair[1])
+
+    def table(self):
+        yield ("number,time,act,words,digest,length,kept,known,unpriced,other,headers,trailers,lost,continued,damaged,stop,"
+               "person,file,note")
+        for number, (act, words, read, (person, remark, file)) in enumerate(self.entries, 1):
+            yield ",".join(map(quoted, (str(number), "NOW", act, words, *read, person, file, remark)))
+
+
+# The words of a receipt.
+COUNTED = "KEPT KNOWN UNPRICED OTHER HEADERS TRAILERS LOST CONTINUED DAMAGED".split()
+
+
+def quoted(field):
+    """A field of a table."""
+    return '"%s"' % field.replace('"', '""') if re.search('[,"]', field) else field
+
+
 class Books:
     def __init__(self):
+        # Rows that are no commands have no journal.
+        self.journal = Journal()
         self.tariffs, self.held, self.data, self.charged_at, self.closes = [], {}, {}, [], []
         # The names of the records that were chosen, each with the period that was open then; and the numbers of those choices,
         # from 1, that chose none of the record's work.
@@ -594,6 +653,12 @@ class Books:
         for name in (hashlib.sha256(data).hexdigest() for data in joined(dump) if kind_of(data) == "USAGE"):
             answers[self.withhold(name)[0] if name in self.held else "NOT HELD"] += 1
         return ["WITHHELD %d ALREADY %d NOT HELD %d STOP END" % (answers["DONE"], answers["ALREADY"], answers["NOT HELD"])]
+
+    def withhold_import(self, number):
+        """The works of the records that came by an entry, by name."""
+        names = sorted(name for name, came in self.journal.came.items() if came == number)
+        answers = collections.Counter(self.withhold(name)[0] for name in names)
+        return ["WITHHELD %d ALREADY %d NOT HELD 0 STOP END" % (answers["DONE"], answers["ALREADY"])]
 
     def adopt(self, rule):
         """From now on identities are those of this rule, of held records too. What closes charged stays."""
@@ -1126,6 +1191,7 @@ class Books:
                    for number, (chosen, period) in enumerate(self.choices, 1) if chosen in rivals | {name}]
         return ["RECORD " + name,
                 "DATED %s IN PERIOD %d" % (clock(data[2:10]), self.period_of(one.day)),
+                self.journal.came_line(name),
                 identity_line(one.identity, "-"),
                 "%s COMPLETION %s %s %s ACCOUNTS %d" % (
                     moment("START", one.identity[24:]), one.code, one.job_id, one.program, len(fields)),

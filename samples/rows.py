@@ -391,8 +391,8 @@ class Rows:
         return self.books.of_period(lambda period: pages.period_page(self.books, period).splitlines(), period)
 
     def trail(self, name):
-        """The trail of a record, or why there is none. It is one call of the books."""
-        return office.refused(office.MEMORY) if self.is_refused() else self.books.trail(name)
+        """The trail of a record, or why there is none. The books are asked by which entry it came, and then for the trail."""
+        return office.refused(office.MEMORY) if any(self.is_refused() for _ in range(2)) else self.books.trail(name)
 
     def what_if(self, verb, place, file):
         """What a period would have cost by a tariff file, or why that is not told: of all centres, or of the one that is
@@ -615,7 +615,7 @@ class Rows:
             raise NotKnown
         at = words.index("chargectl") if verb != "chargectl" else -1
         self.notices = []
-        output = self.output(words[at + 1:])
+        output = self.noted(words[at + 1:])
         errors = []
         if not isinstance(output, bytes):
             errors = [line for line in output if line.startswith(("chargectl", "error: "))]
@@ -624,6 +624,16 @@ class Rows:
         refusal += ["STATUS %d" % (2 if line.startswith("error: ") else 1 if line == "chargectl: io" else 3) for line in errors]
         notices = ["! " + line for line in self.notices]
         return output_shown(verb, words[:at + 1], output) + notices + refusal
+
+    def noted(self, words):
+        """What a command writes; what it did has its note in the journal."""
+        books, given = self.books, dict(options(words))
+        before = list(books.rulings()), set(books.held)
+        output = self.output(words)
+        of_file = words[2] if words[0] in ("tariff", "import") else given.get("--from") or given.get("--dump") or ""
+        note = given.get("--by", "player"), given.get("--note", ""), of_file
+        books.journal.after(before, books, output, note, self.file(of_file) if words[0] == "import" else None)
+        return output
 
     def dumped(self, lines):
         """What a command writes of a dump: and whether the dump is torn."""
@@ -642,8 +652,8 @@ class Rows:
         """What a command writes: bytes, or lines, of which the last may be that of a refusal."""
         if words[0] == "trial":
             return self.dumped(office.tried(self.files[dict(options(words[1:]))["--tariff"]], self.input))
-        # How long a command waits for books changes nothing that it says of them.
-        words = [word for word, before in zip(words, [""] + words) if "--wait" not in (word, before)]
+        # How long a command waits for books, for whom it is run, and why, changes nothing that it says of them.
+        words = [word for word, before in zip(words, [""] + words) if not {"--wait", "--by", "--note"} & {word, before}]
         is_tried = "--dry-run" in words
         # After -- a word is no option, whatever it begins with.
         verb, book, *words = [word for word in words if word not in ("--dry-run", "--")]
@@ -706,6 +716,10 @@ class Rows:
         def choose(name=None, *_):
             """One choice, or those of a file. What is no name in the file is a wrong word, before the first of them. Or none of the
             works of a dump counts."""
+            if "--import" in given:
+                number = given["--import"]
+                is_number = re.fullmatch("[0-9]{1,19}", number) and int(number) > 0
+                return books.withhold_import(int(number)) if is_number else ["chargectl: word"]
             if "--dump" in given:
                 return books.withhold_dump(self.file(given["--dump"]))
             if "--from" not in given:
@@ -730,6 +744,7 @@ class Rows:
                 "credit": credit,
                 "adopt": lambda: self.ruled(office.ruling_of_adoption(), is_tried),
                 "rulings": lambda: list(books.rulings()),
+                "journal": lambda *_: list(books.journal.table() if "--csv" in given else books.journal.lines()),
                 "periods": lambda: list(books.periods()),
                 "disputes": lambda *_: list(books.dispute_table() if "--csv" in given else books.disputes()),
                 "audit": lambda: list(Tables(books).audit()),

@@ -52,9 +52,9 @@ def free_port():
 class Server:
     """`serve` of the books of a session, for a number of requests. It is killed where it does not end in time."""
 
-    def __init__(self, session, book, connections):
+    def __init__(self, session, book, more, connections):
         self.port, self.errors = free_port(), session.streams.scratch()
-        words = ["serve", session.path(book), "--port", str(self.port), "--requests", str(connections)]
+        words = ["serve", session.path(book), "--port", str(self.port), "--requests", str(connections), *more]
         self.process = begun(words, stdin=subprocess.DEVNULL, stdout=subprocess.PIPE, stderr=self.errors)
         self.timer = threading.Timer(MOST_SECONDS, self.process.kill)
         self.timer.start()
@@ -107,23 +107,24 @@ class Server:
         return self.line()
 
 
-def server_of(session, book, connections):
+def server_of(session, book, more, connections):
     """A server on a port that nobody else took in the last moment."""
     for tried in range(TRIES):
-        server = Server(session, book, connections)
+        server = Server(session, book, more, connections)
         if server.first or server.rest() != ["! chargectl: io", "STATUS 1"] or tried == TRIES - 1:
             return server
         server.close()
 
 
-def seen(session, names, book, body):
-    """What a server says, and what its clients read."""
+def seen(session, names, book, *given):
+    """What a server says that is given more words, and what its clients read, by a body."""
+    *more, body = given
     steps = [line.split() for line in body.splitlines()]
     for step in steps:
         if not step or step[0] not in PARTINGS + BETWEEN:
             raise Unread("no client: %s" % " ".join(step))
     clients = sum(step[0] in PARTINGS and step[0] != "refused" for step in steps)
-    with contextlib.closing(server_of(session, book, clients)) as server:
+    with contextlib.closing(server_of(session, book, more, clients)) as server:
         told = server.first
         for verb, *words in steps if told else []:
             if verb in BETWEEN:

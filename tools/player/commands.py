@@ -1,6 +1,7 @@
 """A command of the program that is built: what its streams give and take, and what it leaves."""
 import contextlib
 import dataclasses
+import datetime
 import os
 import pathlib
 import re
@@ -15,6 +16,9 @@ from scripts import DATA, ROOT, Unread
 BUILT = ROOT / "crates" / "chargectl_main" / "out" / "chargectl_main"
 # The variable CHARGECTL names another program that is built.
 PROGRAM = pathlib.Path(os.environ.get("CHARGECTL") or BUILT).resolve()
+
+# Who runs it, as its journal says where no word names a person.
+USER = "player"
 
 # How long a command may take, in seconds.
 MOST_SECONDS = 120
@@ -101,8 +105,8 @@ class Left:
 
 
 def begun(words, **streams):
-    """The program, with these words."""
-    return subprocess.Popen(["chargectl", *words], executable=PROGRAM, cwd=DATA, **streams)
+    """The program, with these words, run by a user of this name."""
+    return subprocess.Popen(["chargectl", *words], executable=PROGRAM, cwd=DATA, env=os.environ | {"USER": USER}, **streams)
 
 
 def ended(process):
@@ -180,6 +184,15 @@ def shown(stream, mark="", most=None):
     except UnicodeDecodeError:
         return ["NO TEXT"]
     return [mark + line for line in lines_of(text)] + ["\\"] * (text != "" and not text.endswith("\n"))
+
+
+def timed(line):
+    """A line with NOW for each time of the journal that was an hour ago or less."""
+    def shown_time(found):
+        then = datetime.datetime.strptime(found[0] + "+0000", "%Y-%m-%d %H:%M:%SZ%z")
+        ago = datetime.datetime.now(datetime.timezone.utc) - then
+        return "NOW" if abs(ago.total_seconds()) < 3600 else found[0]
+    return re.sub(r"\b\d{4}-\d\d-\d\d \d\d:\d\d:\d\dZ", shown_time, line)
 
 
 def status_by(errors):

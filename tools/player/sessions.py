@@ -1,4 +1,5 @@
-"""Rows of commands as they stand. A word that begins with @ is a file of the row alone; other files are those of the data.
+"""Rows of commands as they stand. A word that begins with @ is a file of the row alone; other files are those of the data. In
+the answers NOW stands for the time of the clock, and @ for the folder of the row.
 
     A line                                Is answered with
 
@@ -15,7 +16,7 @@
     first SIZE chargectl WORDS..          the same, but no more than a number of bytes of each
     count-lines chargectl WORDS..         the same, but how many its output has; or count-bytes
     within KIB LINE                       what such a line is answered, and whether the command had no more memory in use
-    sockets FILE, with a body of clients  what `serve` of the books says of each, and what each reads
+    sockets FILE, with a body of clients  what `serve` of the books says of each, and what each reads; it may have more words
     same FILE FILE, missing FILE          whether they are
     files                                 the names of the row's files, in order"""
 import fcntl
@@ -23,7 +24,7 @@ import os
 import shutil
 
 import clients
-from commands import Streams, ran, shown
+from commands import Streams, ran, shown, timed
 from scripts import DATA, Unread, number_of
 
 # The lock of a file of SQLite's, without which nobody has it open: its bytes, and where they are.
@@ -123,8 +124,12 @@ class Session:
         left = ran([self.path(word) for word in words[1:]], self.streams, kept, is_measured)
         self.memory = left.memory
         counted = {"count-lines": "LINES %d" % left.lines, "count-bytes": "BYTES %d" % left.size}
-        output = [counted[kind]] if kind in counted else shown(left.output, "", most)
+        output = [counted[kind]] if kind in counted else [self.noted(line) for line in shown(left.output, "", most)]
         return output + shown(left.errors, "! ", most) + ["STATUS %d" % left.status] * (left.status != 0)
+
+    def noted(self, line):
+        """A line of an output, without what a journal says of another time and another folder each time it is played."""
+        return timed(line).replace("%s/" % self.folder, "@")
 
     def measured(self, most, words):
         """What a command left that may have no more than so many KiB of memory in use."""

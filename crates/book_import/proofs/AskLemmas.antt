@@ -1,4 +1,5 @@
--- What an import says with the records that it asks the books about, and with those that they refuse.
+-- What an import says with the records that it asks the books about, and with those that they
+-- refuse.
 use Rattle.std.proofs.Common.{◌≡◌, ◌∙◌, ℕ, Bool, true, false, List, [], ◌∷◌, ◌++◌, refl, sym, ap}
 use Rattle.std.proofs.Common.{subst, Ok, Err, Option, Some, None, append_assoc, append-nil}
 use Rattle.std.proofs.Common.{◌||◌, ◌==◌, length, map}
@@ -207,8 +208,8 @@ open_leads naming started waiting receipt was is before events shut ahead =
 
 -- ---- the books are asked
 
--- Records wait behind those that were counted, and the import has read all of them. It counted ahead
--- of the books' answers, and has said no end yet.
+-- Records wait behind those that were counted, and the import has read all of them. It counted
+-- ahead of the books' answers, and has said no end yet.
 pub record IsAsked (layout : Layout) (bytes : List ℕ) (started records : List (List ℕ))
     (receipt counts : Receipt) (entry : ImportEntry) : Type 0 where
   pub found : started ++ records ≡ (front layout bytes).records
@@ -219,7 +220,7 @@ pub record IsAsked (layout : Layout) (bytes : List ℕ) (started records : List 
 module _ (naming : Naming) (layout : Layout) (bytes : List ℕ) (started records : List (List ℕ))
     (receipt counts : Receipt) (entry : ImportEntry) (ending : Option Stop) where
   -- what a change says of the records that it took
-  takes_says : (answers : List Accepted) (was between is : Bool) (before : Book)
+  takes_says : (answers : List Accepted) (between is : Bool) (before : Book)
       (early late events : List Event)
       → IsAsked layout bytes started records receipt counts entry
       → SaysSo entry naming layout bytes before early
@@ -231,7 +232,7 @@ module _ (naming : Naming) (layout : Layout) (bytes : List ℕ) (started records
       → Says (note_of entry) (entry.begun || keeps_one answers)
       (end_said (keeps_one answers) (length answers == length (usage_of records)) ending) naming
       layout bytes before events
-  takes_says answers was between is before early late events asked says of all ahead =
+  takes_says answers between is before early late events asked says of all ahead =
       let said = said_here naming layout bytes started records answers receipt counts before
       (without_notes events) is asked.found asked.counted ahead in
       subst (λ made. Says (note_of entry) (entry.begun || keeps_one answers)
@@ -291,7 +292,7 @@ module _ (naming : Naming) (layout : Layout) (bytes : List ℕ) (started records
           let is_asked = asked refl in
           let opened = open_ahead naming started (usage_of records) answer left receipt was
           (unjournaled before) (without_notes events) is ahead in
-          let says = takes_says answers was both.between is before both.early both.late events
+          let says = takes_says answers both.between is before both.early both.late events
           is_asked both.first.said both.next both.all
           (subst (λ was. Ahead naming started (usage_of records) answers receipt was
           (unjournaled before) (without_notes events) is) opened ahead) in

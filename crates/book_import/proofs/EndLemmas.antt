@@ -159,15 +159,19 @@ at_longer stop entry naming layout bytes piece before made says =
 
 -- ---- books that keep nothing have no entry
 
-pub none_told : (portions : List Portion) → kept_in portions ≡ [] → is_some (told_so_far portions) ≡ false
+none_after : (kept : List (List ℕ)) (reading : Reading) (so_far : Option (Reading × Records))
+    (early : List Event) → (early ≡ [] → is_some so_far ≡ false)
+    → map (λ bytes. RecordKept bytes) kept ++ early ≡ []
+    → is_some (with_portion kept reading so_far) ≡ false
+none_after [] reading so_far early none is = none is
+none_after (bytes ∷ others) reading so_far early none is = absurd (cc is)
+
+pub none_told : (portions : List Portion) → kept_in portions ≡ []
+    → is_some (told_so_far portions) ≡ false
 none_told [] none = refl
 none_told (portion ∷ earlier) none =
-    by_kept portion.kept none
-  where
-    by_kept : (kept : List (List ℕ)) → map (λ bytes. RecordKept bytes) kept ++ kept_in earlier ≡ []
-        → is_some (with_portion kept portion.reading (told_so_far earlier)) ≡ false
-    by_kept [] none = none_told earlier none
-    by_kept (bytes ∷ others) none = absurd (cc none)
+    none_after portion.kept portion.reading (told_so_far earlier) (kept_in earlier)
+    (λ none. none_told earlier none) none
 
 -- ---- the entry is ended, or need not be
 
@@ -313,6 +317,29 @@ module _ (naming : Naming) (layout : Layout) (cut : Option Stop) (bytes : List �
       let alone = said_alone note entry.begun entry.ended naming layout bytes before early so in
       true≢false (sym begun ∙ sym so.entry ∙ none_told so.portions (sym alone ∙ none))
 
+  -- the store failed as it was ended
+  failed_end : (note : Note) (was is : Bool) (before : Book) (early events : List Event)
+      (ended : Option Stop) → note_of entry ≡ Some note → entry.begun ≡ true
+      → entry.ended ≡ None → SaysSo entry naming layout bytes before early
+      → events ≡ with_end ended early → told ≡ record receipt { stop = Ledger Store }
+      → Imports naming layout cut bytes told was (unjournaled before) (without_notes early) is
+      → ImportsOf (note_of entry) naming layout cut bytes told was before events is
+  failed_end note was is before early events ended is_note begun going says made so booked =
+      let dump = front layout bytes in
+      record {
+        booked = handles_apart naming (stop_after cut dump) dump.records told was before
+            (without_notes events) is
+            (subst (λ made. Imports naming layout cut bytes told was (unjournaled before) made is)
+            (sym (ap without_notes made ∙ end_apart ended early)) booked);
+        says = record {
+          begun = true;
+          ended = ended;
+          says = with_words note before early events ended is_note begun going says made;
+          over = λ some begun free.
+              absurd (free.store (ap (λ (one : Receipt). one.stop) so));
+        };
+      }
+
   -- by what the books answered
   ended_by : (note : Note) (answer : Result (Unit {0}) LedgerFault) (was between is : Bool)
       (before : Book) (early late events : List Event)
@@ -374,36 +401,16 @@ module _ (naming : Naming) (layout : Layout) (cut : Option Stop) (bytes : List �
       let dump = front layout bytes in
       let store = store_too naming (stop_after cut dump) dump.records read was (unjournaled before)
       (without_notes early) between is booked other opened shut in
-      let failed = λ (ended : Option Stop) (made : events ≡ with_end ended early).
-      failed_end note was is before early events ended is_note begun going says made so
-      (subst (λ told. Imports naming layout cut bytes told was (unjournaled before)
-      (without_notes early) is) (sym so) store) in
+      let told_so = subst (λ told. Imports naming layout cut bytes told was (unjournaled before)
+      (without_notes early) is) (sym so) store in
       elim called.makes [
-        | inl none ↦ failed None (all ∙ ap (λ late. late ++ early) none)
-        | inr ended ↦ failed (Some stop) (all ∙ ap (λ late. late ++ early) ended)
+        | inl none ↦
+            failed_end note was is before early events None is_note begun going says
+            (all ∙ ap (λ late. late ++ early) none) so told_so
+        | inr ended ↦
+            failed_end note was is before early events (Some stop) is_note begun going says
+            (all ∙ ap (λ late. late ++ early) ended) so told_so
       ]
-    where
-      failed_end : (note : Note) (was is : Bool) (before : Book) (early events : List Event)
-          (ended : Option Stop) → note_of entry ≡ Some note → entry.begun ≡ true
-          → entry.ended ≡ None → SaysSo entry naming layout bytes before early
-          → events ≡ with_end ended early → told ≡ record receipt { stop = Ledger Store }
-          → Imports naming layout cut bytes told was (unjournaled before) (without_notes early) is
-          → ImportsOf (note_of entry) naming layout cut bytes told was before events is
-      failed_end note was is before early events ended is_note begun going says made so booked =
-          let dump = front layout bytes in
-          record {
-            booked = handles_apart naming (stop_after cut dump) dump.records told was before
-                (without_notes events) is
-                (subst (λ made. Imports naming layout cut bytes told was (unjournaled before) made is)
-                (sym (ap without_notes made ∙ end_apart ended early)) booked);
-            says = record {
-              begun = true;
-              ended = ended;
-              says = with_words note before early events ended is_note begun going says made;
-              over = λ some begun free.
-                  absurd (free.store (ap (λ (one : Receipt). one.stop) so));
-            };
-          }
   ended_by note (Err Reopen) was between is before early late events is_note begun going other says
       booked called so all =
       absurd (never_closed note was between before early is_note begun other

@@ -131,16 +131,19 @@ nothing_new naming (RecordKept bytes ∷ older) book kept made same =
 nothing_new naming (event ∷ older) book kept made same = absurd kept
 
 -- an import that keeps nothing says nothing
+none_before : (note : Note) (begun : Bool) (reading : Reading) (kept : List (List ℕ))
+    (early rest : List Event) → (early ≡ [] → rest ≡ [])
+    → map (λ bytes. RecordKept bytes) kept ++ early ≡ []
+    → told note begun reading (map (λ bytes. RecordKept bytes) kept) ++ rest ≡ []
+none_before note begun reading [] early rest none is = none is
+none_before note begun reading (bytes ∷ others) early rest none is = absurd (cc is)
+
 none_made : (note : Note) (portions : List Portion) → kept_in portions ≡ []
     → import_events note portions ≡ []
 none_made note [] none = refl
-none_made note (portion ∷ earlier) none = by_kept portion.kept none
-  where
-    by_kept : (kept : List (List ℕ)) → map (λ bytes. RecordKept bytes) kept ++ kept_in earlier ≡ []
-        → told note (is_some (told_so_far earlier)) portion.reading
-        (map (λ bytes. RecordKept bytes) kept) ++ import_events note earlier ≡ []
-    by_kept [] none = none_made note earlier none
-    by_kept (bytes ∷ others) none = absurd (cc none)
+none_made note (portion ∷ earlier) none =
+    none_before note (is_some (told_so_far earlier)) portion.reading portion.kept (kept_in earlier)
+    (import_events note earlier) (λ none. none_made note earlier none) none
 
 none_says : (import : Option Note) (begun : Bool) (ended : Option Stop) (naming : Naming)
     (layout : Layout) (bytes : List ℕ) (before : Book) (made : List Event)

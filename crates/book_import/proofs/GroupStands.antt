@@ -50,9 +50,9 @@ some_wait : (waiting : List (Vec ℕ Global)) (bytes : List ℕ) (rest : List (L
 some_wait [] bytes rest is = absurd (cc)
 some_wait (one ∷ more) bytes rest is = omega arith
 
--- Before a record of a group: those before it were counted, and the books gave the answers that are
--- left to the first of the usage records that wait. The import has counted ahead, and said an end with
--- the last of them alone.
+-- Before a record of a group: those before it were counted, and the books gave the answers that
+-- are left to the first of the usage records that wait. The import has counted ahead, and said an
+-- end with the last of them alone.
 pub record Stands (begins : Seen) (before : Receipt) (group : Group) (entry : ImportEntry)
     (ending : Option Stop) (i : ℕ) (now : Seen) (receipt ahead : Receipt)
     (waiting : List (Vec ℕ Global)) (pending : List Accepted) (so : ImportEntry) : Type 0 where
@@ -303,7 +303,8 @@ module _ {begins : Seen} {before : Receipt} {group : Group} {entry : ImportEntry
         ahead_is = value_ahead
             ∙ count_answer (drop (i + 1) group.classes.items) answer ahead receipt
             (ahead_next ∙ ap (λ class. count_ahead (drop (i + 1) group.classes.items)
-            (count_class class receipt)) usage);
+            (count_class class receipt)) usage)
+            ∙ ap (count_ahead (drop (i + 1) group.classes.items)) (sym value);
         waits = λ records is.
             let one = next_in records i class d is within here in
             sym (rest_wait waiting one.bytes (usage_of (drop (i + 1) records))

@@ -147,8 +147,8 @@ module _ (begins now : Seen) (entry : ImportEntry) (receipt : Receipt) {layout :
       let Over = Saying (SaysAt stop after naming layout text) (Imports naming layout cut text here) in
       work_as begins last (Then Stopped (Ends after later stop told))
       (ImportsOf (note_of after) naming layout cut text told)
-      (λ was before events is both. endings.over naming layout cut text after later stop told said was before
-      events is
+      (λ was before events is both.
+      endings.over naming layout cut text after later stop told said was before events is
       (first_as {First = Stopped} {Other = Over} (λ was before events is so. record {
         records = so.records more cut;
         said = at_longer stop after naming layout upto more before events so.said;
@@ -185,8 +185,8 @@ module _ (begins now : Seen) (entry : ImportEntry) (receipt : Receipt) {layout :
       let Over = Saying (SaysAt stop entry naming layout bytes) (Imports naming layout cut bytes read) in
       work_as begins last (Then Led (Ends entry receipt stop told))
       (ImportsOf (note_of entry) naming layout cut bytes told)
-      (λ was before events is both. endings.over naming layout cut bytes entry receipt stop told said was before
-      events is
+      (λ was before events is both.
+      endings.over naming layout cut bytes entry receipt stop told said was before events is
       (first_as {First = Led} {Other = Over} (λ was before events is so. record {
         records = all_handled naming found.records receipt read (stop_after cut found)
             (ap (λ stop. record receipt { stop = stop }) (stop_is joins cut stopped)) was

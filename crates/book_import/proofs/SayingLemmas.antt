@@ -65,7 +65,7 @@ end_alone (Some stop) false events = refl
 end_alone (Some stop) true [] = refl
 end_alone (Some stop) true (newest ∷ earlier) = refl
 
-by_alone : (import : Option Share) (whole : Bool) (answers : List Accepted) (kept : List Event)
+pub by_alone : (import : Option Share) (whole : Bool) (answers : List Accepted) (kept : List Event)
     → AreKept kept → without_notes (told_by import whole answers kept) ≡ kept
 by_alone None whole answers kept are = kept_alone kept are
 by_alone (Some share) whole answers kept are =

@@ -14,9 +14,9 @@ use Rattle.book_import.specs.ImportEntries.{ImportsOf}
 use Rattle.book_import.specs.Laws.{book_after_import}
 use Rattle.book_import.specs.Repeats.{IsUnhindered}
 
--- An import with a note has one entry, if it kept a record, and none else. It has all that the import
--- kept, and what it had read as it kept something last. Once the import is over, the entry has ended as
--- the receipt says; where memory or the store failed, it has ended or not.
+-- An import with a note has one entry, if it kept a record, and none else. It has all that the
+-- import kept, and what it had read as it kept something last. Once the import is over, the entry
+-- has ended as the receipt says; where memory or the store failed, it has ended or not.
 pub record OneEntryEach : Type 0 where
   pub over :
       (note : Note) (naming : Naming) (layout : Layout) (cut : Option Stop) (bytes : List ℕ)
@@ -46,8 +46,8 @@ AgainIsNothing =
     → ImportsOf other naming layout again bytes twice between (after_all first before) second is
     → second ≡ []
 
--- Stops are mended with what the imports say too, but for the journal: that has an entry for each that
--- kept something.
+-- Stops are mended with what the imports say too, but for the journal: that has an entry for each
+-- that kept something.
 abbrev pub EntriesAreMended : Type 0
 EntriesAreMended =
     (import other : Option Note) (naming : Naming) (layout : Layout) (cut again : Option Stop)

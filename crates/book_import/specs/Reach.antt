@@ -39,8 +39,8 @@ pub record IsNoFurther (most : ℕ) (layout : Layout) (bytes : List ℕ)
   pub unbroken : (front layout before).is_broken ≡ false
   pub done : AreDone (front layout before).records
 
--- These bytes were taken from the reader for this receipt, by reads that ask for so many, and no more
--- than it needed: it counts each record that was whole before the last read.
+-- These bytes were taken from the reader for this receipt, by reads that ask for so many, and no
+-- more than it needed: it counts each record that was whole before the last read.
 pub record IsReadFor (most : ℕ) (layout : Layout) (allowed : ℕ) (bytes : List ℕ) (told : Receipt)
     (input : Input) : Type 0 where
   pub taken : Consumes input.old.left input.new.left bytes
@@ -48,8 +48,8 @@ pub record IsReadFor (most : ℕ) (layout : Layout) (allowed : ℕ) (bytes : Lis
   pub no_further :
       IsNoFurther most layout bytes (λ records. length records ≤ counted told) input
 
--- The receipt is the one with which the reading stopped. Or, of an import with a note, it says why the
--- books could not take the end of its entry.
+-- The receipt is the one with which the reading stopped. Or, of an import with a note, it says why
+-- the books could not take the end of its entry.
 abbrev pub EndsAs : Option Note → Receipt → Receipt → Type 0
 EndsAs None read told = told ≡ read
 EndsAs (Some note) read told =

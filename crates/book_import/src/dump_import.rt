@@ -129,8 +129,8 @@ pub fn import_by_pieces<R: Reader + Drop, L: Ledger>(
     import_with(alloc, source, layout, reads, None, ledger, &mut piece)
 }
 
-/// Submits the records of a dump to the books, in order, as if it was read. These bytes are the whole
-/// dump. The entry of the import ends with its last records, in the same change.
+/// Submits the records of a dump to the books, in order, as if it was read. These bytes are the
+/// whole dump. The entry of the import ends with its last records, in the same change.
 pub fn import_bytes<L: Ledger>(
     alloc: Global,
     ledger: &mut L,

@@ -141,14 +141,15 @@ impl ImportEntry {
         ensures longer { self.new.bytes.length ≤ self.old.bytes.length + length piece.now }
         ensures rest { self.new ≡ record self.old { bytes = self.new.bytes } }
     {
-        if self.share.is_some() {
-            self.bytes.add(piece)?;
+        if self.share.is_none() {
+            return Ok(());
         }
+        self.bytes.add(piece)?;
         Ok(())
     }
 
-    /// What it says with its next records: what was counted of all that it has read, and its end, if
-    /// they are its last.
+    /// What it says with its next records: what was counted of all that it has read, and its end,
+    /// if they are its last.
     pub(crate) fn say(&mut self, counts: &Receipt, ending: Option<Stop>)
         ensures { self.new ≡ spec.says_next self.old counts.now ending }
     {

@@ -1,6 +1,6 @@
 //! The bytes that an import has read.
 
-ghost use Rattle.std.specs.Prelude.{◌≡◌, ◌+◌, ◌<◌, ◌^◌, ◌++◌, [], List, OnOk, length, ℕ};
+ghost use Rattle.std.specs.Prelude.{◌≡◌, ◌+◌, ◌<◌, ◌≤◌, ◌^◌, ◌++◌, [], List, OnOk, length, ℕ};
 ghost use Rattle.book_import.specs.EntryWork.{AreRead};
 
 use sha2::{Digest, Sha256};
@@ -27,12 +27,13 @@ impl ReadBytes {
         }
     }
 
-    /// Some more. The digest is that of all of them, by now: those that follow go on with the hasher.
+    /// Some more. The digest is that of all of them, by now: those that follow go on with the
+    /// hasher.
     pub(crate) fn add(&mut self, piece: &[u8]) -> Result<(), AllocError>
         requires { self.old.length + length piece.now < 2 ^ 63 }
         ensures more { OnOk result ((bytes : List ℕ) → AreRead bytes self.old
             → AreRead (bytes ++ piece.now) self.new) }
-        ensures longer { OnOk result (self.new.length ≡ self.old.length + length piece.now) }
+        ensures longer { self.new.length ≤ self.old.length + length piece.now }
     {
         self.hasher.update(piece);
         let copy = self.hasher.clone()?;

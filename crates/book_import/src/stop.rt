@@ -35,8 +35,8 @@ pub(crate) fn dump_end(joiner: &Joiner) -> Stop
     }
 }
 
-/// The stop with which the import ends after a group, if that is known: a descriptor has a fault, or
-/// the group is the last.
+/// The stop with which the import ends after a group, if that is known: a descriptor has a fault,
+/// or the group is the last.
 pub(crate) fn group_end(joiner: &Joiner, group: &Group, is_last: bool) -> Option<Stop>
     ensures broken { IfSome group.now.broken (λ fault. result ≡ Some (Stop.Frame fault)) }
     ensures last { group.now.broken ≡ None → IfSome result (λ stop. (text : List ℕ)

@@ -20,7 +20,7 @@ use std::alloc::Global;
 
 /// The end that is said with records, where the books answered to all of them.
 fn end_if_whole(answers: &[Accepted], waiting: &[Vec<u8>], ending: Option<Stop>) -> Option<Stop>
-    ensures { result ≡ if_whole answers.now (records_in waiting.now) ending }
+    ensures { result ≡ if_whole answers.now waiting.now ending }
 {
     if answers.len() == waiting.len() {
         ending
@@ -29,8 +29,8 @@ fn end_if_whole(answers: &[Accepted], waiting: &[Vec<u8>], ending: Option<Stop>)
     }
 }
 
-/// Submits records together, with what their import says of itself: what was counted so far, and its
-/// end, if they are its last.
+/// Submits records together, with what their import says of itself: what was counted so far, and
+/// its end, if they are its last.
 fn submit<L: Ledger>(
     ledger: &mut L,
     waiting: &[Vec<u8>],
@@ -50,9 +50,14 @@ fn submit<L: Ledger>(
     ensures said { OnErr result (entry.new ≡ says_next entry.old counts.now ending) }
 {
     entry.say(counts, ending);
-    let answers = ledger.accept_many(waiting, &entry.share)?;
-    entry.hear(&answers, end_if_whole(&answers, waiting, ending));
-    Ok(answers)
+    match ledger.accept_many(waiting, &entry.share) {
+        Ok(answers) => {
+            let given = answers.as_slice();
+            entry.hear(given, end_if_whole(given, waiting, ending));
+            Ok(answers)
+        }
+        Err(fault) => Err(fault),
+    }
 }
 
 /// The answer to the first of the records that wait. Where none is left of what the books answered

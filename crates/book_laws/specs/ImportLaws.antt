@@ -13,9 +13,9 @@ use Rattle.office.specs.Laws.{IsStillOpen}
 use Rattle.office.specs.Outcomes.{import_asked_outcome}
 use Rattle.office.specs.Requests.{Count, Dump}
 
--- A dump was imported, with a note or without one, into a ledger that was open with this book, and is
--- open now, on a store that is honest to the end. Neither a lack of memory nor the store stopped the
--- import.
+-- A dump was imported, with a note or without one, into a ledger that was open with this book, and
+-- is open now, on a store that is honest to the end. Neither a lack of memory nor the store
+-- stopped the import.
 pub record IsImported (said : Option Note) (naming : Naming) (start : Book) (books : Books)
     (dump : Dump) (receipt : Receipt) : Type 0 where
   pub opened : IsOpenAt naming start books.old
@@ -24,8 +24,9 @@ pub record IsImported (said : Option Note) (naming : Naming) (start : Book) (boo
       (ImportsOf said books.old.naming dump.layout dump.cut dump.bytes receipt)
   pub unhindered : IsUnhindered receipt
 
--- The receipt is the definitions' one. The ledger is open with the book after the import: its events
--- are the definitions' ones, but for what it said of itself, and with no note it said nothing.
+-- The receipt is the definitions' one. The ledger is open with the book after the import: its
+-- events are the definitions' ones, but for what it said of itself, and with no note it said
+-- nothing.
 pub record ImportsAsDefined (said : Option Note) (naming : Naming) (start : Book) (new : Seen)
     (dump : Dump) (receipt : Receipt) : Type 0 where
   pub receipt_is : Ok (Count receipt) ≡ (import_asked_outcome naming dump start).told

@@ -10,16 +10,16 @@ use Rattle.book_reports.specs.declared.report.Report.{Report}
 use Rattle.book_laws.specs.Runs.{Run, IsRunAfter, book_after_run, history_with}
 use Rattle.book_laws.specs.Statements.{ReadsNoEntry}
 
--- Histories that differ only in times, persons, remarks, files and imports give the same text of each
--- report that says nothing of the journal.
+-- Histories that differ only in times, persons, remarks, files and imports give the same text of
+-- each report that says nothing of the journal.
 abbrev pub NotesChangeNoText : Type 0
 NotesChangeNoText =
     (naming : Naming) (report : Report) (one other : List Event) → ReadsNoEntry report
     → without_notes one ≡ without_notes other
     → report_answer naming report (book_after one) ≡ report_answer naming report (book_after other)
 
--- No run changes an entry of the journal or lets one go: it stays where it stood, as it was, but for
--- an import that went on, which may have kept more.
+-- No run changes an entry of the journal or lets one go: it stays where it stood, as it was, but
+-- for an import that went on, which may have kept more.
 abbrev pub RunsKeepEntries : Type 0
 RunsKeepEntries =
     (naming : Naming) (history : List Event) (run : Run) (entry : Entry) (older : List Entry)
@@ -44,8 +44,8 @@ pub record RunsKeepEachOnce : Type 0 where
       + kept_outside (history_with history run)
       ≡ length (members (book_after_run history run).held)
 
--- The journal names each tariff, each close, each choice and each credit once, in the order in which
--- they came, and the adoption once.
+-- The journal names each tariff, each close, each choice and each credit once, in the order in
+-- which they came, and the adoption once.
 pub record HasRulings (book : Book) : Type 0 where
   pub tariffs : entered tariff_in book.journal ≡ days_back book.rulings.tariffs
   pub closes : entered close_in book.journal ≡ down_from (length book.rulings.closes)

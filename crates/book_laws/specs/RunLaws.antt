@@ -38,8 +38,8 @@ ChargesOnce book =
     → net_count (all_periods book) bytes
     ≡ pos (one_if (is_undisputed book.rulings book.held bytes && has book.held bytes))
 
--- Whatever run was made after a history: over all periods of the book that it leaves, each record that
--- is held and undisputed is charged once net; any other nets to nothing.
+-- Whatever run was made after a history: over all periods of the book that it leaves, each record
+-- that is held and undisputed is charged once net; any other nets to nothing.
 abbrev pub RunsChargeOnce : Type 0
 RunsChargeOnce =
     (naming : Naming) (history : List Event) (run : Run) → IsRunAfter naming history run
@@ -53,8 +53,9 @@ RunsConserve =
     → IsBalanced naming (book_after_run history run)
 
 -- It makes no difference in which order records come between two rulings, and how often: histories
--- with the same rulings in the same order, and the same sets of records between neighbouring rulings,
--- leave books with the same reports. What imports say of themselves stands among the rulings here.
+-- with the same rulings in the same order, and the same sets of records between neighbouring
+-- rulings, leave books with the same reports. What imports say of themselves stands among the
+-- rulings here.
 abbrev pub RunOrderIsFree : Type 0
 RunOrderIsFree =
     (naming : Naming) (before_one before_other : List Event) (one other : Run)
@@ -64,8 +65,9 @@ RunOrderIsFree =
     ≡ record_batches (history_with before_other other)
     → HaveSameTexts (book_after_run before_one one) (book_after_run before_other other)
 
--- Nor does it, but for the journal, how records are cut into dumps, requests and runs, and what notes
--- say: the same of histories without their notes, and without what imports say of themselves.
+-- Nor does it, but for the journal, how records are cut into dumps, requests and runs, and what
+-- notes say: the same of histories without their notes, and without what imports say of
+-- themselves.
 abbrev pub RunCutsAreFree : Type 0
 RunCutsAreFree =
     (naming : Naming) (before_one before_other : List Event) (one other : Run)

@@ -1,11 +1,11 @@
-//! Laws of the journal, which hold of the definitions alone. Each is the contract of a function that
-//! does nothing.
+//! Laws of the journal, which hold of the definitions alone. Each is the contract of a function
+//! that does nothing.
 
 ghost use Rattle.book_laws.specs.JournalRuns.{NotesChangeNoText, RunsEnterRulings};
 ghost use Rattle.book_laws.specs.JournalRuns.{RunsKeepEachOnce, RunsKeepEntries, RunsKeepWords};
 
-/// Histories that differ only in times, persons, remarks, files and imports give the same text of each
-/// report, but for the line of a record that says by which entry it came.
+/// Histories that differ only in times, persons, remarks, files and imports give the same text of
+/// each report, but for the line of a record that says by which entry it came.
 pub fn notes_change_no_text()
     ensures { NotesChangeNoText }
 {}
@@ -16,14 +16,14 @@ pub fn runs_keep_entries()
     ensures { RunsKeepEntries }
 {}
 
-/// After any run a record that is held came by one import, if each came in one; and what the imports
-/// kept adds up to what is held.
+/// After any run a record that is held came by one import, if each came in one; and what the
+/// imports kept adds up to what is held.
 pub fn runs_keep_each_once()
     ensures { RunsKeepEachOnce }
 {}
 
-/// After any run the journal names each tariff, close, choice and credit once, in their order, and the
-/// adoption once, if each came with a note.
+/// After any run the journal names each tariff, close, choice and credit once, in their order, and
+/// the adoption once, if each came with a note.
 pub fn runs_enter_rulings()
     ensures { RunsEnterRulings }
 {}

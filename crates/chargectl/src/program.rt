@@ -6,6 +6,7 @@ ghost use Rattle.program_output.specs.Messages.{AreSaid};
 ghost use Rattle.without_books.specs.Faults.{shelf_end};
 ghost use Rattle.chargectl.specs.Requests as requests;
 ghost use Rattle.chargectl.specs.Requests.{CommandsBy, Does, Helps, IsRefusedFor, Runs};
+ghost use Rattle.chargectl.specs.Requests.{UnlessUnnoted, WaitsAndDoes};
 
 use crate::audits::{audit, back_up};
 use crate::book_commands::{import_dump, rule, tell};
@@ -20,7 +21,7 @@ use crate::upgrades::upgrade;
 use crate::withheld_works::withhold_dump;
 use book_audit::AuditedRepository;
 use book_core::{LedgerFault, Note};
-use command_line::{ArgumentFault, BookRequest, Request, requested_by};
+use command_line::{ArgumentFault, BookRequest, NoteWords, Request, requested_by};
 use named_books::{RepositoryFault, WaitingRepository};
 use program_output::{PROGRAM, Status, out_of_memory, say};
 use std::io::Read;
@@ -105,17 +106,39 @@ where
             wait,
             note,
             asked,
-        } => match note_of(rt.alloc(), inputs, note, &asked) {
-            Ok(own) => {
-                repository.wait_up_to(wait_for(&asked, wait));
-                run_on_books(rt, repository, inputs, book, own, asked, output)
-            }
-            Err(_) => {
-                let memory = CommandFault::Ledger(LedgerFault::Memory);
-                (Ended::without_log(Err(memory)), output)
-            }
-        },
+        } => run_noted(rt, repository, inputs, book, wait, note, asked, output),
         Request::Unclear(why) => (Ended::without_log(Err(CommandFault::Unclear(why))), output),
+    }
+}
+
+/// Makes the note of what is asked of books, and does that. Without memory for the note nothing is done.
+fn run_noted<S, F: Inputs, O: Writer + Drop>(
+    rt: &HostRuntime,
+    repository: &mut S,
+    inputs: &F,
+    book: &str,
+    wait: u16,
+    note: NoteWords<'_>,
+    asked: BookRequest<'_>,
+    output: O,
+) -> (Ended, O)
+where
+    S: AuditedRepository + WaitingRepository,
+    ensures { UnlessUnnoted repository.old repository.new (O.contents output)
+        (O.contents result.1) result.0
+        (WaitsAndDoes (F.held inputs.now) S.shelf S.waits repository.old repository.new
+        (requests.wait_for asked.entry wait) asked.entry book.now (O.contents output)
+        (O.contents result.1) (∥ HasFailed O.may_answer result.1 ∥₁) result.0) }
+{
+    match note_of(rt.alloc(), inputs, note, &asked) {
+        Ok(own) => {
+            repository.wait_up_to(wait_for(&asked, wait));
+            run_on_books(rt, repository, inputs, book, own, asked, output)
+        }
+        Err(_) => {
+            let memory = CommandFault::Ledger(LedgerFault::Memory);
+            (Ended::without_log(Err(memory)), output)
+        }
     }
 }
 

@@ -457,8 +457,8 @@ fn imported_in<'a>(found: &ArgMatches<'a>, number: &'a str) -> Option<Request<'a
         → HasWord (rows_in found.now) known.wait → IsSome result }
 {
     let tried = flag_in(found, "dry-run")?;
-    let none = flag_in(found, "none")?;
-    if !none {
+    let withheld = flag_in(found, "none")?;
+    if !withheld {
         return Some(Request::Unclear(Unclear::Import));
     }
     if tried {

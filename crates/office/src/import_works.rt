@@ -20,7 +20,8 @@ fn push_if(names: &mut Vec<[u8; 32]>, entry: u64, arrival: &Arrival) -> Result<(
     if arrival.entry != entry {
         return Ok(());
     }
-    names.push(arrival.name)
+    names.push(arrival.name)?;
+    Ok(())
 }
 
 /// Keeps the names of the records that came by an entry.

@@ -60,12 +60,15 @@ fn credit_by(
     let period = period.parse::<u16>()?;
     let said = credit_words(centre, amount, reason)?;
     let text = String::from_str(alloc, reason)?;
-    Ok(Asked::Rule(OwnedRuling::Credit {
-        period,
-        centre: said.0,
-        amount: said.1,
-        reason: text,
-    }, None))
+    Ok(Asked::Rule(
+        OwnedRuling::Credit {
+            period,
+            centre: said.0,
+            amount: said.1,
+            reason: text,
+        },
+        None,
+    ))
 }
 
 /// What is asked of a period by another tariff: of all centres, or of the one that is named after a

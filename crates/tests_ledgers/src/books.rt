@@ -69,7 +69,14 @@ fn import_dump<L: Ledger>(
     let dump = named.read_dump(parts)?;
     let mut source = Source::new(reading.reader(&dump));
     let reads = reading.allowed();
-    let receipt = import(named.alloc(), &mut source, reading.layout, reads, ledger);
+    let receipt = import(
+        named.alloc(),
+        &mut source,
+        reading.layout,
+        reads,
+        None,
+        ledger,
+    );
     push_receipt(out, &receipt);
     reading.push_asked(out, source.asked());
     Ok(())

@@ -14,7 +14,7 @@ const ENOUGH: u16 = 10_000;
 fn import_once<L: Ledger>(alloc: Global, ledger: &mut L, reading: Reading, dump: &[u8]) -> Receipt {
     let mut source = Source::new(reading.reader(dump));
     let reads = reading.allowed();
-    import(alloc, &mut source, reading.layout, reads, ledger)
+    import(alloc, &mut source, reading.layout, reads, None, ledger)
 }
 
 /// Imports a dump from a reader that fails after a given number of reads, and once more whole. Adds

@@ -7,8 +7,8 @@ ghost use Rattle.book_core.specs.Submissions.{TakesOf, records_in};
 ghost use Rattle.book_core.specs.Transition.{IsTransition};
 
 use book_core::{
-    Accepted, ChargeRow, Credit, Detail, Dispute, Ledger, LedgerFault, Line, ListedRuling, Name,
-    Note, Ruled, Ruling, Share, Stop, Tariff, Trail,
+    Accepted, Arrival, ChargeRow, Credit, Detail, Dispute, Ledger, LedgerFault, Line, ListedEntry,
+    ListedRuling, Name, Note, Ruled, Ruling, Share, Stop, Tariff, Trail,
 };
 use std::alloc::Global;
 use tests_scripts::is_due;
@@ -197,6 +197,20 @@ impl<L: Ledger> Ledger for RefusingLedger<'_, L> {
             return Err(refusal(&mut *self.inner));
         }
         self.inner.credit_given(number)
+    }
+
+    fn entry(&mut self, number: u64) -> Result<Option<ListedEntry>, LedgerFault> {
+        if is_due(&mut self.calls_left) {
+            return Err(refusal(&mut *self.inner));
+        }
+        self.inner.entry(number)
+    }
+
+    fn arrival_from(&mut self, from: &[u8]) -> Result<Option<Arrival>, LedgerFault> {
+        if is_due(&mut self.calls_left) {
+            return Err(refusal(&mut *self.inner));
+        }
+        self.inner.arrival_from(from)
     }
 
     fn record_named(&mut self, alloc: Global, name: &[u8; 32]) -> Result<Vec<u8>, LedgerFault> {

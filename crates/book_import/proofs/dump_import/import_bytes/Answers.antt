@@ -9,6 +9,7 @@ use Rattle.book_core.specs.Transition.{IsTransition}
 use Rattle.book_model.specs.declared.note.Stop.{Stop}
 use Rattle.book_model.specs.Words.{Front, Note, front, note_given}
 use Rattle.book_import.specs.declared.import_entry.ImportEntry.{ImportEntry}
+use Rattle.book_import.specs.declared.receipt.Receipt.{Receipt}
 use Rattle.book_import.specs.Dumps.{frame_stop}
 use Rattle.book_import.specs.EntryWork.{note_of}
 use Rattle.book_import.specs.ImportEntries.{BooksInPieces, ImportsOf}
@@ -96,7 +97,7 @@ loop-rest-init g c = record {
   joins = (
     [],
     refl,
-    subst (λ receipt. counted receipt ≤ 0) (sym c.stopped-receipt.ensures) (lit≤ tt),
+    subst (λ (receipt : Receipt). counted receipt ≤ 0) (sym c.stopped-receipt.ensures) (lit≤ tt),
     joins_nothing (g.L.Ledger.seen c.args.ledger.now) c.args.layout c.in-Ok.joiner
         c.new-entry.result c.stopped-receipt.result c.new-entry.ensures.begun
         c.new-entry.ensures.ended c.in-Ok.ensures.value c.in-Ok.ensures.stands c.in-Ok.ensures.found

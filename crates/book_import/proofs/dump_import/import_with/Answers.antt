@@ -140,18 +140,6 @@ returns-in-Some-import_piece-clause-booked g c =
     (holds_here joins.2 (λ l text. SaidEnd l (text ++ part) (Some stop) after) stopped.ended)
     c.end_import-in-Some-import_piece.ensures.ends cut)
 
-pub import_piece-requires-clause-short : goal.import_piece-requires-clause-short
-import_piece-requires-clause-short g c =
-    let room : length c.read_into.new.piece ≡ g.most = search rules in
-    omega (
-      arith,
-      room,
-      c.requires,
-      c.loop.invariant.short,
-      c.in-Some.ensures.came.1,
-      length-take-le c.in-Some.count c.read_into.new.piece c.in-Some.ensures.came.1,
-    )
-
 pub loop-preserved : goal.loop-preserved
 loop-preserved g c =
     let joins = c.loop.invariant.joins in

@@ -3,13 +3,13 @@ use Rattle.command_line.specs.Requests.{IsDryRun, IsFlag, rows_in}
 use Rattle.command_line.proofs.matched_request.imported_in.Goals as goal
 
 -- it is not said that none of the works counts
-pub returns-then-not-none-clause-request : goal.returns-then-not-none-clause-request
-returns-then-not-none-clause-request c = λ no_dump given. (
+pub returns-then-not-withheld-clause-request : goal.returns-then-not-withheld-clause-request
+returns-then-not-withheld-clause-request c = λ no_dump given. (
   refl,
   no_dump,
   ap is_some given,
-  inl (subst (IsFlag (rows_in c.args.found.now) (codes "none")) c.if-not-none.true
-      c.in_ok-none.ensures.flag),
+  inl (subst (IsFlag (rows_in c.args.found.now) (codes "none")) c.if-not-withheld.true
+      c.in_ok-withheld.ensures.flag),
 )
 
 -- or it is a dry run
@@ -39,6 +39,6 @@ returns-clause-request c =
       no_dump,
       given,
       sym c.names_some.ensures ∙ c.if-names_some.false,
-      subst (IsFlag rows (codes "none")) c.if-not-none.false c.in_ok-none.ensures.flag,
+      subst (IsFlag rows (codes "none")) c.if-not-withheld.false c.in_ok-withheld.ensures.flag,
       subst (IsDryRun rows) c.if-tried.false c.in_ok-tried.ensures.flag,
     )
