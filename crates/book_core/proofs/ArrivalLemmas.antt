@@ -1,16 +1,37 @@
 -- Records that are held, by name, with the entries by which they came: which is found from a name on.
 use Rattle.std.proofs.Common.{◌≡◌, ◌∙◌, ◌||◌, ℕ, List, [], ◌∷◌, ◌++◌, map, find, Bool, true, false}
-use Rattle.std.proofs.Common.{cond, Some, refl, sym, ap, subst, option_map, map-id}
+use Rattle.std.proofs.Common.{cond, Some, true≢false, refl, sym, ap, subst, option_map, map-id}
 use Rattle.std.proofs.Math.Bool.{or-true}
 use Rattle.book_model.proofs.Std.{IsStrictlySortedBy, exact_bytes, list_any, map-map}
 use Rattle.book_model.proofs.Std.{nat_list_cmp_total, tells_apart}
 use Rattle.book_model.proofs.FromLemmas.{find-map, walk_to}
 use Rattle.book_model.proofs.Lemmas.{any_tied-members, is, is_itself, members_rise}
+use Rattle.book_model.proofs.Lemmas.{same_bytes-by_cmp}
 use Rattle.book_model.specs.declared.entry.Arrival.{Arrival}
 use Rattle.book_model.specs.Words.{Book, Naming, Records, arrival_at, arrival_from, arrivals}
 use Rattle.book_model.specs.Words.{by_bytes, is_from, members, name_of, names_of, record_named}
 use Rattle.book_model.specs.Words.{same_bytes, set_of}
 use Rattle.book_core.proofs.NamedLemmas.{same_texts}
+
+-- texts are the same in either order,
+pub swapped : (a b : List ℕ) → is a b ≡ same_bytes b a
+swapped a b = by (is a b) (same_bytes b a) refl refl
+  where
+    by : (one other : Bool) → is a b ≡ one → same_bytes b a ≡ other → is a b ≡ same_bytes b a
+    by true other tied is_other =
+        let same = tells_apart exact_bytes a b tied in
+        tied ∙ sym ((λ i. same_bytes-by_cmp i b a) ∙ ap (is b) same ∙ is_itself b)
+    by false true apart tied =
+        absurd (true≢false (sym (ap (is a) (same_texts b a tied) ∙ is_itself a) ∙ apart))
+    by false false apart other = apart ∙ sym other
+
+-- so a name is among those of some records where one of them has it
+pub all_swapped : (naming : Naming) (name : List ℕ) (list : List (List ℕ))
+    → list_any (is name) (map (name_of naming) list)
+    ≡ list_any (λ other. same_bytes (name_of naming other) name) list
+all_swapped naming name [] = refl
+all_swapped naming name (first ∷ list) =
+    λ i. swapped name (name_of naming first) i || all_swapped naming name list i
 
 -- the name of a record that is found is among the names of all
 named_among : (naming : Naming) (name bytes : List ℕ) (list : List (List ℕ))

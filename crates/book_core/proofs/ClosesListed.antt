@@ -1,5 +1,5 @@
 -- A close as it stands in the list, by its period.
-use Rattle.std.proofs.Common.{◌≡◌, ◌≢◌, ◌∙◌, ◌+◌, ◌-◌, ◌<◌, ◌≤◌, ℕ, ℤ, List, None, ap, arith, cond}
+use Rattle.std.proofs.Common.{◌≡◌, ◌≢◌, ◌∙◌, ◌+◌, ◌-◌, ◌≤◌, ℕ, ℤ, List, None, ap, arith, cond}
 use Rattle.std.proofs.Common.{length, ne_eqb, option_map, slice_get, sym}
 use Rattle.std.proofs.lemmas.Option.{slice_get_past}
 use Rattle.book_model.specs.Words.{CloseSeen, close_of, closes_seen}

@@ -170,3 +170,12 @@ module _ (rulings : Rulings) (counts : RulingCounts) (number : ℕ) where
       ∙ slice_get-right (tariffs_seen rulings.tariffs)
       (closes_seen 1 rulings.closes ++ behind) number rest past
       ∙ slice_get-right (closes_seen 1 rulings.closes) behind rest left gone)
+
+-- the first of those that are kept of a list is found first
+pub first_kept : {X : Type 0} (keep : X → Bool) (list : List X)
+    → find keep list ≡ slice_get (filter keep list) 0
+first_kept keep [] = refl
+first_kept {X} keep (first ∷ later) =
+    elim (keep first) as (λ b.
+    cond b (Some first) (find keep later) ≡ slice_get (cond b (first ∷ filter keep later)
+    (filter keep later)) 0) [ true ↦ refl | false ↦ first_kept keep later ]

@@ -9,6 +9,7 @@ mod credit_copies;
 mod credit_limits;
 mod details;
 mod effects;
+mod endings;
 mod ledger;
 mod limits;
 mod lines;
@@ -36,6 +37,7 @@ pub use effects::{
     ChoiceEffects, DayChange, Effects, LineChange, Member, View, plan, plan_charge, plan_choice,
     plan_withheld,
 };
+pub use endings::ending_of;
 pub use ledger::Ledger;
 pub use limits::{
     CREDIT_END, LAST_PERIOD, MAX_CHOICES, MAX_COST, MAX_CREDITS, MAX_HELD, MAX_REPLACED,

@@ -20,6 +20,9 @@ pub mod BookLemmas
 pub mod ChosenLemmas
 pub mod PlainCallLemmas
 pub mod JournalLemmas
+pub mod MadeLemmas
+pub mod ArrivalNames
+pub mod PlaceLemmas
 pub mod OtherPriceLemmas
 pub mod LineLemmas
 pub mod PlainDetailLemmas

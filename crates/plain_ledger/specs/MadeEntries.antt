@@ -2,11 +2,12 @@
 use Rattle.std.specs.Prelude.{ℕ, Bool, true, List, [], ◌∷◌, length, Option, None, Some, Vec, if◌then◌else◌}
 use Rattle.std.specs.FinMap as map
 use Rattle.std.specs.Global.{Global}
+use Rattle.book_model.specs.declared.entry.Arrival.{Arrival}
 use Rattle.book_model.specs.declared.note.Note.{Note}
 use Rattle.book_model.specs.declared.note.Share.{Share}
 use Rattle.book_model.specs.declared.note.Stop.{Stop}
 use Rattle.book_model.specs.Journal.{Act, Entry, Imported, Importing, Ruled as RuledAt}
-use Rattle.book_model.specs.Journal.{change_newest, end_with, keep_in, kept_by, read_on}
+use Rattle.book_model.specs.Journal.{came_by, change_newest, end_with, keep_in, kept_by, read_on}
 use Rattle.book_model.specs.Words.{Records, ending_shown, members, note_shown, place_shown}
 use Rattle.book_model.specs.Words.{reading_shown, stop_shown, with}
 use Rattle.book_core.specs.Submissions.{records_in}
@@ -17,6 +18,7 @@ use Rattle.plain_ledger.specs.declared.made_entries.MadeAct.{MadeAct}
 use Rattle.plain_ledger.specs.declared.made_entries.MadeAct.TheVariants as made
 use Rattle.plain_ledger.specs.declared.made_entries.MadeEntry.{MadeEntry}
 use Rattle.plain_ledger.specs.Journals.{place_by}
+use Rattle.plain_ledger.specs.Plain.{Entry as HeldEntry, record_of}
 
 -- the set of some records, which came one after another
 abbrev pub kept_from : Records → List (List ℕ) → Records
@@ -83,3 +85,8 @@ change_by (what.End stop) act = end_with (stop_shown stop) act
 abbrev pub joined_by : Option Entry → (Act → Act) → List Entry → List Entry
 joined_by (Some entry) change entries = entry ∷ entries
 joined_by None change entries = change_newest change entries
+
+-- a record by its name, with the entry by which it came
+abbrev pub arrival_made : List MadeEntry → HeldEntry → Arrival
+arrival_made made entry =
+    record { name = entry.0; entry = came_by (entries_made made) (record_of entry.1) }

@@ -3,8 +3,10 @@
 ghost use Rattle.std.specs.Prelude.{◌≡◌, [], IfOk, OnOk, Some, if◌then◌else◌};
 ghost use Rattle.book_model.specs.Journal.{change_newest, keep_in};
 ghost use Rattle.plain_ledger.specs.Journals as spec;
+ghost use Rattle.plain_ledger.specs.MadeEntries.{entries_made};
 
 use crate::copies::copied_share;
+use crate::made_entries::{MadeEntry, make_entries};
 use book_model::{Accepted, LedgerFault, Note, Ruled, Share, Stop};
 use std::alloc::{AllocError, Global};
 
@@ -153,5 +155,12 @@ impl Journal {
             None => self.alone(alloc, bytes),
             Some(share) => self.of_import(alloc, bytes, share, whole),
         }
+    }
+
+    /// The entries, the oldest first.
+    pub(crate) fn entries(&self, alloc: Global) -> Result<Vec<MadeEntry>, LedgerFault>
+        ensures { IfOk result (λ made. entries_made made.items ≡ spec.entries_in self.now) }
+    {
+        make_entries(alloc, &self.said)
     }
 }

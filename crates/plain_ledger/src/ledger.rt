@@ -6,8 +6,8 @@ use crate::journal::{Journal, Said, is_done, is_kept};
 use crate::plain::PlainBooks;
 use book_core::{AcceptedTariff, Ledger, Rulings, copied_note};
 use book_model::{
-    Accepted, ChargeRow, Credit, Detail, Dispute, LedgerFault, Line, ListedRuling, Naming, Note,
-    Ruled, Ruling, Share, Stop, Trail,
+    Accepted, Arrival, ChargeRow, Credit, Detail, Dispute, LedgerFault, Line, ListedEntry,
+    ListedRuling, Naming, Note, Ruled, Ruling, Share, Stop, Trail,
 };
 use smf_text::Name;
 use std::alloc::{AllocError, Global};
@@ -29,8 +29,10 @@ fn is_one(records: &[Vec<u8>]) -> bool
 }
 
 impl<N: Naming + Drop> PlainLedger<N> {
-    ghost use Rattle.std.specs.Prelude.{◌≡◌, [], IfOk, None, Some};
-    ghost use Rattle.book_model.specs.Words.{IsBookCall, IsUsageRecord, MayBeAsked, accept_outcome};
+    ghost use Rattle.std.specs.Prelude.{◌≡◌, [], IfOk, None, Some, option_map};
+    ghost use Rattle.book_model.specs.Words.{Answers, IsBookCall, IsUsageRecord, MayBeAsked};
+    ghost use Rattle.book_model.specs.Words.{ShowsEntryDays, accept_outcome, arrival_outcome};
+    ghost use Rattle.book_model.specs.Words.{entry_outcome, entry_shown};
     ghost use Rattle.book_model.specs.Words.{ended_outcome, flat_book, new_book, note_given};
     ghost use Rattle.book_model.specs.Words.{note_shown, rule_outcome, ruling_asked};
     ghost use Rattle.book_core.specs.Ledgers.{IsOpenAt};
@@ -149,6 +151,36 @@ impl<N: Naming + Drop> PlainLedger<N> {
         self.journal.add(Said::End(stop));
         Ok(())
     }
+
+    /// The entry of a number, from 0, if there is one. All are made for it.
+    fn entry_listed(&self, number: u64) -> Result<Option<ListedEntry>, LedgerFault>
+        ensures entry { Answers (λ found. option_map entry_shown found) result (entry_outcome
+            (N.name_of (naming_in self.now.books)) number (ledger_book self.now)).answer }
+        ensures shown { IfOk result ShowsEntryDays }
+    {
+        let mut made = self.journal.entries(self.alloc)?;
+        if number >= made.len() as u64 {
+            return Ok(None);
+        }
+        let entry = made.swap_remove(number as usize);
+        let act = self.books.listed_act(entry.act)?;
+        Ok(Some(ListedEntry {
+            number: number + 1,
+            note: entry.note,
+            act,
+        }))
+    }
+
+    /// The first record whose name is these bytes or comes after them, with the entry by which it
+    /// came.
+    fn arrival_kept(&self, from: &[u8]) -> Result<Option<Arrival>, LedgerFault>
+        ensures { Answers (λ found. found) result (arrival_outcome
+            (N.name_of (naming_in self.now.books)) from.now (ledger_book self.now)).answer }
+    {
+        let made = self.journal.entries(self.alloc)?;
+        let found = self.books.arrival_held(&made, from);
+        Ok(found)
+    }
 }
 
 impl<N: Naming + Drop> Ledger for PlainLedger<N> {
@@ -223,6 +255,14 @@ impl<N: Naming + Drop> Ledger for PlainLedger<N> {
 
     fn credit_given(&mut self, number: u64) -> Result<Option<Credit>, LedgerFault> {
         self.books.credit_kept(number)
+    }
+
+    fn entry(&mut self, number: u64) -> Result<Option<ListedEntry>, LedgerFault> {
+        self.entry_listed(number)
+    }
+
+    fn arrival_from(&mut self, from: &[u8]) -> Result<Option<Arrival>, LedgerFault> {
+        self.arrival_kept(from)
     }
 
     fn record_named(&mut self, alloc: Global, name: &[u8; 32]) -> Result<Vec<u8>, LedgerFault> {

@@ -1,6 +1,7 @@
 //! A plain ledger, which keeps its books in memory.
 #![tactic(auto)]
 
+mod arrivals;
 mod charge_rows;
 mod choices;
 mod chosen;

@@ -1,6 +1,7 @@
 //! The entries of the journal, made of what calls said.
 
-ghost use Rattle.std.specs.Prelude.{◌≡◌, ◌+◌, [], IfOk, OnOk, length, option_map};
+ghost use Rattle.std.specs.Prelude.{◌≡◌, ◌<◌, ◌+◌, [], IfOk, None, OnOk, if◌then◌else◌, length};
+ghost use Rattle.std.specs.Prelude.{option_map};
 ghost use Rattle.book_model.specs.Journal as journal;
 ghost use Rattle.book_model.specs.Words.{ending_shown, has, members, place_shown, reading_shown};
 ghost use Rattle.book_model.specs.Words.{same_bytes, stop_shown, terms_in, with};
@@ -9,7 +10,7 @@ ghost use Rattle.plain_ledger.specs.MadeEntries as spec;
 ghost use Rattle.plain_ledger.specs.MadeEntries.{act_of, entries_made, entry_of, kept_of};
 
 use crate::journal::{Said, Standing};
-use book_core::copied_note;
+use book_core::{copied_note, ending_of};
 use book_model::{Ending, LedgerFault, Note, Place, Reading, Share, Stop};
 use std::alloc::{AllocError, Global};
 use tariff_rules::Tariff;
@@ -62,19 +63,6 @@ fn place_of(alloc: Global, standing: &Standing) -> Result<Place, LedgerFault>
         Standing::Adoption => Ok(Place::Adoption),
         Standing::Replacement(before) => Ok(Place::Replacement(next_number(*before)?)),
         Standing::Credit(before) => Ok(Place::Credit(next_number(*before)?)),
-    }
-}
-
-/// Why an import ended, as the journal has it.
-fn ending_of(stop: Stop) -> Ending
-    ensures { ending_shown result ≡ stop_shown stop }
-{
-    match stop {
-        Stop::End => Ending::End,
-        Stop::Frame(fault) => Ending::Frame(fault.number()),
-        Stop::Read => Ending::Read,
-        Stop::ReadLimit => Ending::ReadLimit,
-        Stop::Ledger(fault) => Ending::Ledger(fault.number()),
     }
 }
 
@@ -199,15 +187,12 @@ fn changed_by(alloc: Global, act: MadeAct, said: &Said) -> Result<MadeAct, Alloc
     }
 }
 
-/// Entries with what one more call said.
-fn join(alloc: Global, made: &mut Vec<MadeEntry>, said: &Said) -> Result<(), LedgerFault>
+/// The newest entry is about what one more call said, which begins none.
+fn change_last(alloc: Global, made: &mut Vec<MadeEntry>, said: &Said) -> Result<(), LedgerFault>
+    requires { None ≡ spec.begun_by said.now }
     ensures { OnOk result (entries_made made.new.items
         ≡ said_after said.now (entries_made made.old.items)) }
 {
-    if let Some(entry) = begun_by(alloc, said)? {
-        made.push(entry)?;
-        return Ok(());
-    }
     let Some(last) = made.pop() else {
         return Ok(());
     };
@@ -216,6 +201,18 @@ fn join(alloc: Global, made: &mut Vec<MadeEntry>, said: &Said) -> Result<(), Led
         note: last.note,
         act,
     })?;
+    Ok(())
+}
+
+/// Entries with what one more call said.
+fn join(alloc: Global, made: &mut Vec<MadeEntry>, said: &Said) -> Result<(), LedgerFault>
+    ensures { OnOk result (entries_made made.new.items
+        ≡ said_after said.now (entries_made made.old.items)) }
+{
+    let Some(entry) = begun_by(alloc, said)? else {
+        return change_last(alloc, made, said);
+    };
+    made.push(entry)?;
     Ok(())
 }
 
@@ -249,15 +246,22 @@ fn has_bytes(kept: &[Vec<u8>], bytes: &[u8]) -> bool
     false
 }
 
+/// So many records, fewer than there may be, with one more, if it is new.
+fn counted_with(count: u64, most: u64, there: bool) -> u64
+    requires { count < most }
+    ensures { result ≡ (if there then count else count + 1) }
+{
+    if there { count } else { count + 1 }
+}
+
 /// How many records they are.
 pub(crate) fn count_kept(kept: &[Vec<u8>]) -> u64
     ensures { result ≡ length (members (kept_of kept.now)) }
 {
     let mut count: u64 = 0;
     for at in 0..kept.len() {
-        if !has_bytes(&kept[..at], &kept[at]) {
-            count += 1;
-        }
+        let there = has_bytes(&kept[..at], &kept[at]);
+        count = counted_with(count, at as u64 + 1, there);
     }
     count
 }
@@ -273,15 +277,21 @@ fn has_kept(act: &MadeAct, bytes: &[u8]) -> bool
     }
 }
 
+/// A number, or another one where a test holds.
+fn number_where(test: bool, number: u64, other: u64) -> u64
+    ensures { result ≡ (if test then other else number) }
+{
+    if test { other } else { number }
+}
+
 /// The number of the entry of the import that kept the record; 0 where none did.
 pub(crate) fn came_by(made: &[MadeEntry], bytes: &[u8]) -> u64
     ensures { result ≡ journal.came_by (entries_made made.now) bytes.now }
 {
     let mut number: u64 = 0;
     for at in 0..made.len() {
-        if has_kept(&made[at].act, bytes) {
-            number = at as u64 + 1;
-        }
+        let test = has_kept(&made[at].act, bytes);
+        number = number_where(test, number, at as u64 + 1);
     }
     number
 }

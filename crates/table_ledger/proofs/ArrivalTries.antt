@@ -10,12 +10,13 @@ use Rattle.book_model.proofs.Std.{nat_list_cmp_total, option_map_or, tells_apart
 use Rattle.book_model.specs.declared.entry.Arrival.{Arrival}
 use Rattle.book_model.specs.Words.{Book, Entry, Naming, Records, arrival_at, arrival_from, arrivals}
 use Rattle.book_model.specs.Words.{by_bytes, came_by, has, is_from, kept_by, members, name_of}
-use Rattle.book_model.specs.Words.{names_of, record_named, same_bytes, set_of}
+use Rattle.book_model.specs.Words.{names_of, record_named, set_of}
 use Rattle.book_model.proofs.FromLemmas.{find-map}
 use Rattle.book_model.proofs.Lemmas.{any_tied-members, find-both, is, is_itself, members_rise}
-use Rattle.book_model.proofs.Lemmas.{named_held, same_bytes-by_cmp}
+use Rattle.book_model.proofs.Lemmas.{named_held}
 use Rattle.book_model.proofs.MapLemmas.{else_find}
-use Rattle.book_core.proofs.NamedLemmas.{is_some-named, its_name, same_texts}
+use Rattle.book_core.proofs.ArrivalLemmas.{all_swapped}
+use Rattle.book_core.proofs.NamedLemmas.{is_some-named, its_name}
 use Rattle.table_model.specs.JournalRows.{came_entries}
 use Rattle.table_model.specs.Journaled.{AreEntries, IsJournaled}
 use Rattle.table_model.specs.UnderNames.{under_names}
@@ -84,25 +85,6 @@ none_from from (first ∷ rest) before =
     before other (ap (λ b. is other first || b) among ∙ or-true (is other first)))
 
 -- ---- the names of a book's records
-
--- texts are the same in either order
-swapped : (a b : List ℕ) → is a b ≡ same_bytes b a
-swapped a b = by (is a b) (same_bytes b a) refl refl
-  where
-    by : (one other : Bool) → is a b ≡ one → same_bytes b a ≡ other → is a b ≡ same_bytes b a
-    by true other tied is_other =
-        let same = tells_apart exact_bytes a b tied in
-        tied ∙ sym ((λ i. same_bytes-by_cmp i b a) ∙ ap (is b) same ∙ is_itself b)
-    by false true apart tied =
-        absurd (true≢false (sym (ap (is a) (same_texts b a tied) ∙ is_itself a) ∙ apart))
-    by false false apart other = apart ∙ sym other
-
-all_swapped : (naming : Naming) (name : List ℕ) (list : List (List ℕ))
-    → list_any (is name) (map (name_of naming) list)
-    ≡ list_any (λ other. same_bytes (name_of naming other) name) list
-all_swapped naming name [] = refl
-all_swapped naming name (first ∷ list) =
-    λ i. swapped name (name_of naming first) i || all_swapped naming name list i
 
 module _ (naming : Naming) (book : Book) (whole : IsReadable naming book)
     (journaled : IsJournaled book) where

@@ -18,6 +18,7 @@ use Rattle.book_model.specs.Words.{ImportDone, Naming, Replaced, RulingDone, Rul
 use Rattle.book_model.specs.Words.{TariffSeen, choice_seen, close_of, credit_seen, entries_listed}
 use Rattle.book_model.specs.Words.{entry_seen, is_effective, members, ruling_at, tariff_seen}
 use Rattle.book_core.specs.OfficeRulings.{ruled_in}
+use Rattle.book_core.proofs.ListedLemmas.{first_kept}
 use Rattle.table_model.specs.JournalRows.{act_row, journal_row, journal_rows}
 use Rattle.table_model.specs.Readable.{IsReplaced, IsTexted}
 use Rattle.table_model.specs.Tables.{ImportRow, JournalRow, ReplacedRow, ReplacedTable, RowAct}
@@ -188,15 +189,6 @@ module _ (naming : Naming) (rulings : Rulings) where
       ∙ ap (λ n. option_map (row_listed naming rulings n) (slice_get rows place)) same
 
 -- ---- the ruling of a place
-
--- the first of those that are kept of a list
-first_kept : {X : Type 0} (keep : X → Bool) (list : List X)
-    → find keep list ≡ slice_get (filter keep list) 0
-first_kept keep [] = refl
-first_kept {X} keep (first ∷ later) =
-    elim (keep first) as (λ b.
-    cond b (Some first) (find keep later) ≡ slice_get (cond b (first ∷ filter keep later)
-    (filter keep later)) 0) [ true ↦ refl | false ↦ first_kept keep later ]
 
 -- a tariff that came as a text is seen with it
 texted : (day : ℤ) (tariff : AcceptedTerms) → IsTexted tariff → is_effective day tariff ≡ true

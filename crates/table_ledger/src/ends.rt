@@ -7,9 +7,9 @@ ghost use Rattle.table_ledger.specs.Groups.{end_step};
 ghost use Rattle.table_ledger.specs.Stages.{AttemptsOne};
 
 use crate::commits::commit_written;
-use crate::groups::{Joined, ending_of, newest_entry, newest_joined};
+use crate::groups::{Joined, newest_entry, newest_joined};
 use crate::summary::Summary;
-use book_core::{LedgerFault, Stop};
+use book_core::{LedgerFault, Stop, ending_of};
 use sqlite_trees::error::StoreError;
 use sqlite_trees::store::Store;
 use std::alloc::Global;

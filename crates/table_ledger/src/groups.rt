@@ -9,7 +9,7 @@ ghost use Rattle.tree_tables.specs.Steps.{Always, Does, Looks};
 ghost use Rattle.table_ledger.specs.Groups.{FindsNewest, act_renewed, begun_row, going_on};
 ghost use Rattle.table_ledger.specs.Groups.{joined_entry, joining, renewed};
 
-use book_core::{Accepted, Note, Reading, Share, Stop};
+use book_core::{Accepted, Note, Reading, Share, ending_of};
 use book_model::Ending;
 use sqlite_trees::error::StoreError;
 use sqlite_trees::store::Store;
@@ -139,19 +139,6 @@ fn read_on(reading: &Reading, answers: &[Accepted]) -> Result<Reading, StoreErro
         read = more;
     }
     Ok(read)
-}
-
-/// Why an import ended, as the journal has it.
-pub(crate) fn ending_of(stop: Stop) -> Ending
-    ensures { ending_shown result ≡ stop_shown stop }
-{
-    match stop {
-        Stop::End => Ending::End,
-        Stop::Frame(fault) => Ending::Frame(fault.number()),
-        Stop::Read => Ending::Read,
-        Stop::ReadLimit => Ending::ReadLimit,
-        Stop::Ledger(fault) => Ending::Ledger(fault.number()),
-    }
 }
 
 /// Why an import ends with these records, if it does and all of them were taken.

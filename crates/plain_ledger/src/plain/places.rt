@@ -5,9 +5,10 @@ ghost use Rattle.book_model.specs.Words.{is_effective};
 ghost use Rattle.plain_ledger.specs.Plain.{replaced_of};
 
 use super::PlainBooks;
-use crate::made_entries::{MadeAct, count_kept};
+use crate::arrivals::arrival_among;
+use crate::made_entries::{MadeAct, MadeEntry, count_kept};
 use crate::replaced::ReplacedTariff;
-use book_model::{LedgerFault, ListedAct, ListedRuling, Naming, Place};
+use book_model::{Arrival, LedgerFault, ListedAct, ListedRuling, Naming, Place};
 use std::alloc::AllocError;
 
 /// It begins on the day.
@@ -31,7 +32,9 @@ impl<N: Naming + Drop> PlainBooks<N> {
     ghost use Rattle.book_model.specs.Journal.{ChoiceOf, CreditOf, ReplacementOf};
     ghost use Rattle.book_model.specs.Words.{ShowsActDays, ShowsDays, act_listed, place_shown};
     ghost use Rattle.book_model.specs.Words.{ruling_shown};
-    ghost use Rattle.plain_ledger.specs.MadeEntries.{act_of, count_made};
+    ghost use Rattle.book_model.specs.Words.{arrival_from, arrivals};
+    ghost use Rattle.plain_ledger.specs.LedgerBook.{with_entries};
+    ghost use Rattle.plain_ledger.specs.MadeEntries.{act_of, count_made, entries_made};
     ghost use Rattle.plain_ledger.specs.PlainBook.{book_in, naming_in};
 
     /// The tariff of a day that came first, or in the place of the one that was replaced under a
@@ -130,5 +133,14 @@ impl<N: Naming + Drop> PlainBooks<N> {
                 Ok(ListedAct::Import(reading, Some(ending), count_kept(&kept)))
             }
         }
+    }
+
+    /// The first record whose name is these bytes or comes after them, by the entries that were
+    /// made.
+    pub(crate) fn arrival_held(&self, made: &[MadeEntry], from: &[u8]) -> Option<Arrival>
+        ensures { result ≡ arrival_from from.now (arrivals (N.name_of (naming_in self.now))
+            (with_entries (book_in self.now) (entries_made made.now))) }
+    {
+        arrival_among(&self.held, made, from)
     }
 }

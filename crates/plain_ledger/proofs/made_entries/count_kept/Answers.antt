@@ -1,0 +1,31 @@
+use Rattle.std.proofs.Common.{◌∙◌, ap, arith, length, sym, take_all}
+use Rattle.book_model.specs.Words.{members}
+use Rattle.plain_ledger.specs.MadeEntries.{kept_of}
+use Rattle.plain_ledger.proofs.MadeLemmas.{few_more, next_counted}
+use Rattle.plain_ledger.proofs.made_entries.count_kept.Goals as goal
+
+-- one more
+pub loop-at-preserved : goal.loop-at-preserved
+loop-at-preserved c =
+    let kept = c.args.kept.now in
+    let there = c.has_bytes-there.result in
+    let its = rw (c.index-kept.ensures.value, c.deref.ensures.value) at c.has_bytes-there.ensures in
+    record {
+      counted = c.counted_with.ensures
+          ∙ next_counted kept c.loop-at.at c.index-kept-at.result c.loop-at-test.true
+          c.index-kept-at.is there (sym its) c.loop-at.count c.loop-at.invariant.counted;
+      few = few_more there c.loop-at.count c.loop-at.at c.counted_with.result
+          c.counted_with.ensures c.loop-at.invariant.few;
+    }
+
+pub counted_with-requires : goal.counted_with-requires
+counted_with-requires c =
+    let few = c.loop-at.invariant.few in
+    omega (arith, few)
+
+-- all of them
+pub returns : goal.returns
+returns c =
+    c.loop-at.invariant.counted
+    ∙ ap (λ kept. length (members (kept_of kept)))
+    (take_all c.loop-at.at c.args.kept.now c.loop-at-test.false)
