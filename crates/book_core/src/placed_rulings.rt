@@ -44,7 +44,7 @@ impl Rulings {
         if period == 0 {
             return None;
         }
-        match close_at(self.closes(), u64::from(period) - 1) {
+        match close_at(self.closes(), period as u64 - 1) {
             Ok(found) => found,
             Err(_) => None,
         }

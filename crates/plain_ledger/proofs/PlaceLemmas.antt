@@ -1,10 +1,9 @@
 -- Rulings by where they stand, by what a plain ledger keeps of them.
-use Rattle.std.proofs.Common.{◌≡◌, ◌∙◌, ◌+◌, ◌-◌, ◌++◌, ◌<◌, ◌≤◌, ℕ, ℤ, Bool, List, ◌∷◌, None, Option}
+use Rattle.std.proofs.Common.{◌≡◌, ◌∙◌, ◌+◌, ◌-◌, ◌++◌, ◌<◌, ◌≤◌, ℕ, ℤ, List, ◌∷◌, Bool, None, Option}
 use Rattle.std.proofs.Common.{Some, ap, arith, cond, drop, drop-cons, false, filter, find, get_or}
 use Rattle.std.proofs.Common.{length, map, option_and_then, option_map, refl, slice_get, suc, sym, true}
 use Rattle.std.proofs.lemmas.List.{drop-map, drop_all}
-use Rattle.std.proofs.lemmas.Option.{slice_get-map}
-use Rattle.book_model.proofs.Std.{length-map}
+use Rattle.book_model.proofs.Std.{map-map}
 use Rattle.book_model.specs.Journal.{ReplacementOf}
 use Rattle.book_model.specs.JournalLists.{tariff_brought}
 use Rattle.book_model.specs.Words.{AcceptedTerms, Naming, Replaced, RulingSeen, Rulings, is_effective}
@@ -12,49 +11,28 @@ use Rattle.book_model.specs.Words.{ruling_at, tariff_seen}
 use Rattle.book_core.proofs.ListedLemmas.{first_kept}
 use Rattle.plain_ledger.specs.declared.replaced.ReplacedTariff.{ReplacedTariff}
 use Rattle.plain_ledger.specs.Plain.{replaced_of}
+use Rattle.plain_ledger.specs.Replacements.{behind, brought_of}
 
-module _ (rulings : Rulings) (gone : List ReplacedTariff) where
-  -- the tariffs behind some that were replaced, and those in force
-  abbrev behind : ℕ → List AcceptedTerms
-  behind at =
-      map (λ (replaced : Replaced). replaced.tariff) (drop at (map replaced_of gone))
-      ++ rulings.tariffs
-
-  abbrev first_on : ℤ → List AcceptedTerms → Option RulingSeen
-  first_on day tariffs = option_and_then tariff_seen (slice_get (filter (is_effective day) tariffs) 0)
-
-  -- are looked through for a tariff of a day
-  by_rest : rulings.replaced ≡ map replaced_of gone → (day : ℤ) (at : ℕ)
-      → tariff_brought day at rulings ≡ first_on day (behind at)
-  by_rest is day at =
-      ap (λ list. first_on day (map (λ (replaced : Replaced). replaced.tariff) (drop at list)
-      ++ rulings.tariffs)) is
-
-  -- the next of them
+module _ (gone : List ReplacedTariff) (tariffs : List AcceptedTerms) where
+  -- the next behind some
   next_is : (at : ℕ) (one : ReplacedTariff) → at < length gone → one ≡ get_or gone at one
-      → behind at ≡ (replaced_of one).tariff ∷ behind (at + 1)
+      → behind gone tariffs at ≡ (replaced_of one).tariff ∷ behind gone tariffs (at + 1)
   next_is at one within is =
       let same : suc at ≡ at + 1 = omega arith in
-      let terms : List ReplacedTariff → List AcceptedTerms = λ list.
-      map (λ (replaced : Replaced). replaced.tariff) (map replaced_of list) ++ rulings.tariffs in
-      ap (λ list. map (λ (replaced : Replaced). replaced.tariff) list ++ rulings.tariffs)
-      (drop-map replaced_of at gone)
-      ∙ ap terms (drop-cons gone at one within)
+      let terms : List ReplacedTariff → List AcceptedTerms =
+      λ list. map (λ (one : ReplacedTariff). (replaced_of one).tariff) list ++ tariffs in
+      ap terms (drop-cons gone at one within)
       ∙ (λ i. (replaced_of (sym is i)).tariff ∷ terms (drop (same i) gone))
-      ∙ ap (λ list. (replaced_of one).tariff
-      ∷ (map (λ (replaced : Replaced). replaced.tariff) list ++ rulings.tariffs))
-      (sym (drop-map replaced_of (at + 1) gone))
 
   by_next : (at : ℕ) (one : ReplacedTariff) → at < length gone → one ≡ get_or gone at one
-      → rulings.replaced ≡ map replaced_of gone → (day : ℤ) (begins : Bool)
-      → is_effective day (replaced_of one).tariff ≡ begins
-      → tariff_brought day at rulings
-      ≡ cond begins (tariff_seen (replaced_of one).tariff) (first_on day (behind (at + 1)))
-  by_next at one within is all day begins its =
-      let rest : List AcceptedTerms = filter (is_effective day) (behind (at + 1)) in
+      → (day : ℤ) (begins : Bool) → is_effective day (replaced_of one).tariff ≡ begins
+      → brought_of gone tariffs day at
+      ≡ cond begins (tariff_seen (replaced_of one).tariff) (brought_of gone tariffs day (at + 1))
+  by_next at one within is day begins its =
+      let rest : List AcceptedTerms = filter (is_effective day) (behind gone tariffs (at + 1)) in
       let own : AcceptedTerms = (replaced_of one).tariff in
-      by_rest all day at
-      ∙ ap (first_on day) (next_is at one within is)
+      ap (λ list. option_and_then tariff_seen (slice_get (filter (is_effective day) list) 0))
+      (next_is at one within is)
       ∙ ap (λ b. option_and_then tariff_seen (slice_get (cond b (own ∷ rest) rest) 0)) its
       ∙ by begins own rest
     where
@@ -66,51 +44,54 @@ module _ (rulings : Rulings) (gone : List ReplacedTariff) where
 
   -- it begins on the day,
   pub brought_here : (at : ℕ) (one : ReplacedTariff) → at < length gone → one ≡ get_or gone at one
-      → rulings.replaced ≡ map replaced_of gone → (day : ℤ)
-      → is_effective day (replaced_of one).tariff ≡ true
-      → tariff_brought day at rulings ≡ tariff_seen (replaced_of one).tariff
-  brought_here at one within is all day its = by_next at one within is all day true its
+      → (day : ℤ) → is_effective day (replaced_of one).tariff ≡ true
+      → brought_of gone tariffs day at ≡ tariff_seen (replaced_of one).tariff
+  brought_here at one within is day its = by_next at one within is day true its
 
   -- or is passed
   pub brought_later : (at : ℕ) (one : ReplacedTariff) → at < length gone
-      → one ≡ get_or gone at one → rulings.replaced ≡ map replaced_of gone → (day : ℤ)
-      → is_effective day (replaced_of one).tariff ≡ false
-      → tariff_brought day at rulings ≡ tariff_brought day (at + 1) rulings
-  brought_later at one within is all day its =
-      by_next at one within is all day false its ∙ sym (by_rest all day (at + 1))
+      → one ≡ get_or gone at one → (day : ℤ) → is_effective day (replaced_of one).tariff ≡ false
+      → brought_of gone tariffs day at ≡ brought_of gone tariffs day (at + 1)
+  brought_later at one within is day its = by_next at one within is day false its
 
   -- behind the last there are those in force
-  pub brought_last : (at : ℕ) → length gone ≤ at → rulings.replaced ≡ map replaced_of gone
-      → (day : ℤ) → tariff_brought day at rulings
-      ≡ option_and_then tariff_seen (find (is_effective day) rulings.tariffs)
-  brought_last at past all day =
-      let count = length-map gone replaced_of in
-      by_rest all day at
-      ∙ ap (λ list. first_on day (map (λ (replaced : Replaced). replaced.tariff) list
-      ++ rulings.tariffs)) (drop_all at (map replaced_of gone) (omega (arith, past, count)))
-      ∙ ap (option_and_then tariff_seen) (sym (first_kept (is_effective day) rulings.tariffs))
+  pub brought_last : (at : ℕ) → length gone ≤ at → (day : ℤ) → brought_of gone tariffs day at
+      ≡ option_and_then tariff_seen (find (is_effective day) tariffs)
+  brought_last at past day =
+      ap (λ list. option_and_then tariff_seen (slice_get (filter (is_effective day)
+      (map (λ (one : ReplacedTariff). (replaced_of one).tariff) list ++ tariffs)) 0))
+      (drop_all at gone past)
+      ∙ ap (option_and_then tariff_seen) (sym (first_kept (is_effective day) tariffs))
 
-  -- what came in the place of one
-  pub replacement_here : (naming : Naming) (number place : ℕ) → number ≡ place + 1
-      → rulings.replaced ≡ map replaced_of gone → (found : Option ReplacedTariff)
-      → found ≡ slice_get gone place
-      → option_and_then (λ (one : ReplacedTariff).
-      tariff_brought (replaced_of one).tariff.terms.effective number rulings) found
-      ≡ ruling_at naming rulings (ReplacementOf number)
-  replacement_here naming number place is all found its =
-      let same : place ≡ number - 1 = omega (arith, is) in
-      let brought : Option Replaced → Option RulingSeen = option_and_then (λ replaced.
-      tariff_brought replaced.tariff.terms.effective number rulings) in
-      by found
-      ∙ ap (λ found. brought (option_map replaced_of found)) its
-      ∙ ap brought (sym (slice_get-map replaced_of gone place))
-      ∙ (λ i. brought (slice_get (sym all i) (same i)))
-    where
-      by : (found : Option ReplacedTariff)
-          → option_and_then (λ (one : ReplacedTariff).
-          tariff_brought (replaced_of one).tariff.terms.effective number rulings) found
-          ≡ option_and_then (λ (replaced : Replaced).
-          tariff_brought replaced.tariff.terms.effective number rulings)
-          (option_map replaced_of found)
-      by None = refl
-      by (Some one) = refl
+-- so it is by the rulings
+pub brought_is : (rulings : Rulings) (gone : List ReplacedTariff)
+    → rulings.replaced ≡ map replaced_of gone → (day : ℤ) (at : ℕ)
+    → brought_of gone rulings.tariffs day at ≡ tariff_brought day at rulings
+brought_is rulings gone is day at =
+    let first : List AcceptedTerms → Option RulingSeen = λ list.
+    option_and_then tariff_seen (slice_get (filter (is_effective day) (list ++ rulings.tariffs)) 0) in
+    ap first (sym (map-map (λ (replaced : Replaced). replaced.tariff) replaced_of (drop at gone))
+    ∙ ap (map (λ (replaced : Replaced). replaced.tariff))
+    (sym (drop-map replaced_of at gone) ∙ ap (drop at) (sym is)))
+
+-- what came in the place of one
+pub replacement_here : (naming : Naming) (rulings : Rulings) (number place : ℕ) (day : ℤ)
+    → number ≡ place + 1
+    → Some day ≡ option_map (λ (replaced : Replaced). replaced.tariff.terms.effective)
+    (slice_get rulings.replaced place)
+    → tariff_brought day number rulings ≡ ruling_at naming rulings (ReplacementOf number)
+replacement_here naming rulings number place day is its =
+    let same : place ≡ number - 1 = omega (arith, is) in
+    ap (option_and_then (λ (day : ℤ). tariff_brought day number rulings)) its
+    ∙ by (slice_get rulings.replaced place)
+    ∙ ap (λ at. option_and_then (λ (replaced : Replaced).
+    tariff_brought replaced.tariff.terms.effective number rulings)
+    (slice_get rulings.replaced at)) same
+  where
+    by : (found : Option Replaced)
+        → option_and_then (λ (day : ℤ). tariff_brought day number rulings)
+        (option_map (λ (replaced : Replaced). replaced.tariff.terms.effective) found)
+        ≡ option_and_then (λ (replaced : Replaced).
+        tariff_brought replaced.tariff.terms.effective number rulings) found
+    by None = refl
+    by (Some replaced) = refl

@@ -15,7 +15,7 @@ use Rattle.plain_ledger.specs.declared.journal.Said.{Said}
 use Rattle.plain_ledger.specs.declared.journal.Said.TheVariants as what
 use Rattle.plain_ledger.specs.declared.journal.Standing.{Standing}
 use Rattle.plain_ledger.specs.declared.made_entries.MadeAct.{MadeAct}
-use Rattle.plain_ledger.specs.declared.made_entries.MadeAct.TheVariants as made
+use Rattle.plain_ledger.specs.declared.made_entries.MadeAct.TheVariants as kind
 use Rattle.plain_ledger.specs.declared.made_entries.MadeEntry.{MadeEntry}
 use Rattle.plain_ledger.specs.Journals.{place_by}
 use Rattle.plain_ledger.specs.Plain.{Entry as HeldEntry, record_of}
@@ -30,9 +30,9 @@ kept_of kept = kept_from map.empty (records_in kept)
 
 -- an entry that was made
 abbrev pub act_of : MadeAct → Act
-act_of (made.Ruling place) = RuledAt (place_shown place)
-act_of (made.Going reading kept) = Importing (reading_shown reading) (kept_of kept.items)
-act_of (made.Ended reading ending kept) =
+act_of (kind.Ruling place) = RuledAt (place_shown place)
+act_of (kind.Going reading kept) = Importing (reading_shown reading) (kept_of kept.items)
+act_of (kind.Ended reading ending kept) =
     Imported (reading_shown reading) (ending_shown ending) (kept_of kept.items)
 
 abbrev pub entry_of : MadeEntry → Entry

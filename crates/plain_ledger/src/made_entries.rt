@@ -1,7 +1,7 @@
 //! The entries of the journal, made of what calls said.
 
-ghost use Rattle.std.specs.Prelude.{◌≡◌, ◌<◌, ◌+◌, [], IfOk, None, OnOk, if◌then◌else◌, length};
-ghost use Rattle.std.specs.Prelude.{option_map};
+ghost use Rattle.std.specs.Prelude.{◌≡◌, ◌<◌, ◌≤◌, ◌+◌, [], IfOk, None, OnOk, if◌then◌else◌, length};
+ghost use Rattle.std.specs.Prelude.{option_map, take};
 ghost use Rattle.book_model.specs.Journal as journal;
 ghost use Rattle.book_model.specs.Words.{ending_shown, has, members, place_shown, reading_shown};
 ghost use Rattle.book_model.specs.Words.{same_bytes, stop_shown, terms_in, with};
@@ -246,6 +246,14 @@ fn has_bytes(kept: &[Vec<u8>], bytes: &[u8]) -> bool
     false
 }
 
+/// The first so many of them have one with these bytes.
+fn has_among(kept: &[Vec<u8>], count: usize, bytes: &[u8]) -> bool
+    requires { count ≤ length kept.now }
+    ensures { result ≡ has (kept_of (take count kept.now)) bytes.now }
+{
+    has_bytes(&kept[..count], bytes)
+}
+
 /// So many records, fewer than there may be, with one more, if it is new.
 fn counted_with(count: u64, most: u64, there: bool) -> u64
     requires { count < most }
@@ -260,7 +268,7 @@ pub(crate) fn count_kept(kept: &[Vec<u8>]) -> u64
 {
     let mut count: u64 = 0;
     for at in 0..kept.len() {
-        let there = has_bytes(&kept[..at], &kept[at]);
+        let there = has_among(kept, at, &kept[at]);
         count = counted_with(count, at as u64 + 1, there);
     }
     count

@@ -1,15 +1,18 @@
 //! The rulings of a plain ledger, by where they stand.
 
-ghost use Rattle.std.specs.Prelude.{◌≡◌, ◌+◌, IfOk};
-ghost use Rattle.book_model.specs.Words.{is_effective};
+ghost use Rattle.std.specs.Prelude.{◌≡◌, ◌<◌, ◌+◌, IfOk, option_map};
+ghost use Rattle.book_model.specs.Words.{ShowsDays, is_effective, ruling_shown};
+ghost use Rattle.book_core.specs.OfficeRulings.{ruled_in};
 ghost use Rattle.plain_ledger.specs.Plain.{replaced_of};
+ghost use Rattle.plain_ledger.specs.Replacements.{brought_of};
 
 use super::PlainBooks;
 use crate::arrivals::arrival_among;
 use crate::made_entries::{MadeAct, MadeEntry, count_kept};
 use crate::replaced::ReplacedTariff;
+use book_core::Rulings;
 use book_model::{Arrival, LedgerFault, ListedAct, ListedRuling, Naming, Place};
-use std::alloc::AllocError;
+use std::alloc::{AllocError, Global};
 
 /// It begins on the day.
 fn began_on(replaced: &ReplacedTariff, day: i32) -> bool
@@ -18,16 +21,40 @@ fn began_on(replaced: &ReplacedTariff, day: i32) -> bool
     replaced.tariff.begins_on(day)
 }
 
-/// The place of a number, from 0. No ruling has the number 0.
-fn place_of(number: u32) -> Result<u32, LedgerFault>
-    ensures { IfOk result (λ place. number ≡ place + 1) }
+/// The first tariff of a day behind so many that were replaced, or the one in force.
+fn listed_behind(
+    alloc: Global,
+    replaced: &[ReplacedTariff],
+    rulings: &Rulings,
+    day: i32,
+    number: u32,
+) -> Result<Option<ListedRuling>, AllocError>
+    ensures shown { IfOk result (λ found. option_map ruling_shown found
+        ≡ brought_of replaced.now (ruled_in rulings.now).tariffs day number) }
+    ensures days { IfOk result ShowsDays }
 {
-    let place = number.checked_sub(1).ok_or(LedgerFault::Memory)?;
-    Ok(place)
+    for at in number as usize..replaced.len() {
+        let one = &replaced[at];
+        if began_on(one, day) {
+            return one.tariff.listed(alloc);
+        }
+    }
+    rulings.listed_on(alloc, day)
+}
+
+/// The place of a number from 1 among so many, from 0. A ruling that an entry is about has one.
+fn place_among(number: u32, count: u32) -> Result<u32, LedgerFault>
+    ensures its { IfOk result (λ place. number ≡ place + 1) }
+    ensures there { IfOk result (λ place. place < count) }
+{
+    if number == 0 || number > count {
+        return Err(LedgerFault::Memory);
+    }
+    Ok(number - 1)
 }
 
 impl<N: Naming + Drop> PlainBooks<N> {
-    ghost use Rattle.std.specs.Prelude.{◌≡◌, IfOk, option_map};
+    ghost use Rattle.std.specs.Prelude.{◌≡◌, ◌<◌, IfOk, Some, length, option_map, slice_get};
     ghost use Rattle.book_model.specs.JournalLists.{act_seen, ruling_at, tariff_brought};
     ghost use Rattle.book_model.specs.Journal.{ChoiceOf, CreditOf, ReplacementOf};
     ghost use Rattle.book_model.specs.Words.{ShowsActDays, ShowsDays, act_listed, place_shown};
@@ -44,12 +71,17 @@ impl<N: Naming + Drop> PlainBooks<N> {
             ≡ tariff_brought day number (book_in self.now).rulings) }
         ensures days { IfOk result ShowsDays }
     {
-        for at in number as usize..self.replaced.len() {
-            if began_on(&self.replaced[at], day) {
-                return self.replaced[at].tariff.listed(self.alloc);
-            }
-        }
-        self.rulings.listed_on(self.alloc, day)
+        let found = listed_behind(self.alloc, &self.replaced, &self.rulings, day, number)?;
+        Ok(found)
+    }
+
+    /// The first day of the tariff at a place among those that were replaced, from 0.
+    fn replaced_day(&self, place: u32) -> i32
+        requires { place < length (book_in self.now).rulings.replaced }
+        ensures { Some result ≡ option_map (λ replaced. replaced.tariff.terms.effective)
+            (slice_get (book_in self.now).rulings.replaced place) }
+    {
+        self.replaced[place as usize].tariff.tariff.effective()
     }
 
     /// The tariff that came in the place of the one that was replaced under a number.
@@ -59,11 +91,9 @@ impl<N: Naming + Drop> PlainBooks<N> {
             (ReplacementOf number)) }
         ensures days { IfOk result ShowsDays }
     {
-        let place = place_of(number)?;
-        let Some(replaced) = self.replaced.get(place as usize) else {
-            return Ok(None);
-        };
-        let day = replaced.tariff.tariff.effective();
+        let count = self.replaced_count();
+        let place = place_among(number, count)?;
+        let day = self.replaced_day(place);
         let found = self.listed_brought(day, number)?;
         Ok(found)
     }
@@ -75,11 +105,10 @@ impl<N: Naming + Drop> PlainBooks<N> {
             (ChoiceOf number)) }
         ensures days { IfOk result ShowsDays }
     {
-        let place = place_of(number)?;
-        if self.choices.len() <= place as usize {
-            return Ok(None);
-        }
-        Ok(Some(self.choice_listed(place)))
+        let count = self.choice_count();
+        let place = place_among(number, count)?;
+        let ruling = self.choice_listed(place);
+        Ok(Some(ruling))
     }
 
     /// The credit of a number.
@@ -89,10 +118,8 @@ impl<N: Naming + Drop> PlainBooks<N> {
             (CreditOf number)) }
         ensures days { IfOk result ShowsDays }
     {
-        let place = place_of(number)?;
-        if self.credits.len() <= place as usize {
-            return Ok(None);
-        }
+        let count = self.credit_count();
+        let place = place_among(number, count)?;
         let ruling = self.credit_listed(place)?;
         Ok(Some(ruling))
     }

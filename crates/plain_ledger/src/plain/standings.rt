@@ -12,21 +12,21 @@ impl<N: Naming + Drop> PlainBooks<N> {
     ghost use Rattle.plain_ledger.specs.PlainBook.{book_in};
 
     /// How many choices there are.
-    fn choice_count(&self) -> u32
+    pub(super) fn choice_count(&self) -> u32
         ensures { result ≡ length (book_in self.now).rulings.choices }
     {
         self.choices.len() as u32
     }
 
     /// How many tariffs were replaced.
-    fn replaced_count(&self) -> u32
+    pub(super) fn replaced_count(&self) -> u32
         ensures { result ≡ length (book_in self.now).rulings.replaced }
     {
         self.replaced.len() as u32
     }
 
     /// How many credits there are.
-    fn credit_count(&self) -> u32
+    pub(super) fn credit_count(&self) -> u32
         ensures { result ≡ length (book_in self.now).rulings.credits }
     {
         self.credits.len() as u32

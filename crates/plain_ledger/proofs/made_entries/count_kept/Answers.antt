@@ -8,8 +8,8 @@ use Rattle.plain_ledger.proofs.made_entries.count_kept.Goals as goal
 pub loop-at-preserved : goal.loop-at-preserved
 loop-at-preserved c =
     let kept = c.args.kept.now in
-    let there = c.has_bytes-there.result in
-    let its = rw (c.index-kept.ensures.value, c.deref.ensures.value) at c.has_bytes-there.ensures in
+    let there = c.has_among-there.result in
+    let its = rw c.deref.ensures.value at c.has_among-there.ensures in
     record {
       counted = c.counted_with.ensures
           ∙ next_counted kept c.loop-at.at c.index-kept-at.result c.loop-at-test.true
