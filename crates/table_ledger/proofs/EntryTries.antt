@@ -307,7 +307,7 @@ module _ {summary : Summary} {book : Book} (remembers : Remembers summary book) 
   act_is : (row : RowAct) (act : ActSeen) → ShowsAct summary row kept act
       → act ≡ row_act naming book.rulings row
   act_is (RulingRow place) act shows =
-      shows.1.1 ∙ ap (RulingDone place) (place_is place shows.0 shows.1.0)
+      shows.2 ∙ ap (RulingDone place) (place_is place shows.0 shows.1)
   act_is (ImportRow reading ending count) act shows = shows
 
   -- ---- an entry of a number
