@@ -345,5 +345,5 @@ module _ {summary : Summary} {book : Book} (remembers : Remembers summary book) 
       ∙ find-numbers 1 (number + 1) number rows (omega arith) in
       by_row number
       ∙ ap (option_map (row_listed naming book.rulings (number + 1))) (sym (found ∙ at))
-      ∙ ap (λ act. Some (record { number = number + 1; note = row.note; act = act }))
+      ∙ ap {B = Option EntrySeen} (λ act. Some (record { number = number + 1; note = row.note; act = act }))
       (sym (act_is row.act act shows))

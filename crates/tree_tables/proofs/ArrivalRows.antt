@@ -55,7 +55,7 @@ module _ (tables : Tables) (from : List ℕ) where
         row = found.1;
         there = ap (get tables.records) name ∙ found.2;
         own =
-            ap (λ entry. record { name = arrival.name; entry = entry })
+            ap {B = Arrival} (λ entry. record { name = arrival.name; entry = entry })
             (number ∙ ap (λ own. unwrap_or (get tables.came own) 0) (sym name));
         reached = ap (λ own. not (is_lt (by_bytes own from))) name ∙ ap not found.4;
         least = λ other row there high.
