@@ -52,7 +52,7 @@ named_among naming name bytes (first ∷ list) found =
     ] refl found
 
 -- what is among some names has some before and some behind it
-Stands : List ℕ → List (List ℕ) → Type 0
+abbrev Stands : List ℕ → List (List ℕ) → Type 0
 Stands name names =
     (front : List (List ℕ)) × (back : List (List ℕ)) × (names ≡ front ++ name ∷ back)
 

@@ -131,7 +131,7 @@ row_listed naming rulings number row =
     record { number = number; note = row.note; act = row_act naming rulings row.act }
 
 -- and all, from a number on
-rows_listed : Naming → Rulings → ℕ → List JournalRow → List EntrySeen
+abbrev rows_listed : Naming → Rulings → ℕ → List JournalRow → List EntrySeen
 rows_listed naming rulings number [] = []
 rows_listed naming rulings number (row ∷ later) =
     row_listed naming rulings number row ∷ rows_listed naming rulings (suc number) later
