@@ -52,7 +52,7 @@ named_among naming name bytes (first ∷ list) found =
     ] refl found
 
 -- what is among some names has some before and some behind it
-Stands : List ℕ → List (List ℕ) → Type 0
+abbrev Stands : List ℕ → List (List ℕ) → Type 0
 Stands name names =
     (front : List (List ℕ)) × (back : List (List ℕ)) × (names ≡ front ++ name ∷ back)
 
@@ -64,20 +64,20 @@ stands_in name (first ∷ more) there = by (is name first) (stands_in name more)
     by : (same : Bool) → (list_any (is name) more ≡ true → Stands name more)
         → is name first ≡ same → Stands name (first ∷ more)
     by true later same =
-        ([], (more, ap (λ one. one ∷ more) (sym (tells_apart exact_bytes name first same))))
+        ([], more, ap (λ one. one ∷ more) (sym (tells_apart exact_bytes name first same)))
     by false later differs =
         let rest = later (sym (ap (λ b. b || list_any (is name) more) differs) ∙ there) in
-        (first ∷ rest.0, (rest.1.0, ap (λ others. first ∷ others) rest.1.1))
+        (first ∷ rest.0, rest.1, ap (λ others. first ∷ others) rest.2)
 
 -- so it is found from itself on, where they rise
 found_there : (name : List ℕ) (names : List (List ℕ)) → IsStrictlySortedBy by_bytes names
     → list_any (is name) names ≡ true → find (is_from name) names ≡ Some name
 found_there name names rise there =
     let parts = stands_in name names there in
-    let all = parts.0 ++ name ∷ parts.1.0 in
-    ap (find (is_from name)) parts.1.1
-    ∙ walk_to (λ (bytes : List ℕ). bytes) name parts.0 parts.1.0
-    (subst (IsStrictlySortedBy by_bytes) (parts.1.1 ∙ sym (map-id all)) rise)
+    let all = parts.0 ++ name ∷ parts.1 in
+    ap (find (is_from name)) parts.2
+    ∙ walk_to (λ (bytes : List ℕ). bytes) name parts.0 parts.1
+    (subst (IsStrictlySortedBy by_bytes) (parts.2 ∙ sym (map-id all)) rise)
 
 -- the names of the records of a set rise
 names_rise : (naming : Naming) (held : Records)

@@ -54,7 +54,7 @@ module _ {naming : Naming} {rulings : Rulings} {entries : List Entry} {total : �
         let entry : Entry = get_or entries k d in
         let named = named-found kept rising entry.0 entry.1
         (own_name entries rising k d within) in
-        ap (λ (found : Option (List ℕ)). record {
+        ap {B = Arrival} (λ (found : Option (List ℕ)). record {
           name = entry.0;
           entry = option_map_or (came_by (entries_made made)) found 0;
         })

@@ -197,7 +197,7 @@ none_of (first ∷ list) n long is = absurd (omega (arith, long, is))
 
 module _ (naming : Naming) (rulings : Rulings) where
   -- those that were made, from a number on
-  seen_from : ℕ → List MadeEntry → List EntrySeen
+  abbrev seen_from : ℕ → List MadeEntry → List EntrySeen
   seen_from number [] = []
   seen_from number (made ∷ later) =
       entry_seen naming rulings number (entry_of made) ∷ seen_from (suc number) later

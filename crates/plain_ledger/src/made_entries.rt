@@ -1,7 +1,7 @@
 //! The entries of the journal, made of what calls said.
 
 ghost use Rattle.std.specs.Prelude.{◌≡◌, ◌<◌, ◌≤◌, ◌+◌, [], IfOk, None, OnOk, if◌then◌else◌, length};
-ghost use Rattle.std.specs.Prelude.{option_map, take};
+ghost use Rattle.std.specs.Prelude.{Some, option_map, take};
 ghost use Rattle.book_model.specs.Journal as journal;
 ghost use Rattle.book_model.specs.Words.{ending_shown, has, members, place_shown, reading_shown};
 ghost use Rattle.book_model.specs.Words.{same_bytes, stop_shown, terms_in, with};
@@ -140,6 +140,23 @@ fn begun_import(
     Ok(MadeEntry { note, act })
 }
 
+/// The same, if the import has none yet.
+fn begun_if(
+    alloc: Global,
+    share: &Share,
+    whole: bool,
+    bytes: &[u8],
+) -> Result<Option<MadeEntry>, AllocError>
+    ensures { IfOk result (λ made. option_map entry_of made
+        ≡ (if share.now.begun then None else Some (spec.begun_import share.now whole bytes.now))) }
+{
+    if share.begun {
+        return Ok(None);
+    }
+    let made = begun_import(alloc, share, whole, bytes)?;
+    Ok(Some(made))
+}
+
 /// The entry of a ruling.
 fn begun_ruling(alloc: Global, note: &Note, standing: &Standing) -> Result<MadeEntry, LedgerFault>
     ensures { IfOk result (λ made. entry_of made ≡ spec.begun_ruling note.now standing.now) }
@@ -155,18 +172,9 @@ fn begun_by(alloc: Global, said: &Said) -> Result<Option<MadeEntry>, LedgerFault
     ensures { IfOk result (λ made. option_map entry_of made ≡ spec.begun_by said.now) }
 {
     match said {
-        Said::Ruling(note, standing) => {
-            let made = begun_ruling(alloc, note, standing)?;
-            Ok(Some(made))
-        }
+        Said::Ruling(note, standing) => Ok(Some(begun_ruling(alloc, note, standing)?)),
+        Said::Import(share, whole, bytes) => Ok(begun_if(alloc, share, *whole, bytes)?),
         Said::Record(_) => Ok(None),
-        Said::Import(share, whole, bytes) => {
-            if share.begun {
-                return Ok(None);
-            }
-            let made = begun_import(alloc, share, *whole, bytes)?;
-            Ok(Some(made))
-        }
         Said::End(_) => Ok(None),
     }
 }

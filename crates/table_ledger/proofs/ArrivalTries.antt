@@ -5,6 +5,7 @@ use Rattle.std.proofs.Common.{subst, true≢false, unwrap_or}
 use Rattle.std.proofs.Math.Bool.{or-true}
 use Rattle.std.specs.List.{AllByRecursion}
 use Rattle.std.specs.Ordering.{is_lt}
+use Rattle.std.specs.declared.cmp.Ordering.TheVariants.{Less}
 use Rattle.book_model.proofs.Std.{IsStrictlySortedBy, exact_bytes, get, get-from_entries, list_any}
 use Rattle.book_model.proofs.Std.{nat_list_cmp_total, option_map_or, tells_apart}
 use Rattle.book_model.specs.declared.entry.Arrival.{Arrival}
@@ -49,29 +50,36 @@ least_found : (from name : List ℕ) (names : List (List ℕ)) → IsStrictlySor
 unfolding IsStrictlySortedBy
 least_found from name [] rise there reached least = absurd (true≢false (sym there))
 least_found from name (first ∷ rest) rise there reached least =
-    by (is name first) refl there
+    by (is name first) refl rise.0
+    (λ later. least_found from name rest rise.1 later reached
+    (λ other among high.
+    least other (ap (λ b. is other first || b) among ∙ or-true (is other first)) high))
+    there
   where
-    -- a later one is not the least where the first is reached
-    late : (on : Bool) → is_from from first ≡ on → list_any (is name) rest ≡ true
+    -- it is behind the first, which is not reached: else that were the least
+    late : (on : Bool) → is_from from first ≡ on
+        → AllByRecursion (λ other. by_bytes first other ≡ Less) rest
+        → list_any (is name) rest ≡ true → find (is_from from) rest ≡ Some name
         → cond on (Some first) (find (is_from from) rest) ≡ Some name
-    late true on later =
+    late true on below later found =
         let own = ap (λ b. b || list_any (is first) rest) (is_itself first) in
-        let less = of_each name rest rise.0 later in
-        absurd (true≢false (sym (least first own on)
-        ∙ ap (λ order. not (is_lt order)) less))
-    late false on later =
-        least_found from name rest rise.1 later reached
-        (λ other among high.
-        least other (ap (λ b. is other first || b) among ∙ or-true (is other first)) high)
+        let less : by_bytes first name ≡ Less =
+        of_each {P = λ other. by_bytes first other ≡ Less} name rest below later in
+        absurd (true≢false (sym (least first own on) ∙ ap (λ order. not (is_lt order)) less))
+    late false on below later found = found
 
-    by : (same : Bool) → is name first ≡ same → (same || list_any (is name) rest) ≡ true
+    by : (same : Bool) → is name first ≡ same
+        → AllByRecursion (λ other. by_bytes first other ≡ Less) rest
+        → (list_any (is name) rest ≡ true → find (is_from from) rest ≡ Some name)
+        → (same || list_any (is name) rest) ≡ true
         → find (is_from from) (first ∷ rest) ≡ Some name
-    by true same there =
+    by true same below found there =
         let one = tells_apart exact_bytes name first same in
         ap (λ b. cond b (Some first) (find (is_from from) rest))
         (ap (is_from from) (sym one) ∙ reached)
         ∙ ap Some (sym one)
-    by false other there = late (is_from from first) refl there
+    by false other below found there =
+        late (is_from from first) refl below there (found there)
 
 -- where none is from there on, none is found
 none_from : (from : List ℕ) (names : List (List ℕ))
@@ -185,6 +193,6 @@ module _ (naming : Naming) (book : Book) (whole : IsReadable naming book)
       (least_found from name names rise among finds.reached (λ other has_name high.
       let its = row_of other has_name in
       finds.least other its.0 its.1 high))
-      ∙ ap (λ entry. Some (record { name = name; entry = entry }))
+      ∙ ap {B = Option Arrival} (λ entry. Some (record { name = name; entry = entry }))
       (sym (came_is name finds.row finds.there))
       ∙ ap Some (sym finds.own)

@@ -131,7 +131,7 @@ row_listed naming rulings number row =
     record { number = number; note = row.note; act = row_act naming rulings row.act }
 
 -- and all, from a number on
-rows_listed : Naming → Rulings → ℕ → List JournalRow → List EntrySeen
+abbrev rows_listed : Naming → Rulings → ℕ → List JournalRow → List EntrySeen
 rows_listed naming rulings number [] = []
 rows_listed naming rulings number (row ∷ later) =
     row_listed naming rulings number row ∷ rows_listed naming rulings (suc number) later
@@ -307,7 +307,7 @@ module _ {summary : Summary} {book : Book} (remembers : Remembers summary book) 
   act_is : (row : RowAct) (act : ActSeen) → ShowsAct summary row kept act
       → act ≡ row_act naming book.rulings row
   act_is (RulingRow place) act shows =
-      shows.1.1 ∙ ap (RulingDone place) (place_is place shows.0 shows.1.0)
+      shows.2 ∙ ap (RulingDone place) (place_is place shows.0 shows.1)
   act_is (ImportRow reading ending count) act shows = shows
 
   -- ---- an entry of a number
@@ -345,5 +345,5 @@ module _ {summary : Summary} {book : Book} (remembers : Remembers summary book) 
       ∙ find-numbers 1 (number + 1) number rows (omega arith) in
       by_row number
       ∙ ap (option_map (row_listed naming book.rulings (number + 1))) (sym (found ∙ at))
-      ∙ ap (λ act. Some (record { number = number + 1; note = row.note; act = act }))
+      ∙ ap {B = Option EntrySeen} (λ act. Some (record { number = number + 1; note = row.note; act = act }))
       (sym (act_is row.act act shows))

@@ -32,14 +32,14 @@ use Rattle.std.specs.FinMap as fin
 -- ---- as it is found
 
 -- parts of a row that is known to be another
-number_part : Option (ℕ × JournalRow) → ℕ
+abbrev number_part : Option (ℕ × JournalRow) → ℕ
 number_part found = option_map_or (λ (entry : ℕ × JournalRow). entry.0) found 0
 
-reading_part : RowAct → Reading
+abbrev reading_part : RowAct → Reading
 reading_part (ImportRow reading ending kept) = reading
 reading_part (RulingRow place) = nothing_read
 
-kept_part : RowAct → ℕ
+abbrev kept_part : RowAct → ℕ
 kept_part (ImportRow reading ending kept) = kept
 kept_part (RulingRow place) = 0
 
@@ -65,7 +65,7 @@ joins_on joined import note reading kept older is =
     }
 
 -- by the newest entry, if there is one
-newest_row : List Entry → Option JournalRow
+abbrev newest_row : List Entry → Option JournalRow
 newest_row [] = None
 newest_row (entry ∷ older) = Some (journal_row entry)
 

@@ -30,7 +30,7 @@ module _ (tables : Tables) (from : List ℕ) where
   pub shows_from : {rows : List Row} {key : Row} (row : Row) (there : Bool)
       → rows ≡ rows_of (record_layout tables.came) tables.records → key ≡ Blob from ∷ []
       → IsFirst (from_key plain key rows) row there → ShowsFrom row there
-  shows_from {rows} row there held key_is begins =
+  shows_from {rows} {key} row there held key_is begins =
       finds_from (record_layout tables.came) (Blob from ∷ []) (λ name. by_bytes name from)
       (λ e. at_key (record_layout tables.came) e from) tables.records row there
       (subst (λ one. IsFirst (from_key plain one (rows_of (record_layout tables.came)
@@ -55,7 +55,7 @@ module _ (tables : Tables) (from : List ℕ) where
         row = found.1;
         there = ap (get tables.records) name ∙ found.2;
         own =
-            ap (λ entry. record { name = arrival.name; entry = entry })
+            ap {B = Arrival} (λ entry. record { name = arrival.name; entry = entry })
             (number ∙ ap (λ own. unwrap_or (get tables.came own) 0) (sym name));
         reached = ap (λ own. not (is_lt (by_bytes own from))) name ∙ ap not found.4;
         least = λ other row there high.

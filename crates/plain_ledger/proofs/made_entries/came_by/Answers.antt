@@ -8,7 +8,7 @@ use Rattle.plain_ledger.proofs.made_entries.came_by.Goals as goal
 pub loop-at-preserved : goal.loop-at-preserved
 loop-at-preserved c =
     let at = c.loop-at.at in
-    c.number_where.ensures
+    c.number_where-number.ensures
     ∙ (λ i. cond (c.has_kept-test.ensures i) (at + 1) (c.loop-at.invariant i))
     ∙ sym (came_more c.args.made.now at c.index-made-at.result c.args.bytes.now
     c.loop-at-test.true c.index-made-at.is)

@@ -1,5 +1,5 @@
 use Rattle.std.proofs.Common.{ap}
-use Rattle.book_model.specs.Words.{note_shown}
+use Rattle.book_model.specs.Words.{Entry, note_shown}
 use Rattle.plain_ledger.proofs.MadeLemmas.{changes, none_of, stays}
 use Rattle.plain_ledger.proofs.made_entries.change_last.Goals as goal
 
@@ -17,4 +17,4 @@ pub returns : goal.returns
 returns c =
     changes c.args.said.now c.args.made.now.items c.pop.new.self.items c.push.new.self.items
     c.in-Some.last _ c.requires c.in-Some.ensures.items c.in_ok-push.ensures.items
-    (ap (λ act. record { note = note_shown c.in-Some.last.note; act = act }) c.in_ok-act.ensures)
+    (ap {B = Entry} (λ act. record { note = note_shown c.in-Some.last.note; act = act }) c.in_ok-act.ensures)

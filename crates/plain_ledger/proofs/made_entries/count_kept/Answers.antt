@@ -11,15 +11,15 @@ loop-at-preserved c =
     let there = c.has_among-there.result in
     let its = rw c.deref.ensures.value at c.has_among-there.ensures in
     record {
-      counted = c.counted_with.ensures
+      counted = c.counted_with-count.ensures
           ∙ next_counted kept c.loop-at.at c.index-kept-at.result c.loop-at-test.true
           c.index-kept-at.is there (sym its) c.loop-at.count c.loop-at.invariant.counted;
-      few = few_more there c.loop-at.count c.loop-at.at c.counted_with.result
-          c.counted_with.ensures c.loop-at.invariant.few;
+      few = few_more there c.loop-at.count c.loop-at.at c.counted_with-count.result
+          c.counted_with-count.ensures c.loop-at.invariant.few;
     }
 
-pub counted_with-requires : goal.counted_with-requires
-counted_with-requires c =
+pub counted_with-count-requires : goal.counted_with-count-requires
+counted_with-count-requires c =
     let few = c.loop-at.invariant.few in
     omega (arith, few)
 

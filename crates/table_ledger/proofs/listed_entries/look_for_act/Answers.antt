@@ -14,7 +14,7 @@ pub returns-in_ok-found-in-Ruling-clause-looks : goal.returns-in_ok-found-in-Rul
 returns-in_ok-found-in-Ruling-clause-looks g c =
     rw c.in-Ruling.is
     (looks_known (saw_found c.in_ok-found-in-Ruling.ensures.looks)
-    (λ tables known. (option_map ruling_shown c.in_ok-found-in-Ruling.found, (known, refl))))
+    (λ tables known. (option_map ruling_shown c.in_ok-found-in-Ruling.found, known, refl)))
 
 -- what is not read leaves all as it was
 pub returns-in_err-found-in-Ruling-clause-looks : goal.returns-in_err-found-in-Ruling-clause-looks

@@ -28,11 +28,3 @@ returns-in-Err-clause-shown c =
     let leads = rw (c.closes.ensures, c.in-Err.is) at c.close_at.ensures.leads in
     let count = closes_count 1 closes in
     close_past closes period some (omega (arith, leads, count))
-
--- ---- the closes that are looked at
-
-pub close_at-requires-few : goal.close_at-requires-few
-close_at-requires-few c = rw c.closes.ensures c.args.self.now.few
-
-pub close_at-requires-days : goal.close_at-requires-days
-close_at-requires-days c = rw c.closes.ensures c.args.self.now.days

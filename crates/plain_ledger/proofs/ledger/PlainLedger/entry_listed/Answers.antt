@@ -1,6 +1,6 @@
-use Rattle.std.proofs.Common.{◌∙◌, ◌+◌, Ok, Some, ap, arith, option_map, sym}
+use Rattle.std.proofs.Common.{◌∙◌, ◌+◌, Ok, Option, Some, ap, arith, option_map, sym}
 use Rattle.std.proofs.lemmas.Option.{slice_get-get_or, slice_get_past}
-use Rattle.book_model.specs.Words.{ActSeen, entry_seen, note_shown}
+use Rattle.book_model.specs.Words.{ActSeen, EntrySeen, entry_seen, note_shown}
 use Rattle.plain_ledger.specs.declared.made_entries.MadeEntry.{MadeEntry}
 use Rattle.plain_ledger.specs.Journals.{entries_in}
 use Rattle.plain_ledger.specs.MadeEntries.{entry_of}
@@ -37,7 +37,7 @@ returns-clause-entry g c =
     ∙ ap (option_map (λ (one : MadeEntry). entry_seen names rulings (number + 1) (entry_of one)))
     (slice_get-get_or made.items number entry within
     ∙ ap Some (sym c.swap_remove-entry.ensures.value))
-    ∙ ap (λ (act : ActSeen). Some (record {
+    ∙ ap {B = Option EntrySeen} (λ (act : ActSeen). Some (record {
       number = number + 1;
       note = note_shown entry.note;
       act = act;
