@@ -1,3 +1,4 @@
+use Rattle.std.proofs.Common.{false, true}
 use Rattle.tree_tables.proofs.ArrivalRows.{arrival_none, arrival_some, shows_from}
 use Rattle.tree_tables.proofs.Looking.{looks_found}
 use Rattle.tree_tables.proofs.tables.TreeTables.find_arrival.Goals as goal
