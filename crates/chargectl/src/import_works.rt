@@ -23,15 +23,24 @@ use without_books::{CommandFault, Ended};
 /// The most digits that the number of an entry of the journal is written with.
 const MOST_DIGITS: usize = 19;
 
-/// The number of an entry of the journal, by its text. The first entry has number 1.
-fn entry_number(text: &str) -> Option<u64>
-    ensures { result ≡ spec.entry_number text.now }
+/// A number, if an entry may have it: the first has number 1.
+fn if_entry(number: u64) -> Option<u64>
+    ensures { result ≡ spec.if_entry number }
 {
-    let number = decimal_value(MOST_DIGITS, text.as_bytes())?;
     if number == 0 {
         return None;
     }
     Some(number)
+}
+
+/// The number of an entry of the journal, by its text.
+fn entry_number(text: &str) -> Option<u64>
+    ensures { result ≡ spec.entry_number text.now }
+{
+    match decimal_value(MOST_DIGITS, text.as_bytes()) {
+        Some(number) => if_entry(number),
+        None => None,
+    }
 }
 
 /// The works of the records that came by an entry of the journal.

@@ -170,8 +170,10 @@ pub run_twice_is_once : RunTwiceIsOnce
 run_twice_is_once naming before layout bytes said once twice events is ran unhindered =
     let dump = front layout bytes.items in
     let again = ran.next in
+    let first : ImportsOf (note_given said) naming layout None bytes.items once false before ran.early
+    ran.between = ran.first in
     let all = is_whole naming (stop_after None dump) dump.records before once
-    (without_notes ran.early) ran.between ran.first.booked unhindered in
+    (without_notes ran.early) ran.between first.booked unhindered in
     let second : ImportsOf (note_given said) naming layout None bytes.items twice ran.between
     (after_all ran.early before) again.early again.between = again.first in
     let late : ran.late ≡ again.early =
@@ -183,12 +185,12 @@ run_twice_is_once naming before layout bytes said once twice events is ran unhin
         early = ran.early;
         late = [];
         first = subst (λ b. ImportsOf (note_given said) naming layout None bytes.items once false
-            before ran.early b) all.stays_open ran.first;
+            before ran.early b) all.stays_open first;
         next = record { none = refl; same = refl };
         all = refl;
       };
       leads = ap (λ events. but_for_said said (after_all events before))
           (ran.all ∙ ap (λ late. late ++ ran.early) late)
           ∙ second_leads said naming layout bytes.items once twice before ran.early again.early
-          ran.between again.between ran.first second unhindered;
+          ran.between again.between first second unhindered;
     }

@@ -17,10 +17,10 @@ fn push_if(names: &mut Vec<[u8; 32]>, entry: u64, arrival: &Arrival) -> Result<(
     ensures { OnOk result
         (names.new.items ≡ names_with names.old.items entry arrival.now) }
 {
-    if arrival.entry != entry {
+    if arrival.entry == entry {
+        names.push(arrival.name)?;
         return Ok(());
     }
-    names.push(arrival.name)?;
     Ok(())
 }
 
