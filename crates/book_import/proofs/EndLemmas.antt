@@ -5,8 +5,8 @@ use Rattle.std.proofs.Common.{Result, Ok, Err, Option, Some, None, inl, inr, is_
 use Rattle.std.specs.Prelude.{IfSome, is_none, if◌then◌else◌}
 use Rattle.smf_frames.specs.declared.dump.Layout.{Layout}
 use Rattle.book_model.specs.JournalLaws.{unjournaled, without_notes}
-use Rattle.book_model.specs.Words.{Book, Event, ImportEnded, Naming, Note, Portion}
-use Rattle.book_model.specs.Words.{RecordKept, accept_outcome, after_all, ended_outcome}
+use Rattle.book_model.specs.Words.{Book, Event, ImportEnded, Naming, Note, Portion, Reading}
+use Rattle.book_model.specs.Words.{RecordKept, Records, accept_outcome, after_all, ended_outcome}
 use Rattle.book_model.specs.Words.{front, note_shown, stop_shown, told_so_far}
 use Rattle.book_model.specs.Notes.{with_portion}
 use Rattle.book_model.specs.declared.fault.LedgerFault.{LedgerFault}
@@ -15,8 +15,8 @@ use Rattle.book_model.specs.declared.note.Share.{Share}
 use Rattle.book_model.specs.declared.note.Stop.{Stop}
 use Rattle.book_model.specs.declared.note.Stop.TheVariants.{Ledger}
 use Rattle.book_core.specs.Calls.{Calls}
-use Rattle.book_core.specs.Transition.{Then}
-use Rattle.book_core.proofs.TransitionLemmas.{Implies}
+use Rattle.book_core.specs.Transition.{IsTransition, NoEvent, Then}
+use Rattle.book_core.proofs.TransitionLemmas.{Implies, no_work, work_as}
 use Rattle.book_import.specs.declared.import_entry.ImportEntry.{ImportEntry}
 use Rattle.book_import.specs.declared.receipt.Receipt.{Receipt}
 use Rattle.book_import.specs.Dumps.{stop_after}

@@ -139,10 +139,9 @@ record EntryStands (ending : Option Stop) (waiting : List (List ℕ)) (left : Li
 
 entry_stands : (so after : ImportEntry) (counts : Receipt)
     (ending : Option Stop) (waiting : List (List ℕ)) (pending left : List Accepted)
-    (answer : Accepted) (was : Bool) (before : Book) (events : List Event) (is : Bool)
-    → (pending ≡ [] → so.ended ≡ None) → IsLast so waiting pending
+    (answer : Accepted) → (pending ≡ [] → so.ended ≡ None) → IsLast so waiting pending
     → IfSome so.ended (λ said. ending ≡ Some said)
-    → AsksOf naming so counts ending waiting pending (Ok answer) left after was before events is
+    → IsAfter so counts ending waiting pending (Ok answer) left after
     → EntryStands ending waiting left so after
 entry_stands so after counts ending waiting (one ∷ later) left answer none last ended heard = record {
   note = ap note_of heard.2;

@@ -1,7 +1,7 @@
 -- The laws of runs, from those of the histories that runs make.
-use Rattle.std.proofs.Common.{◌≡◌, ◌∙◌, List, None, Ok, refl, sym, ap, subst, pos, ℤ}
+use Rattle.std.proofs.Common.{◌≡◌, ◌∙◌, ℕ, List, Option, None, Ok, refl, sym, ap, subst, pos, ℤ}
 use Rattle.book_model.specs.Words.{IsMadeByCalls, Book, new_book, is_undisputed, Event, book_after}
-use Rattle.book_model.specs.Words.{Naming}
+use Rattle.book_model.specs.Words.{Naming, begun_in, of_centre}
 use Rattle.book_model.specs.JournalLaws.{unjournaled}
 use Rattle.book_model.proofs.JournalLemmas.{imports_are_free}
 use Rattle.book_model.proofs.OrderLemmas.{order_is_free}
@@ -12,7 +12,11 @@ use Rattle.book_laws.proofs.ClosedLemmas.{closed_stays}
 use Rattle.book_laws.proofs.ClosedTexts.{HasSameCentres, centres_stay, period_stays}
 use Rattle.book_laws.proofs.NetLemmas.{charged_once}
 use Rattle.book_laws.proofs.ReadLemmas.{conserved}
-use Rattle.book_reports.specs.BookTexts.{open_statement, report_answer}
+use Rattle.book_reports.specs.BookTexts.{open_statement, period_answer, report_answer}
+use Rattle.book_reports.specs.declared.report.PeriodReport.{PeriodReport}
+use Rattle.book_reports.specs.declared.report.PeriodReport.TheVariants.{AdjustmentList}
+use Rattle.book_reports.specs.declared.report.PeriodReport.TheVariants.{AdjustmentTable}
+use Rattle.book_reports.specs.declared.report.PeriodReport.TheVariants.{StatementTable}
 use Rattle.book_reports.specs.declared.report.Report.{Report}
 use Rattle.book_reports.specs.declared.report.Report.TheVariants.{OfPeriod, Record}
 use Rattle.book_core.proofs.FollowLemmas.{history_goes_on}
@@ -85,9 +89,22 @@ run_order_is_free naming before_one before_other one other after_one after_other
     between
     ∙ sym (left_after before_other other))
 
--- a report that says nothing of the journal does not depend on it
+-- what a period has does not depend on the journal
+period_alone : (naming : Naming) (report : PeriodReport) (period : ℕ)
+    (centre : Option (List ℕ)) (book : Book)
+    → period_answer naming report period centre (unjournaled book)
+    ≡ period_answer naming report period centre book
+period_alone naming Statement period centre book = refl
+period_alone naming StatementTable period centre book = refl
+period_alone naming AdjustmentList period centre book = refl
+period_alone naming AdjustmentTable period centre book = refl
+
+-- nor does a report that says nothing of it
 pub texts_alone : (naming : Naming) (report : Report) (book : Book) → ReadsNoEntry report
     → report_answer naming report (unjournaled book) ≡ report_answer naming report book
+texts_alone naming (OfPeriod report period centre) book none =
+    ap (of_centre (begun_in period book.rulings) centre)
+    (period_alone naming report period centre book)
 texts_alone naming (Record name) book none = absurd none
 texts_alone naming report book none = refl
 

@@ -13,6 +13,7 @@ use Rattle.std.specs.declared.io.Error.{Error}
 use Rattle.std.specs.declared.io.ErrorKind.TheVariants.{OutOfMemory}
 use Rattle.std.specs.declared.io.buffered.BufReader.{BufReader}
 use Rattle.std.specs.declared.io.traits.Take.{Take}
+use Rattle.book_model.specs.Words.{Note}
 use Rattle.book_core.specs.Words.{Seen, IsTransition, NoEvent}
 use Rattle.book_core.proofs.TransitionLemmas.{no_work}
 use Rattle.office.specs.declared.choosing.Chosen.{Chosen}

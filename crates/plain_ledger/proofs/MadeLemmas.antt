@@ -12,9 +12,9 @@ use Rattle.book_model.specs.Journal.{keep_in, kept_by, read_on}
 use Rattle.book_model.specs.Words.{EntrySeen, Naming, RecordKept, Records, Rulings, entries_listed}
 use Rattle.book_model.specs.Words.{entry_seen, has, members, note_shown, reading_shown, same_bytes}
 use Rattle.book_model.specs.Words.{told, told_end, with}
-use Rattle.book_model.proofs.Lemmas.{length-alike, members_with, none_in, same_records}
+use Rattle.book_model.proofs.Lemmas.{length-alike, none_in, same_records}
 use Rattle.book_model.proofs.RecordSets.{has_with}
-use Rattle.book_model.proofs.SetChanges.{by_record}
+use Rattle.book_model.proofs.SetChanges.{by_record, members_with}
 use Rattle.book_core.specs.Submissions.{records_in}
 use Rattle.book_core.proofs.ArrivalLemmas.{swapped}
 use Rattle.plain_ledger.specs.declared.journal.Said.{Said}

@@ -20,13 +20,13 @@ use Rattle.book_core.proofs.ArrivalLemmas.{all_swapped}
 use Rattle.book_core.proofs.NamedLemmas.{is_some-named, its_name}
 use Rattle.table_model.specs.JournalRows.{came_entries}
 use Rattle.table_model.specs.Journaled.{AreEntries, IsJournaled}
+use Rattle.table_model.specs.Tables.{RecordRow}
 use Rattle.table_model.specs.UnderNames.{under_names}
 use Rattle.table_model.specs.Words.{IsReadable, Tables, row_record, tables_of}
 use Rattle.table_model.proofs.HeldNames.{own_value}
 use Rattle.table_model.proofs.JournalReading.{first-among, rest-are}
 use Rattle.table_model.proofs.TrailLemmas.{records_follow}
 use Rattle.tree_tables.specs.Answers.{FindsArrival}
-use Rattle.table_ledger.proofs.Words.{RecordRow}
 use Rattle.std.specs.FinMap as fin
 
 -- ---- the first of names that rise

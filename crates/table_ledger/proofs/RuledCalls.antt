@@ -1,5 +1,5 @@
 -- A ruling that a ledger is asked for: which one it is decides what is tried on the ledger's parts.
-use Rattle.std.proofs.Common.{◌≡◌, false, Option, Result, subst, sym}
+use Rattle.std.proofs.Common.{◌≡◌, Bool, false, Option, Result, subst, sym}
 use Rattle.book_model.specs.declared.ruling.Ruling.{Ruling}
 use Rattle.book_model.specs.Words.{Naming, Note, rule_outcome, ruling_asked}
 use Rattle.book_core.specs.Words.{IsCall}

@@ -12,8 +12,7 @@ use Rattle.book_model.specs.declared.row.RowKey.{RowKey}
 use Rattle.book_model.specs.Words.{Credit, Note, Reading, same_bytes}
 use Rattle.table_model.specs.Tables.{BookRow, ChoiceRow, ImportRow, JournalRow, RecordRow}
 use Rattle.table_model.specs.Tables.{ReplacedRow, RowAct, RulingRow, Tables}
-use Rattle.tree_tables.proofs.EntryRows.{ending_in, place_in}
-use Rattle.tree_tables.specs.JournalColumns.{import_word}
+use Rattle.tree_tables.specs.JournalColumns.{ending_in, import_word, place_in}
 
 -- the number that a value is
 abbrev pub int_value : Value → ℤ

@@ -64,7 +64,7 @@ put-follows (Some note) act row same entries =
     ∙ ap (λ row. insert (rows_table entries) number (record { note = note; act = row })) same
 
 -- the newest row is found under the number of all
-newest-found : (entry : Entry) (older : List Entry)
+pub newest-found : (entry : Entry) (older : List Entry)
     → get (rows_table (entry ∷ older)) (newest_number (rows_table (entry ∷ older)))
     ≡ Some (journal_row entry)
 newest-found entry older =
