@@ -1,7 +1,7 @@
 -- Where a number leads in the list of rulings, part by part.
 use Rattle.std.proofs.Common.{◌≡◌, ◌∙◌, ◌+◌, ◌<◌, ◌≤◌, ℕ, zero, suc, List, [], ◌∷◌, ◌++◌, length}
 use Rattle.std.proofs.Common.{refl, sym, ap, arith, Option, Some, None, Err, slice_get, option_map}
-use Rattle.std.proofs.Common.{Bool, cond, false, filter, find, true}
+use Rattle.std.proofs.Common.{Bool, true, false, cond, filter, find}
 use Rattle.book_model.specs.Words.{AcceptedTerms, Choice, Credit, Naming, Replaced, Rulings}
 use Rattle.book_model.specs.Words.{RulingSeen, adoption_seen, all_replaced_seen, choice_seen}
 use Rattle.book_model.specs.Words.{choices_seen, closes_seen, credit_seen, credits_seen}
