@@ -17,4 +17,5 @@ pub returns : goal.returns
 returns c =
     changes c.args.said.now c.args.made.now.items c.pop.new.self.items c.push.new.self.items
     c.in-Some.last _ c.requires c.in-Some.ensures.items c.in_ok-push.ensures.items
-    (ap {B = Entry} (λ act. record { note = note_shown c.in-Some.last.note; act = act }) c.in_ok-act.ensures)
+    (ap {B = Entry} (λ act. record { note = note_shown c.in-Some.last.note; act = act })
+    c.in_ok-act.ensures)

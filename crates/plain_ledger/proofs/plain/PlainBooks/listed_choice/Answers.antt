@@ -11,7 +11,8 @@ returns-clause-shown g c =
     let its = c.in_ok-place.ensures.its in
     let same : c.in_ok-place.place ≡ c.args.number - 1 = omega (arith, its) in
     c.choice_listed-ruling.ensures.listed
-    ∙ (λ i. option_map (choice_seen (g.N.Naming.name_of (naming_in ledger)) (sym its i)) (slice_get all (same i)))
+    ∙ (λ i. option_map (choice_seen (g.N.Naming.name_of (naming_in ledger)) (sym its i))
+    (slice_get all (same i)))
 
 -- it is one of them
 pub choice_listed-ruling-requires : goal.choice_listed-ruling-requires
