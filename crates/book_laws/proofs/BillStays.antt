@@ -2,7 +2,7 @@
 use Rattle.std.proofs.Common.{◌≡◌, ℕ, zero, suc, ◌<◌, List, [], ◌∷◌, length, refl, sym, ap, ◌∙◌}
 use Rattle.std.proofs.Common.{true, false, Bool, ◌||◌, Option, Some, None, is_some}
 use Rattle.std.proofs.Common.{arith, All, ℤ, pos, if◌then◌else◌, filter_map, ok_or}
-use Rattle.std.proofs.Common.{flat_map, option_map, int_cmp, length-append, ◌+◌, ◌++◌}
+use Rattle.std.proofs.Common.{flat_map, option_map, int_cmp, length-append}
 use Rattle.std.proofs.lemmas.List.Sorted.{All-permutation}
 use Rattle.book_model.proofs.Std.{IsStrictlySortedBy, cons_option, list_any, All-append}
 use Rattle.book_model.proofs.Std.{All-cons, All-filter, All-nil, IsPermutation-sym}

@@ -1,7 +1,7 @@
 -- The credits of the centres add up to those of the office, and are taken off what is owed.
-use Rattle.std.proofs.Common.{◌≡◌, ℕ, zero, suc, ◌+◌, List, [], ◌∷◌, refl, sym, ap, ◌∙◌, true, false, true≢false}
-use Rattle.std.proofs.Common.{cond, ◌||◌, Bool, filter, arith, ℤ, pos, negsuc, ◌+ℤ◌, ◌-ℤ◌, int_lt}
-use Rattle.std.proofs.Common.{if◌then◌else◌, sum_by, unsigned_abs}
+use Rattle.std.proofs.Common.{◌≡◌, ℕ, suc, ◌+◌, List, [], ◌∷◌, refl, sym, ap, ◌∙◌, true, false}
+use Rattle.std.proofs.Common.{true≢false, cond, ◌||◌, Bool, filter, arith, ℤ, pos, negsuc, ◌+ℤ◌}
+use Rattle.std.proofs.Common.{◌-ℤ◌, int_lt, if◌then◌else◌, sum_by, unsigned_abs}
 use Rattle.book_model.proofs.Std.{list_any, ints, exact_bytes, tells_apart, All-head, All-tail}
 use Rattle.book_model.proofs.Std.{sum_by-cons}
 use Rattle.book_model.specs.Words.{Credit, same_bytes}
@@ -76,14 +76,28 @@ credited_by credit = credit.credited
 abbrev debited_by : CreditAmount → ℕ
 debited_by credit = credit.debited
 
+-- a number that is not below 0, and one that is
+not_below : (n : ℕ) → int_lt (pos n) (pos 0) ≡ false
+not_below n = grind (arith, ints)
+
+is_below : (n : ℕ) → int_lt (negsuc n) (pos 0) ≡ true
+is_below n = grind (arith, ints)
+
 -- one credit more, whatever its sign
 one_credit : (amount : ℤ) (a b : ℕ) (others : ℤ) → (pos a -ℤ pos b) ≡ others
     → (pos ((if int_lt amount (pos 0) then 0 else unsigned_abs amount) + a)
     -ℤ pos ((if int_lt amount (pos 0) then unsigned_abs amount else 0) + b))
     ≡ (amount +ℤ others)
-one_credit (pos zero) a b others is = omega (arith, ints, is)
-one_credit (pos (suc n)) a b others is = omega (arith, ints, is)
-one_credit (negsuc n) a b others is = omega (arith, ints, is)
+one_credit (pos n) a b others is =
+    let plus : (pos (n + a) -ℤ pos (0 + b)) ≡ (pos n +ℤ others) = omega (arith, ints, is) in
+    ap (λ below. pos ((if below then 0 else n) + a) -ℤ pos ((if below then n else 0) + b))
+    (not_below n)
+    ∙ plus
+one_credit (negsuc n) a b others is =
+    let less : (pos (0 + a) -ℤ pos (suc n + b)) ≡ (negsuc n +ℤ others) = omega (arith, ints, is) in
+    ap (λ below. pos ((if below then 0 else suc n) + a) -ℤ pos ((if below then suc n else 0) + b))
+    (is_below n)
+    ∙ less
 
 -- what credits take off, less what those below 0 add, is what they come to
 both_sides : (credits : List Credit)

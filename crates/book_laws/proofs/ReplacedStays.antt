@@ -1,16 +1,15 @@
 -- The tariffs of a closed period's days stay where a text takes the place of a tariff: that one begins
 -- after these days.
 use Rattle.std.proofs.Common.{◌≡◌, ℕ, zero, suc, ◌<◌, List, [], ◌∷◌, get_or, refl, sym}
-use Rattle.std.proofs.Common.{ap, ◌∙◌, subst, true, false, cond, not, Option, Some, None}
-use Rattle.std.proofs.Common.{arith, ℤ, pos, ◌<ℤ◌, int_lt, filter, map, slice_get, MatchOption, All}
-use Rattle.std.proofs.Common.{if◌then◌else◌, option_map, int_cmp, ◌||◌}
+use Rattle.std.proofs.Common.{ap, ◌∙◌, true, false, cond, not, Option, Some, None}
+use Rattle.std.proofs.Common.{arith, ℤ, pos, ◌<ℤ◌, int_lt, filter, map, slice_get, All}
+use Rattle.std.proofs.Common.{if◌then◌else◌, option_map, ◌||◌}
 use Rattle.std.proofs.lemmas.Bool.Decides.{Decides-int_eq}
-use Rattle.std.specs.List.Sorted.{IsStrictlySortedBy}
 use Rattle.std.specs.Ordering.{int_eq}
-use Rattle.book_model.proofs.Std.{cons_option, last_or, list_any, ints, slice_get-get_or, All-head}
+use Rattle.book_model.proofs.Std.{cons_option, list_any, ints, slice_get-get_or, All-head}
 use Rattle.book_model.proofs.Std.{All-tail}
 use Rattle.book_model.specs.Words.{AcceptedTerms, RulingSeen, TariffSeen}
-use Rattle.book_model.specs.Words.{begins_by, first_day_of, in_force_from, is_after, is_effective}
+use Rattle.book_model.specs.Words.{begins_by, first_day_of, in_force_from, is_effective}
 use Rattle.book_model.specs.Words.{last_close, open_number, or_new, tariff_seen}
 use Rattle.book_model.specs.Words.{tariffs_from, tariffs_in, tariffs_seen, tariffs_through}
 use Rattle.book_model.specs.Words.{through_of, with_replaced}

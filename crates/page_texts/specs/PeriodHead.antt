@@ -22,6 +22,17 @@ credits_sum figures =
 unfoldable pub credits_figure : FiguresSeen → List ℕ
 credits_figure figures = if has_credits figures then credits_sum figures else []
 
+-- the sums of the period
+unfoldable pub period_sums : FiguresSeen → List ℕ
+period_sums figures =
+    concat
+    (codes "<dl>\n<div><dt>Charged</dt><dd>" ∷ amount_text figures.charged
+    ∷ codes "</dd></div>\n<div><dt>Added</dt><dd>" ∷ amount_text figures.added
+    ∷ codes "</dd></div>\n<div><dt>Reversed</dt><dd>" ∷ amount_text figures.reversed
+    ∷ codes "</dd></div>\n" ∷ credits_figure figures
+    ∷ codes "<div><dt>Owed</dt><dd>" ∷ owed_text figures
+    ∷ codes "</dd></div>\n" ∷ [])
+
 -- what stands above the parts of the page: the office's name, under its title whether the period is
 -- open, and its sums
 unfoldable pub period_head : Option (List ℕ) → List ℕ → Option ℤ → FiguresSeen → List ℕ
@@ -30,12 +41,7 @@ period_head office title through figures =
     (codes "<header>\n<p><a href='/'>" ∷ office_name (codes "Office") office
     ∷ codes "</a></p>\n<h1>" ∷ title
     ∷ codes "</h1>\n<p>" ∷ head_text through
-    ∷ codes "</p>\n</header>\n<dl>\n<div><dt>Charged</dt><dd>" ∷ amount_text figures.charged
-    ∷ codes "</dd></div>\n<div><dt>Added</dt><dd>" ∷ amount_text figures.added
-    ∷ codes "</dd></div>\n<div><dt>Reversed</dt><dd>" ∷ amount_text figures.reversed
-    ∷ codes "</dd></div>\n" ∷ credits_figure figures
-    ∷ codes "<div><dt>Owed</dt><dd>" ∷ owed_text figures
-    ∷ codes "</dd></div>\n" ∷ [])
+    ∷ codes "</p>\n</header>\n" ∷ period_sums figures ∷ [])
 
 -- how many gaps a coverage has, where anything is counted
 unfoldable pub gaps_text : List CoverageRow → List ℕ

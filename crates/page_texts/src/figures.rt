@@ -1,8 +1,9 @@
 //! Figures of a period: what it comes to, and what each centre and each day costs in it.
 
-ghost use Rattle.std.specs.Prelude.{◌≡◌, ◌≤ℤ◌, ◌++◌, IfOk, IfSome, Some, map};
+ghost use Rattle.std.specs.Prelude.{◌≡◌, ◌≤ℤ◌, ◌+◌, ◌++◌, IfOk, IfSome, Some, map};
 ghost use Rattle.smf_text.specs.Day.{last_day};
 ghost use Rattle.book_model.specs.Words.{AreLines, AreRows, credit_shown};
+ghost use Rattle.report_texts.specs.AdjustmentLists.{signed_text};
 ghost use Rattle.report_texts.specs.Charges.{FitCredits, plain_credits};
 ghost use Rattle.coverage_texts.specs.Coverage.{days_between};
 ghost use Rattle.page_texts.specs.Figures as spec;
@@ -169,14 +170,28 @@ pub fn period_figures(
     })
 }
 
+/// Appends what is charged, added and debited, less what is reversed and credited.
+fn push_less(out: &mut Draft, charged: u64, added: u64, debited: u64, reversed: u64, credited: u64)
+    ensures { out.new ≡ out.old ++ signed_text (charged + added + debited) (reversed + credited) }
+{
+    let all = u128::from(charged) + u128::from(added) + u128::from(debited);
+    let taken = u128::from(reversed) + u128::from(credited);
+    push_signed(out, all, taken);
+}
+
 /// Appends what is owed: what is charged and added, less what is reversed and credited.
 #[tactic(auto, unfolding(crate::specs::Figures::owed_text))]
 pub(crate) fn push_owed(out: &mut Draft, figures: &PeriodFigures)
     ensures { out.new ≡ out.old ++ spec.owed_text (spec.figures_seen figures.now) }
 {
-    let charged = u128::from(figures.charged) + u128::from(figures.added);
-    let taken = u128::from(figures.reversed) + u128::from(figures.credited);
-    push_signed(out, charged + u128::from(figures.debited), taken);
+    push_less(
+        out,
+        figures.charged,
+        figures.added,
+        figures.debited,
+        figures.reversed,
+        figures.credited,
+    );
 }
 
 /// Some credit comes to something.

@@ -35,7 +35,6 @@ pub(crate) fn period_title(alloc: Global, period: u16) -> Draft
 }
 
 /// Appends a sum of credits.
-#[tactic(auto, unfolding(crate::specs::PeriodHead::credits_sum))]
 fn push_credits_sum(out: &mut Draft, figures: &PeriodFigures)
     ensures { out.new ≡ out.old ++ spec.credits_sum (figures_seen figures.now) }
 {
@@ -52,6 +51,23 @@ fn push_credits_figure(out: &mut Draft, figures: &PeriodFigures)
     if has_credits(figures) {
         push_credits_sum(out, figures);
     }
+}
+
+/// Appends the sums of the period.
+fn push_period_sums(out: &mut Draft, figures: &PeriodFigures)
+    ensures { out.new ≡ out.old ++ spec.period_sums (figures_seen figures.now) }
+{
+    out.push_str("<dl>\n<div><dt>Charged</dt><dd>");
+    push_money(out, figures.charged);
+    out.push_str("</dd></div>\n<div><dt>Added</dt><dd>");
+    push_money(out, figures.added);
+    out.push_str("</dd></div>\n<div><dt>Reversed</dt><dd>");
+    push_money(out, figures.reversed);
+    out.push_str("</dd></div>\n");
+    push_credits_figure(out, figures);
+    out.push_str("<div><dt>Owed</dt><dd>");
+    push_owed(out, figures);
+    out.push_str("</dd></div>\n");
 }
 
 /// Appends what stands above the parts of the page: the office's name, under its title whether the
@@ -74,17 +90,8 @@ pub(crate) fn push_period_head(
     out.push_draft(title);
     out.push_str("</h1>\n<p>");
     push_head(out, through);
-    out.push_str("</p>\n</header>\n<dl>\n<div><dt>Charged</dt><dd>");
-    push_money(out, figures.charged);
-    out.push_str("</dd></div>\n<div><dt>Added</dt><dd>");
-    push_money(out, figures.added);
-    out.push_str("</dd></div>\n<div><dt>Reversed</dt><dd>");
-    push_money(out, figures.reversed);
-    out.push_str("</dd></div>\n");
-    push_credits_figure(out, figures);
-    out.push_str("<div><dt>Owed</dt><dd>");
-    push_owed(out, figures);
-    out.push_str("</dd></div>\n");
+    out.push_str("</p>\n</header>\n");
+    push_period_sums(out, figures);
 }
 
 /// Appends how many gaps a coverage has, where anything is counted.

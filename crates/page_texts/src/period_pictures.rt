@@ -56,7 +56,6 @@ fn push_credits_column(out: &mut Draft, credited: bool)
 }
 
 /// Appends those of centres.
-#[tactic(auto, unfolding(crate::specs::PeriodPictures::centre_columns))]
 fn push_centre_columns(out: &mut Draft, credited: bool)
     ensures { out.new ≡ out.old ++ spec.centre_columns credited }
 {

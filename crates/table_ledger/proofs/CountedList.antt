@@ -2,13 +2,15 @@
 -- them one after the other.
 use Rattle.std.proofs.Common.{◌≡◌, ◌∙◌, ◌+◌, ◌-◌, ℕ, List, [], ◌∷◌, ◌++◌, Bool, true, false, cond}
 use Rattle.std.proofs.Common.{◌||◌, Option, map, refl, sym, ap, subst, inl, inr, is_some}
-use Rattle.std.proofs.Common.{append-nil, append_assoc, arith, if◌then◌else◌, IsPermutation}
+use Rattle.std.proofs.Common.{append-nil, append_assoc, arith, if◌then◌else◌, IsPermutation, ◌<◌}
+use Rattle.std.proofs.Common.{get_or, length, slice_index_or, take}
 use Rattle.std.proofs.Math.Bool.{or-false}
 use Rattle.std.specs.FinMap.{get-empty}
 use Rattle.std.proofs.lemmas.Bool.{cases_Bool}
+use Rattle.std.proofs.lemmas.List.Sums.{fold-append}
 use Rattle.book_model.proofs.Std.{entries, list_any, option_or, nat_list_cmp_total, map-append}
 use Rattle.book_model.proofs.Std.{filter-append, IsPermutation-map, IsPermutation-sym}
-use Rattle.book_model.proofs.Std.{list_any-IsPermutation}
+use Rattle.book_model.proofs.Std.{list_any-IsPermutation, take_more}
 use Rattle.book_model.specs.Words.{by_bytes, has, set_of}
 use Rattle.book_model.proofs.Lemmas.{has_with, is, same_records, has-set_of}
 use Rattle.table_model.specs.Words.{charged_before_lines, first_line, NamedRow, count_row, Tables}
@@ -119,6 +121,18 @@ counted_has (name ∷ names) tables q =
     counted_has names (count_row name tables) q
     ∙ ap (λ b. list_any (is q) names || b) (has_with tables.counted name q)
     ∙ or_turn (list_any (is q) names) (is q name) (has tables.counted q)
+
+-- the record of one name more is counted
+pub count_more : (all : List Counted) (i : ℕ) (any : Counted) (tables : Tables) → i < length all
+    → count_row (slice_index_or all i any).name (count_each (names_of (take i all)) tables)
+    ≡ count_each (names_of (take (i + 1) all)) tables
+count_more all i any tables within =
+    sym (ap (λ (some : List Counted). count_each (names_of some) tables)
+    (take_more all i any within)
+    ∙ ap (λ names. count_each names tables)
+    (map-append (λ (one : Counted). one.name) (take i all) (get_or all i any ∷ []))
+    ∙ fold-append (λ (so_far : Tables) (name : List ℕ). count_row name so_far) tables
+    (names_of (take i all)) ((get_or all i any).name ∷ []))
 
 -- nothing else is changed
 rest_stays : (names : List (List ℕ)) (tables : Tables)

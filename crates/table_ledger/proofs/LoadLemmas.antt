@@ -62,21 +62,21 @@ said_rule row closes (Some period) says =
 -- rows are those of tables: of the book, of the tariffs and the closes, and of the last choice, the
 -- last replaced tariff and the last credit
 pub record AreRowsIn (tables : Tables) (row : Stored) (texts : List StoredTariff)
-    (days : List Close) (choices replaced credits : ℕ) : Type 0 where
+    (days : List Close) (choices gone given : ℕ) : Type 0 where
   pub book : book_entry row ≡ tables.book
   pub tariffs : map tariff_of texts ≡ entries tables.tariffs
   pub closes : map close_entry days ≡ entries tables.closes
   pub made : choices ≡ last_number tables.choices
-  pub replaced : replaced ≡ last_number tables.replaced
-  pub credits : credits ≡ last_number tables.credits
+  pub replaced : gone ≡ last_number tables.replaced
+  pub credits : given ≡ last_number tables.credits
 
 -- a summary that rows show is that of the tables that have these rows,
 pub recalled : (summary : Summary) (tables : Tables) (row : Stored) (tariffs : List StoredTariff)
-    (closes : List Close) (choices replaced credits : ℕ)
-    → SummarizesRows row tariffs closes choices replaced credits summary
-    → AreRowsIn tables row tariffs closes choices replaced credits
+    (closes : List Close) (choices gone given : ℕ)
+    → SummarizesRows row tariffs closes choices gone given summary
+    → AreRowsIn tables row tariffs closes choices gone given
     → SummarizesTables summary tables
-recalled summary tables row tariffs closes choices replaced credits shows are =
+recalled summary tables row tariffs closes choices gone given shows are =
     let ruled = sym (tariffs_said tariffs (ruled_in summary.rulings).tariffs shows.tariffs)
     ∙ ap (filter_map tariff_read) are.tariffs in
     let closed = sym (days_had closes (ruled_in summary.rulings).closes shows.closes)
@@ -98,13 +98,13 @@ recalled summary tables row tariffs closes choices replaced credits shows are =
 
 -- so is what is answered from the rows
 pub recalled_by : (answer : Result Summary LedgerFault) (tables : Tables) (row : Stored)
-    (texts : List StoredTariff) (days : List Close) (choices replaced credits : ℕ)
-    → IfOk answer (SummarizesRows row texts days choices replaced credits)
-    → IfErr answer IsStoreFault → AreRowsIn tables row texts days choices replaced credits
+    (texts : List StoredTariff) (days : List Close) (choices gone given : ℕ)
+    → IfOk answer (SummarizesRows row texts days choices gone given)
+    → IfErr answer IsStoreFault → AreRowsIn tables row texts days choices gone given
     → IsLoaded tables answer
-recalled_by (Ok summary) tables row texts days choices replaced credits shows kinds are =
-    recalled summary tables row texts days choices replaced credits shows are
-recalled_by (Err fault) tables row texts days choices replaced credits shows kinds are = kinds
+recalled_by (Ok summary) tables row texts days choices gone given shows kinds are =
+    recalled summary tables row texts days choices gone given shows are
+recalled_by (Err fault) tables row texts days choices gone given shows kinds are = kinds
 
 -- a summary of the tables of a book is one of the book
 pub remembered : (naming : Naming) (book : Book) (summary : Summary) → IsReadable naming book

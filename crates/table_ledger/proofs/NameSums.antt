@@ -1,7 +1,8 @@
 -- What all records cost by some amounts, summed in a walk by name: of those that it has passed.
 use Rattle.std.proofs.Common.{◌≡◌, ◌∙◌, ℕ, ◌+◌, ◌≤◌, List, [], ◌∷◌, Option, Some, None, inl, inr}
 use Rattle.std.proofs.Common.{false, refl, sym, ap, subst, true≢false, arith, slice_get, sum_by}
-use Rattle.book_model.proofs.Std.{get, values, nat_list_cmp_total, sum_by-cons, exact_bytes}
+use Rattle.std.proofs.Common.{zero-add}
+use Rattle.book_model.proofs.Std.{entries, get, values, nat_list_cmp_total, sum_by-cons, exact_bytes}
 use Rattle.book_model.specs.Words.{by_bytes, most_cost}
 use Rattle.book_core.specs.Words.{if_room}
 use Rattle.table_model.specs.Words.{RecordRow, Tables}
@@ -36,7 +37,8 @@ module _ (amount : RecordRow → ℕ) (Can : RecordRow → Type 0) (tables : Tab
   -- at first none is passed
   pub names_first : SumsTo amount Can None 0 tables
   names_first = record {
-    sum = sym (values_sum tables.records amount);
+    sum = zero-add (sum_by (of_entry amount) (entries tables.records))
+        ∙ sym (values_sum tables.records amount);
     told = λ name row there passed. absurd (true≢false passed);
   }
 

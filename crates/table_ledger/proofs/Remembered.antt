@@ -50,11 +50,11 @@ remembers_as {book = book} remembers same =
 
 -- A summary says this: the rulings; how many choices, replaced tariffs, credits and records there
 -- are; and what the records cost.
-pub record Says (ruled : Rulings) (made replaced given count cost : ℕ) (is : Summary) : Type 0
+pub record Says (ruled : Rulings) (made gone given count cost : ℕ) (is : Summary) : Type 0
   where
     pub rulings : ruled_in is.rulings ≡ ruled
     pub choices : is.choices ≡ made
-    pub replaced : is.replaced ≡ replaced
+    pub replaced : is.replaced ≡ gone
     pub credits : is.credits ≡ given
     pub held : is.held ≡ count
     pub total : is.total ≡ cost

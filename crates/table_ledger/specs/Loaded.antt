@@ -66,12 +66,12 @@ pub record CountsRulings (tables : Tables) (counts : RulingCounts) : Type 0 wher
 
 -- the summary is what the rows show
 pub record SummarizesRows (row : Stored) (texts : List StoredTariff) (days : List Close)
-    (choices replaced credits : ℕ) (summary : Summary) : Type 0 where
+    (choices gone given : ℕ) (summary : Summary) : Type 0 where
   pub tariffs : AllZip SaysTariff texts (ruled_in summary.rulings).tariffs
   pub closes : AllZip IsCloseDay days (ruled_in summary.rulings).closes
   pub made : summary.choices ≡ choices
-  pub replaced : summary.replaced ≡ replaced
-  pub credits : summary.credits ≡ credits
+  pub replaced : summary.replaced ≡ gone
+  pub credits : summary.credits ≡ given
   pub adopted : SaysRule (length (ruled_in summary.rulings).closes) row (ruled_in summary.rulings).adopted
   pub held : summary.held ≡ row.held
   pub total : summary.total ≡ row.amount

@@ -91,7 +91,8 @@ pub(crate) fn try_credit<S: Store>(
         credit.now.centre credit.now.amount credit.now.reason.now) result }
 {
     let given = is_given(tables, alloc, credit)?;
-    let answer = answer_to(&summary.rulings, summary.credits, credit, given);
+    let count = summary.credits;
+    let answer = answer_to(&summary.rulings, count, credit, given);
     if !is_done(&answer) {
         return Ok(answer);
     }

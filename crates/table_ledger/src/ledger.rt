@@ -8,7 +8,11 @@ mod opening;
 
 use crate::accept::{alone, first_answer, try_accept_many};
 use crate::adjustments::try_adjustments;
+use crate::adoption::try_adopt;
 use crate::charges::try_charges;
+use crate::choices::try_choose;
+use crate::close::try_close;
+use crate::credits::try_credit;
 use crate::details::try_next_detail;
 use crate::disputes::{try_dispute, try_disputes};
 use crate::finish::finish;
@@ -18,10 +22,12 @@ use crate::listed_rulings::try_ruling;
 use crate::named_records::try_record;
 use crate::other_prices::try_charges_under;
 use crate::periods::try_periods;
-use crate::rulings::try_rule;
+use crate::replacing::try_replace;
 use crate::summary::Summary;
+use crate::tariff::try_tariff;
 use crate::trails::try_trail_of;
 use crate::withheld_together::try_withhold_many;
+use crate::withholding::try_withhold;
 use book_core::{
     Accepted, ChargeRow, Credit, Detail, Dispute, Ledger, LedgerFault, Line, ListedRuling, Name,
     Naming, Ruled, Ruling, Trail, Withheld,
@@ -29,7 +35,7 @@ use book_core::{
 use sqlite_trees::store::Store;
 use std::alloc::Global;
 use tariff_rules::Tariff;
-use tree_tables::TreeTables;
+use tree_tables::{Close, CreditText, TreeTables};
 
 /// The most records that one commit takes, and the most works that one withholds.
 const MOST_IN_COMMIT: usize = 8_000;
@@ -86,7 +92,33 @@ impl<S: Store, N: Naming + Drop> Ledger for TableLedger<S, N> {
         if self.must_reopen {
             return Err(LedgerFault::Reopen);
         }
-        let tried = try_rule(&mut self.tables, self.alloc, &mut self.summary, ruling);
+        let tables = &mut self.tables;
+        let summary = &mut self.summary;
+        let alloc = self.alloc;
+        let tried = match ruling {
+            Ruling::Tariff(text) => try_tariff(tables, summary, alloc, text),
+            Ruling::Close { period, through } => {
+                try_close(tables, alloc, summary, &Close { period, through })
+            }
+            Ruling::Choose(name) => try_choose(tables, alloc, summary, name),
+            Ruling::Adopt(rule) => try_adopt(tables, alloc, summary, rule),
+            Ruling::Replace(text) => try_replace(tables, summary, alloc, text),
+            Ruling::Withhold(name) => try_withhold(tables, alloc, summary, name),
+            Ruling::Credit {
+                period,
+                centre,
+                amount,
+                reason,
+            } => {
+                let credit = CreditText {
+                    period,
+                    centre,
+                    amount,
+                    reason,
+                };
+                try_credit(tables, alloc, summary, &credit)
+            }
+        };
         finish(&mut self.tables, &mut self.must_reopen, tried)
     }
 

@@ -32,7 +32,6 @@ mod replaced_prices;
 mod replacing;
 mod repricing;
 mod row_sums;
-mod rulings;
 mod summary;
 mod tariff;
 mod trails;

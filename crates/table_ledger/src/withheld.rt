@@ -1,6 +1,6 @@
 //! Works that are withheld, as the choices among the records of an identity say.
 
-ghost use Rattle.std.specs.Prelude.{◌≡◌, None, not};
+ghost use Rattle.std.specs.Prelude.{◌≡◌, None, false, not};
 ghost use Rattle.std.specs.List.{last_or, list_any};
 ghost use Rattle.std.specs.Option.{option_map_or};
 ghost use Rattle.table_model.specs.RulingsRead.{was_withheld_in};

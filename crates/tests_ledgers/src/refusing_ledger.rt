@@ -61,7 +61,20 @@ impl<L: Ledger> Ledger for RefusingLedger<'_, L> {
         if is_due(&mut self.calls_left) {
             return Err(refusal(&mut *self.inner));
         }
-        self.inner.rule(ruling)
+        match ruling {
+            Ruling::Tariff(text) => self.inner.tariff(text),
+            Ruling::Close { period, through } => self.inner.close(period, through),
+            Ruling::Choose(name) => self.inner.choose(name),
+            Ruling::Adopt(rule) => self.inner.adopt_identity(rule),
+            Ruling::Replace(text) => self.inner.replace_tariff(text),
+            Ruling::Withhold(name) => self.inner.withhold(name),
+            Ruling::Credit {
+                period,
+                centre,
+                amount,
+                reason,
+            } => self.inner.credit(period, centre, amount, reason),
+        }
     }
 
     fn accept(&mut self, bytes: &[u8]) -> Result<Accepted, LedgerFault> {

@@ -10,7 +10,7 @@ returns c is =
     record {
       begun = c.has_begun.ensures c.if-not-has_begun.false;
       said = record {
-        named = rw c.text.ensures.value at c.text.ensures.name;
+        named = rw c.text-centre.ensures.value at c.text-centre.ensures.name;
         limited = sym (ap is_credit_amount (to_z-of_z w64 amount fits))
             ∙ sym c.is_credit_amount.ensures ∙ c.if-not-is_credit_amount.false;
         reasoned = sym (c.is_reason.ensures ∙ ap is_reason c.as_str.ensures.value) ∙ is;

@@ -26,13 +26,10 @@ returns-clause-amount c =
     let some : is_credit_amount amount ≡ true =
     sym (ap is_credit_amount (to_z-of_z w64 amount fits)) ∙ sym c.is_credit_amount.ensures
     ∙ c.if-not-is_credit_amount.false in
-    ap (λ (may : Bool). if may then Some amount else None) (sym some)
+    ap Some (to_z-of_z w64 amount fits)
+    ∙ ap (λ (may : Bool). if may then Some amount else None) (sym some)
     ∙ ap (option_and_then if_credited)
     (c.in_ok-amount.ensures ∙ ap signed_in c.as_bytes.ensures.value)
 
 pub returns-clause-limited : goal.returns-clause-limited
-returns-clause-limited c =
-    let amount = c.in_ok-amount.amount in
-    let fits : FitsSigned w64 amount = search rules in
-    sym (ap is_credit_amount (to_z-of_z w64 amount fits)) ∙ sym c.is_credit_amount.ensures
-    ∙ c.if-not-is_credit_amount.false
+returns-clause-limited c = sym c.is_credit_amount.ensures ∙ c.if-not-is_credit_amount.false

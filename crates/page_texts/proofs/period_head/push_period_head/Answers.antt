@@ -1,4 +1,4 @@
-use Rattle.std.proofs.Common.{append_assoc}
+use Rattle.std.proofs.Common.{append-nil, append_assoc}
 use Rattle.page_texts.specs.PeriodHead.{period_head}
 use Rattle.page_texts.proofs.period_head.push_period_head.Goals as goal
 
@@ -6,16 +6,7 @@ pub returns : goal.returns
 unfolding period_head
 returns c =
     rw (
-      c.push_str-9.ensures,
-      c.push_owed.ensures,
-      c.push_str-8.ensures,
-      c.push_credits_figure.ensures,
-      c.push_str-7.ensures,
-      c.push_money-3.ensures,
-      c.push_str-6.ensures,
-      c.push_money-2.ensures,
-      c.push_str-5.ensures,
-      c.push_money.ensures,
+      c.push_period_sums.ensures,
       c.push_str-4.ensures,
       c.push_head.ensures,
       c.push_str-3.ensures,
@@ -24,4 +15,4 @@ returns c =
       c.push_office_name.ensures,
       c.push_str.ensures,
     )
-    (simp append_assoc)
+    (simp (append_assoc, append-nil))

@@ -1,4 +1,5 @@
-use Rattle.std.proofs.Common.{◌≡◌, ◌∙◌, ◌++◌, ◌∷◌, ◌+◌, [], List, ap, subst, sym, take, take_all}
+use Rattle.std.proofs.Common.{◌≡◌, ◌++◌, ◌∷◌, ◌+◌, [], List, false, slice_index_or, subst, sym, take}
+use Rattle.std.proofs.Common.{take_all}
 use Rattle.book_model.proofs.Std.{take_more}
 use Rattle.table_ledger.proofs.Words.{StoredChoice, IsLastOf}
 use Rattle.table_ledger.proofs.DueCharges.{last_more}
@@ -10,10 +11,10 @@ pub loop-choice-preserved : goal.loop-choice-preserved
 loop-choice-preserved g c =
     let choices = c.args.choices.now in
     let at = c.loop-choice.choice-index in
-    let one = c.choice-item.result in
+    let any : StoredChoice = record { number = 0; name = []; counts = false; period = 0 } in
+    let one = slice_index_or choices at any in
     let more : take at choices ++ one ∷ [] ≡ take (at + 1) choices =
-    sym (take_more choices at one c.loop-choice-test.true
-    ∙ ap (λ last. take at choices ++ last ∷ []) (sym c.choice-item.is)) in
+    sym (take_more choices at any c.loop-choice-test.true) in
     record {
       saw = saw_so (saw_then c.loop-choice.invariant.saw (saw_found c.in_ok-join.ensures.looks))
           (λ tables known.

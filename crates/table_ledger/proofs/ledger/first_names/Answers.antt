@@ -7,3 +7,12 @@ slice_bounds-result-end c = sym (length-take-le most_in_commit c.args.names.now 
 
 pub returns-else-names-gt-MOST_IN_COMMIT-clause-first : goal.returns-else-names-gt-MOST_IN_COMMIT-clause-first
 returns-else-names-gt-MOST_IN_COMMIT-clause-first c = sym (take_all _ _ c.if-names-gt-MOST_IN_COMMIT.false)
+
+pub returns-then-names-gt-MOST_IN_COMMIT-clause-few : goal.returns-then-names-gt-MOST_IN_COMMIT-clause-few
+returns-then-names-gt-MOST_IN_COMMIT-clause-few c =
+    simp (length-take-le most_in_commit c.args.names.now (omega arith)) (omega arith)
+
+pub returns-then-names-gt-MOST_IN_COMMIT-clause-within :
+    goal.returns-then-names-gt-MOST_IN_COMMIT-clause-within
+returns-then-names-gt-MOST_IN_COMMIT-clause-within c =
+    simp (length-take-le most_in_commit c.args.names.now (omega arith)) (omega arith)

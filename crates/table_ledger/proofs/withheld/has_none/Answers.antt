@@ -1,4 +1,4 @@
-use Rattle.std.proofs.Common.{◌∙◌, Bool, not, sym}
+use Rattle.std.proofs.Common.{◌∙◌, [], Bool, false, not, sym}
 use Rattle.tariff_rules.proofs.SearchLemmas.{any_passes, fails_more, none_passes}
 use Rattle.book_model.specs.declared.trail.NamedChoice.{NamedChoice}
 use Rattle.table_ledger.proofs.withheld.has_none.Goals as goal
@@ -7,16 +7,19 @@ use Rattle.table_ledger.proofs.withheld.has_none.Goals as goal
 abbrev test : NamedChoice → Bool
 test choice = not choice.counts
 
+-- where there is no choice
+abbrev any : NamedChoice
+any = record { period = 0; name = []; counts = false }
+
 pub returns-then-is_none : goal.returns-then-is_none
 returns-then-is_none c =
-    any_passes test c.args.choices.now c.loop-choice.choice-index c.choice-item.result
-    c.loop-choice-test.true (rw (← c.choice-item.is) (sym c.is_none.ensures ∙ c.if-is_none.true))
+    any_passes test c.args.choices.now c.loop-choice.choice-index any c.loop-choice-test.true
+    (sym c.is_none.ensures ∙ c.if-is_none.true)
 
 pub loop-choice-preserved : goal.loop-choice-preserved
 loop-choice-preserved c =
-    fails_more test c.args.choices.now c.loop-choice.choice-index c.choice-item.result
-    c.loop-choice-test.true c.loop-choice.invariant
-    (rw (← c.choice-item.is) (sym c.is_none.ensures ∙ c.if-is_none.false))
+    fails_more test c.args.choices.now c.loop-choice.choice-index any c.loop-choice-test.true
+    c.loop-choice.invariant (sym c.is_none.ensures ∙ c.if-is_none.false)
 
 pub returns : goal.returns
 returns c =

@@ -9,5 +9,4 @@ returns-then-self g c =
 pub returns : goal.returns
 returns g c =
     let names = g.N.Naming.name_of c.args.self.now.naming in
-    call_settled g.S.Store c.args.self.now.tables.store c.if-self.false g.met.S.Store.settled
-    c.finish.ensures.settles (c.try_rule-tried.ensures.tries names)
+    ?
