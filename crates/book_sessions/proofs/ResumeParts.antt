@@ -10,12 +10,13 @@ use Rattle.table_model.specs.Words.{Tables, tables_of}
 use Rattle.named_books.specs.declared.repository.RepositoryFault.TheVariants.{Exists, Ledger}
 use Rattle.tree_tables.proofs.Looking.{looks_also, was_clean}
 use Rattle.tree_tables.proofs.TheBook.{book_absent, book_held}
-use Rattle.tree_tables.specs.Answers.{FindsBook, ListsCloses, ListsTariffs}
+use Rattle.tree_tables.specs.Answers.{FindsBook, ListsCloses, ListsCredits, ListsTariffs}
 use Rattle.tree_tables.specs.States.{State, HasCleanDisk, Survives}
 use Rattle.tree_tables.specs.Steps.{Looks, Sees}
-use Rattle.tree_tables.specs.Stored.{book_entry, close_entry, tariff_of}
+use Rattle.tree_tables.specs.Stored.{book_entry, close_entry, credit_entry, tariff_of}
 use Rattle.tree_tables.specs.declared.book_row.StoredBook.{StoredBook}
 use Rattle.tree_tables.specs.declared.closed_rows.Close.{Close}
+use Rattle.tree_tables.specs.declared.credit_rows.StoredCredit.{StoredCredit}
 use Rattle.tree_tables.specs.declared.tariff_rows.StoredTariff.{StoredTariff}
 use Rattle.book_restarts.specs.FileBooks.{RestsAt, StandsAt}
 use Rattle.book_sessions.proofs.Words.{∥∥₁_elim, Trees, IsClean, RepositoryFault, has_book}
@@ -28,31 +29,38 @@ use Rattle.book_sessions.specs.Unused.{SaysUnused, unused_by}
 use Rattle.sqlite_trees.specs.declared.error.StoreError.TheVariants as store
 use Rattle.book_model.specs.declared.fault.LedgerFault.TheVariants as ledger
 
--- what the row and the two lists say
+-- what the row and the three lists say
 pub says_unused : (tables : Tables) (found : Option StoredBook) (book : StoredBook)
-    (tariffs : List StoredTariff) (closes : List Close) (unused : Bool) → found ≡ Some book
-    → FindsBook tables found → ListsTariffs tables tariffs → ListsCloses tables closes
-    → unused ≡ unused_by (length tariffs) (length closes) book.held book.adopted
+    (tariffs : List StoredTariff) (closes : List Close) (credits : List StoredCredit)
+    (unused : Bool) → found ≡ Some book → FindsBook tables found → ListsTariffs tables tariffs
+    → ListsCloses tables closes → ListsCredits tables credits
+    → unused ≡ unused_by (length tariffs) (length closes) (length credits) book.held book.adopted
     → SaysUnused tables (Some unused)
-says_unused tables found book tariffs closes unused is finds texts days says =
+says_unused tables found book tariffs closes credits unused is finds texts days sums says =
     let row : book_entry book ≡ tables.book =
     (let here = sym (ap (option_map book_entry) is) ∙ finds in cc) in
     let many = sym (length-map tariffs tariff_of) ∙ ap length texts in
     let ended = sym (length-map closes close_entry) ∙ ap length days in
-    ap Some (says ∙ (λ i. unused_by (many i) (ended i) (row i).held (row i).adopted))
+    let given = sym (length-map credits credit_entry) ∙ ap length sums in
+    ap Some (says ∙ (λ i. unused_by (many i) (ended i) (given i) (row i).held (row i).adopted))
 
--- three looks, one after another, tell it
-pub looks_unused : {A B : Type 0} {first one two last : State} {found : Option StoredBook}
-    {tariffs : A} {closes : B} {unused : Bool} {Texts : Tables → A → Type 0}
-    {Days : Tables → B → Type 0} → Looks (Ok found) first one FindsBook
-    → Looks (Ok tariffs) one two Texts → Looks (Ok closes) two last Days
+-- four looks, one after another, tell it
+pub looks_unused : {A B C : Type 0} {first one two three last : State}
+    {found : Option StoredBook} {tariffs : A} {closes : B} {credits : C} {unused : Bool}
+    {Texts : Tables → A → Type 0} {Days : Tables → B → Type 0} {Sums : Tables → C → Type 0}
+    → Looks (Ok found) first one FindsBook → Looks (Ok tariffs) one two Texts
+    → Looks (Ok closes) two three Days → Looks (Ok credits) three last Sums
     → ((tables : Tables) → FindsBook tables found → Texts tables tariffs → Days tables closes
-    → SaysUnused tables (Some unused))
+    → Sums tables credits → SaysUnused tables (Some unused))
     → Looks (Ok (Some unused)) first last SaysUnused
-looks_unused {found = found} {tariffs = tariffs} {Texts = Texts} book texts days says =
-    looks_also (looks_also {Both = λ tables (found : Option StoredBook). FindsBook tables found
-    × Texts tables tariffs} {third = found} book texts (λ tables finds lists. (finds, lists))) days
-    (λ tables known lists. says tables known.0 known.1 lists)
+looks_unused {found = found} {tariffs = tariffs} {closes = closes} {Texts = Texts} {Days = Days}
+    book texts days sums says =
+    let two = looks_also {Both = λ tables (found : Option StoredBook). FindsBook tables found
+    × Texts tables tariffs} {third = found} book texts (λ tables finds lists. (finds, lists)) in
+    let three = looks_also {Both = λ tables (found : Option StoredBook). (FindsBook tables found
+    × Texts tables tariffs) × Days tables closes} {third = found} two days
+    (λ tables known lists. (known, lists)) in
+    looks_also three sums (λ tables known lists. says tables known.0.0 known.0.1 known.1 lists)
 
 -- a store to which nothing was written leaves the trees that it had
 pub unwritten_stays : (old new : State)

@@ -1,13 +1,17 @@
 -- Books to which nothing was submitted are those of no history.
 use Rattle.std.proofs.Common.{◌≡◌, ◌∙◌, ℕ, ℤ, suc, true, List, [], ◌∷◌, ◌++◌, ◌||◌, Option, Some}
-use Rattle.std.proofs.Common.{Result, Ok, Err, length, ap, arith, refl, subst, sym, true≢false}
+use Rattle.std.proofs.Common.{Result, Ok, Err, Bool, false, map, length, ap, arith, refl, subst, sym, true≢false}
 use Rattle.std.proofs.Common.{unwrap_or, length-append, ◌&&◌, ◌==◌, IfOk, int_cmp, nat_cmp, eq-eqb}
 use Rattle.std.proofs.Common.{eqb-true}
 use Rattle.std.proofs.lemmas.List.Elements.{All-pop}
-use Rattle.book_model.proofs.Std.{entries, len-empty, len-entries, list_any}
+use Rattle.book_model.proofs.Std.{entries, len-empty, len-entries, length-map, list_any}
 use Rattle.book_model.proofs.Lemmas.{no_length, first_of, has_with, is, is_itself, second_of}
 use Rattle.book_model.specs.Words.{AcceptedTerms, Book, Choice, Event, Naming, Records}
 use Rattle.book_model.specs.Words.{PeriodClosed, RecordChosen, RecordKept, RulingGiven}
+use Rattle.book_model.specs.Words.{Credit, CreditGiven, IsAnswered, TariffReplaced, WorkWithheld}
+use Rattle.book_model.specs.Words.{is_effective, or_new}
+use Rattle.book_model.proofs.TestLemmas.{replace_passes}
+use Rattle.table_model.specs.TablesOf.{under_numbers}
 use Rattle.book_model.specs.Words.{SecondRuleAdopted, TariffAccepted, book_after, has, members}
 use Rattle.book_model.specs.Words.{new_book, open_by, IsChoiceOf}
 use Rattle.table_model.proofs.RulingsReading.{tariffs_kept}
@@ -31,25 +35,35 @@ closes_many : (number : ℕ) (days : List ℤ) → length (close_entries number 
 closes_many number [] = refl
 closes_many number (day ∷ days) = ap suc (closes_many (suc number) days)
 
--- what four tests say
-record AreNone (tariffs closes held adopted : ℕ) : Type 0 where
+-- and as many as credits
+credits_many : (number : ℕ) (credits : List Credit)
+    → length (under_numbers number credits) ≡ length credits
+credits_many number [] = refl
+credits_many number (credit ∷ credits) = ap suc (credits_many (suc number) credits)
+
+-- what five tests say
+record AreNone (tariffs closes credits held adopted : ℕ) : Type 0 where
   tariffs_none : tariffs ≡ 0
   closes_none : closes ≡ 0
+  credits_none : credits ≡ 0
   held_none : held ≡ 0
   never : adopted ≡ 0
 
-are_none : (tariffs closes held adopted : ℕ) → unused_by tariffs closes held adopted ≡ true
-    → AreNone tariffs closes held adopted
-are_none tariffs closes held adopted passed =
-    let three = first_of ((tariffs == 0) && (closes == 0) && (held == 0)) (adopted == 0) passed in
-    let two = first_of ((tariffs == 0) && (closes == 0)) (held == 0) three in
+are_none : (tariffs closes credits held adopted : ℕ)
+    → unused_by tariffs closes credits held adopted ≡ true
+    → AreNone tariffs closes credits held adopted
+are_none tariffs closes credits held adopted passed =
+    let unruled = (tariffs == 0) && (closes == 0) && (credits == 0) in
+    let four = first_of (unruled && (held == 0)) (adopted == 0) passed in
+    let three = first_of unruled (held == 0) four in
+    let two = first_of ((tariffs == 0) && (closes == 0)) (credits == 0) three in
     record {
       tariffs_none = eqb-true tariffs 0 (first_of (tariffs == 0) (closes == 0) two);
       closes_none = eqb-true closes 0 (second_of (tariffs == 0) (closes == 0) two);
-      held_none =
-          eqb-true held 0 (second_of ((tariffs == 0) && (closes == 0)) (held == 0) three);
-      never = eqb-true adopted 0
-          (second_of ((tariffs == 0) && (closes == 0) && (held == 0)) (adopted == 0) passed);
+      credits_none =
+          eqb-true credits 0 (second_of ((tariffs == 0) && (closes == 0)) (credits == 0) three);
+      held_none = eqb-true held 0 (second_of unruled (held == 0) four);
+      never = eqb-true adopted 0 (second_of (unruled && (held == 0)) (adopted == 0) passed);
     }
 
 -- where no record is held, this one is not
@@ -66,9 +80,10 @@ one_more xs x none = omega (arith, length-append xs (x ∷ []), none)
 module _ (naming : Naming) (book : Book) (whole : IsReadable naming book)
     (unused : are_unused (tables_of naming book) ≡ true) where
   none : AreNone (length (entries (tables_of naming book).tariffs))
-      (length (entries (tables_of naming book).closes)) (tables_of naming book).book.held
+      (length (entries (tables_of naming book).closes))
+      (length (entries (tables_of naming book).credits)) (tables_of naming book).book.held
       (tables_of naming book).book.adopted
-  none = are_none _ _ _ _ unused
+  none = are_none _ _ _ _ _ unused
 
   no_tariffs : length book.rulings.tariffs ≡ 0
   no_tariffs =
@@ -80,35 +95,67 @@ module _ (naming : Naming) (book : Book) (whole : IsReadable naming book)
       sym (closes_many 1 book.rulings.closes) ∙ sym (ap length (entries-numbers book.rulings.closes))
       ∙ none.closes_none
 
+  no_credits : length book.rulings.credits ≡ 0
+  no_credits =
+      sym (credits_many 1 book.rulings.credits)
+      ∙ sym (ap length (entries-numbers book.rulings.credits)) ∙ none.credits_none
+
+-- of no tariff none begins on a day
+none_found : (P : AcceptedTerms → Bool) (tariffs : List AcceptedTerms) → length tariffs ≡ 0
+    → list_any P tariffs ≡ true → ⊥
+none_found P tariffs none found =
+    true≢false (sym found ∙ ap (list_any P) (no_length tariffs none))
+
 -- so a history with an event is that of no such book
 used : (naming : Naming) (event : Event) (older : List Event)
-    → IsReadable naming (book_after (event ∷ older))
+    → IsAnswered naming event (book_after older) → IsReadable naming (book_after (event ∷ older))
     → are_unused (tables_of naming (book_after (event ∷ older))) ≡ true → ⊥
-used naming (RecordKept bytes) older whole unused =
+used naming (RecordKept bytes) older answered whole unused =
     let before = book_after older in
     not_held (book_after (RecordKept bytes ∷ older)).held bytes
     (none naming (book_after (RecordKept bytes ∷ older)) whole unused).held_none
     (has_with before.held bytes bytes ∙ ap (λ t. t || has before.held bytes) (is_itself bytes))
-used naming (PeriodClosed day) older whole unused =
+used naming (PeriodClosed day) older answered whole unused =
     one_more (book_after older).rulings.closes day
     (no_closes naming (book_after (PeriodClosed day ∷ older)) whole unused)
-used naming (RulingGiven (TariffAccepted text terms)) older whole unused =
+used naming (RulingGiven (TariffAccepted text terms)) older answered whole unused =
     one_more (book_after older).rulings.tariffs (record { text = text; terms = terms })
     (no_tariffs naming (book_after (RulingGiven (TariffAccepted text terms) ∷ older)) whole unused)
-used naming (RulingGiven (RecordChosen bytes)) older whole unused =
+used naming (RulingGiven (RecordChosen bytes)) older answered whole unused =
     let book = book_after (RulingGiven (RecordChosen bytes) ∷ older) in
     let before = (book_after older).rulings in
-    let choice : Choice = record { chosen = bytes; period = open_by before } in
+    let choice : Choice =
+    record { chosen = bytes; counts = true; period = open_by before } in
     let chosen = (All-pop (IsChoiceOf book.held) book.rulings.choices before.choices (Some choice)
     refl whole.sound.chosen).1 in
     not_held book.held bytes (none naming book whole unused).held_none chosen
-used naming (RulingGiven SecondRuleAdopted) older whole unused =
+used naming (RulingGiven SecondRuleAdopted) older answered whole unused =
     let book = book_after (RulingGiven SecondRuleAdopted ∷ older) in
     let before = (book_after older).rulings in
     let begun = whole.adopted
     (unwrap_or before.adopted (open_by before)) refl in
     let never = (none naming book whole unused).never in
     omega (arith, begun.numbered, never)
+used naming (RulingGiven (TariffReplaced text terms)) older answered whole unused =
+    let before = book_after older in
+    none_found (is_effective terms.effective) before.rulings.tariffs
+    (sym (length-map before.rulings.tariffs (or_new (record { text = Some text; terms = terms })))
+    ∙ no_tariffs naming (book_after (RulingGiven (TariffReplaced text terms) ∷ older)) whole unused)
+    (replace_passes before text terms answered).found
+used naming (RulingGiven (WorkWithheld bytes)) older answered whole unused =
+    let book = book_after (RulingGiven (WorkWithheld bytes) ∷ older) in
+    let before = (book_after older).rulings in
+    let choice : Choice =
+    record { chosen = bytes; counts = false; period = open_by before } in
+    let chosen = (All-pop (IsChoiceOf book.held) book.rulings.choices before.choices (Some choice)
+    refl whole.sound.chosen).1 in
+    not_held book.held bytes (none naming book whole unused).held_none chosen
+used naming (RulingGiven (CreditGiven centre amount reason)) older answered whole unused =
+    let before = (book_after older).rulings in
+    one_more before.credits
+    (record { centre = centre; amount = amount; reason = reason; period = open_by before })
+    (no_credits naming (book_after (RulingGiven (CreditGiven centre amount reason) ∷ older)) whole
+    unused)
 
 -- what files held that were continued is that of no history, where all went well
 pub none_resumed : {A F : Type 0} (names : Naming) (history : List Event) (first : Image)
@@ -120,17 +167,21 @@ none_resumed names history first (Err fault) held unused = tt
 none_resumed names [] first (Ok made) held unused = refl
 none_resumed names (event ∷ older) first (Ok made) held unused =
     let never : ⊥ = ∥∥₁_elim held.held (λ one other. absurd one) λ kept.
-    used names event older kept.1.readable (unused kept.0 kept.1) in
+    used names event older held.answered.0 kept.1.readable (unused kept.0 kept.1) in
     absurd never
 
 -- and to new books nothing was submitted
-none_by : (tariffs closes : ℕ) → tariffs ≡ 0 → closes ≡ 0 → unused_by tariffs closes 0 0 ≡ true
-none_by tariffs closes no_tariff no_close = λ i. eq-eqb tariffs 0 no_tariff i
-    && eq-eqb closes 0 no_close i && eq-eqb 0 0 refl i && eq-eqb 0 0 refl i
+none_by : (tariffs closes credits : ℕ) → tariffs ≡ 0 → closes ≡ 0 → credits ≡ 0
+    → unused_by tariffs closes credits 0 0 ≡ true
+none_by tariffs closes credits no_tariff no_close no_credit = λ i. eq-eqb tariffs 0 no_tariff i
+    && eq-eqb closes 0 no_close i && eq-eqb credits 0 no_credit i && eq-eqb 0 0 refl i
+    && eq-eqb 0 0 refl i
 
 pub new_unused : (naming : Naming) → are_unused (tables_of naming new_book) ≡ true
 new_unused naming =
     subst (λ (tables : Tables). are_unused tables ≡ true) (new_follow naming)
     (none_by (length (entries new_tables.tariffs)) (length (entries new_tables.closes))
+    (length (entries new_tables.credits))
     (sym (len-entries new_tables.tariffs) ∙ len-empty int_cmp (Option (List ℕ)))
-    (sym (len-entries new_tables.closes) ∙ len-empty nat_cmp ℤ))
+    (sym (len-entries new_tables.closes) ∙ len-empty nat_cmp ℤ)
+    (sym (len-entries new_tables.credits) ∙ len-empty nat_cmp Credit))

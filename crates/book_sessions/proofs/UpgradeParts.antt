@@ -12,6 +12,7 @@ use Rattle.sqlite_trees.specs.View.{IsClean, IsOrdered, IsShaped, OnlyWrites, Vi
 use Rattle.sqlite_trees.specs.declared.store.Shape.{Shape}
 use Rattle.book_model.specs.Words.{Book, Event, Naming, book_after}
 use Rattle.table_model.specs.Words.{IsReadable, Tables, tables_of}
+use Rattle.tree_rows.specs.Rows.{IsUnchanged}
 use Rattle.tree_tables.specs.Columns.{choice_columns}
 use Rattle.tree_tables.specs.Forms.{this_form}
 use Rattle.tree_tables.specs.Holds.{Holds, tree_count}
@@ -104,6 +105,18 @@ added_same form old new adds none tree small = elim (cases_lt tree (table_count 
   | inl there ↦ adds.trees tree there
   | inr past ↦ adds.empty tree past small ∙ sym (none tree past small)
 ]
+
+-- a store rests at a book after a look as before
+pub rests_still : {names : Naming} {book : Book} {old new : View} → IsUnchanged old new
+    → RestsAtOld names book old → RestsAtOld names book new
+rests_still {names} {book} same at = subst (RestsAtOld names book) (sym same) (record {
+  rest = record {
+    is_open = at.rest.is_open;
+    sound = at.rest.sound;
+    settled = at.rest.settled;
+  };
+  kept = at.kept;
+})
 
 -- All of a book was written in the form of this program, and is to be committed.
 pub record IsWritten (names : Naming) (old new : View) : Type 0 where

@@ -80,11 +80,11 @@ pub fn make<D: Disk>(
     }
 }
 
-/// Whether nothing was submitted to books with this row, and as many tariffs and closes.
-fn is_unused(book: &StoredBook, tariffs: usize, closes: usize) -> bool
-    ensures { result ≡ unused_by tariffs closes book.now.held book.now.adopted }
+/// Whether nothing was submitted to books with this row, and as many tariffs, closes and credits.
+fn is_unused(book: &StoredBook, tariffs: usize, closes: usize, credits: usize) -> bool
+    ensures { result ≡ unused_by tariffs closes credits book.now.held book.now.adopted }
 {
-    let is_unruled = (tariffs == 0) & (closes == 0);
+    let is_unruled = (tariffs == 0) & (closes == 0) & (credits == 0);
     let is_empty = book.held == 0;
     let is_first_rule = book.adopted == 0;
     is_unruled & is_empty & is_first_rule
@@ -102,7 +102,8 @@ fn are_new<S: Store>(alloc: Global, tables: &mut TreeTables<S>) -> Result<Option
     };
     let tariffs = tables.list_tariffs(alloc)?;
     let closes = tables.list_closes(alloc)?;
-    Ok(Some(is_unused(&book, tariffs.len(), closes.len())))
+    let credits = tables.list_credits(alloc)?;
+    Ok(Some(is_unused(&book, tariffs.len(), closes.len(), credits.len())))
 }
 
 /// The same of the books in a store, which is given back.

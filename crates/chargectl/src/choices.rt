@@ -73,8 +73,8 @@ pub(crate) fn choose_listed<S: Repository, F: Inputs, O: Writer + Drop>(
     withheld: bool,
     output: O,
 ) -> (Ended, O)
-    ensures { ChoosesListed tried withheld ((F.held inputs.now).holds file.now) book.now (S.shelf repository.old)
-        (S.shelf repository.new) (O.contents output) (O.contents result.1)
+    ensures { ChoosesListed tried withheld ((F.held inputs.now).holds file.now) book.now
+        (S.shelf repository.old) (S.shelf repository.new) (O.contents output) (O.contents result.1)
         (∥ HasFailed O.may_answer result.1 ∥₁) result.0 }
 {
     let answered = ask_listed(alloc, repository, inputs, book, file, tried, withheld);
@@ -91,8 +91,8 @@ fn ask_listed<S: Repository, F: Inputs>(
     tried: bool,
     withheld: bool,
 ) -> Result<ListAnswered, CommandFault>
-    ensures { ComesOfList tried withheld ((F.held inputs.now).holds file.now) book.now (S.shelf repository.old)
-        (S.shelf repository.new) result }
+    ensures { ComesOfList tried withheld ((F.held inputs.now).holds file.now) book.now
+        (S.shelf repository.old) (S.shelf repository.new) result }
 {
     repository.expect(book)?;
     let listed = read_list(alloc, inputs, file)?;

@@ -128,12 +128,13 @@ fn try_ruling<L: Ledger>(
     let is_far = is_far_asked(alloc, today, books, asked)?;
     let period = open_period(books)?;
     let ruling = named(alloc, asked)?;
-    let before = period_figures(alloc, books, ruling, period.number)?;
+    let tried = &ruling;
+    let before = period_figures(alloc, books, *tried, period.number)?;
     let answer = ask_without_reader(alloc, books, asked)?;
-    let after = period_figures(alloc, books, ruling, period.number)?;
+    let after = period_figures(alloc, books, *tried, period.number)?;
     shown(
         alloc,
-        ruling,
+        *tried,
         answer,
         period.number,
         &before,

@@ -22,7 +22,8 @@ use Rattle.office.specs.Choices.{named_outcome}
 choices_then : (withheld : Bool) (naming : Naming) (names : List (List ℕ)) (answers : List Ruled)
     (others : List (List ℕ)) (more : List Ruled) (refusal : Option LedgerFault)
     → Implies
-    (Then (ChoosesEach withheld naming names answers None) (ChoosesEach withheld naming others more refusal))
+    (Then (ChoosesEach withheld naming names answers None)
+    (ChoosesEach withheld naming others more refusal))
     (ChoosesEach withheld naming (names ++ others) (answers ++ more) refusal)
 choices_then withheld naming [] [] others more refusal was before events is both =
     nothing_then (ChoosesEach withheld naming others more refusal) was before events is both
@@ -30,7 +31,8 @@ choices_then withheld naming [] (ruled ∷ answers) others more refusal was befo
     absurd both.first
 choices_then withheld naming (name ∷ names) [] others more refusal was before events is both =
     absurd both.first
-choices_then withheld naming (name ∷ names) (ruled ∷ answers) others more refusal was before events is both =
+choices_then withheld naming (name ∷ names) (ruled ∷ answers) others more refusal was before
+    events is both =
     next_as (choices_then withheld naming names answers others more refusal) was before events is
     (last_two was before events is both)
 
@@ -42,39 +44,49 @@ none_chosen withheld naming told so was before events is none =
     subst (λ told. ChoosesEach withheld naming [] told None was before events is) (sym so) none
 
 -- one more choice was answered
-pub one_more_chosen : (withheld : Bool) (naming : Naming) (names all : List (List ℕ)) (answers told : List Ruled)
+pub one_more_chosen : (withheld : Bool) (naming : Naming) (names all : List (List ℕ))
+    (answers told : List Ruled)
     (name : List ℕ) (ruled : Ruled) → names ++ name ∷ [] ≡ all → told ≡ answers ++ ruled ∷ []
     → (was : Bool) (before : Book) (events : List Event) (is : Bool)
-    → Then (ChoosesEach withheld naming names answers None) (Chooses withheld naming name (Ok ruled)) was before events is
+    → Then (ChoosesEach withheld naming names answers None)
+    (Chooses withheld naming name (Ok ruled)) was before events is
     → ChoosesEach withheld naming all told None was before events is
-one_more_chosen withheld naming names all answers told name ruled more so was before events is both =
+one_more_chosen withheld naming names all answers told name ruled more so was before
+    events is both =
     subst (λ all. ChoosesEach withheld naming all told None was before events is) more
-    (subst (λ told. ChoosesEach withheld naming (names ++ name ∷ []) told None was before events is) (sym so)
+    (subst (λ told. ChoosesEach withheld naming (names ++ name ∷ []) told None was before events is)
+    (sym so)
     (choices_then withheld naming names answers (name ∷ []) (ruled ∷ []) None was before events is
     (next_as (nothing_more (Chooses withheld naming name (Ok ruled))) was before events is both)))
 
 -- the next one was refused
-pub refused_after : (withheld : Bool) (naming : Naming) (names all : List (List ℕ)) (answers : List Ruled)
+pub refused_after : (withheld : Bool) (naming : Naming) (names all : List (List ℕ))
+    (answers : List Ruled)
     (name : List ℕ) (more : List (List ℕ)) (refusal : LedgerFault) → names ++ name ∷ more ≡ all
     → (was : Bool) (before : Book) (events : List Event) (is : Bool)
-    → Then (ChoosesEach withheld naming names answers None) (Chooses withheld naming name (Err refusal)) was before events
+    → Then (ChoosesEach withheld naming names answers None)
+    (Chooses withheld naming name (Err refusal)) was before events
     is
     → ChoosesEach withheld naming all answers (Some refusal) was before events is
 refused_after withheld naming names all answers name more refusal whole was before events is both =
     subst (λ all. ChoosesEach withheld naming all answers (Some refusal) was before events is) whole
-    (subst (λ told. ChoosesEach withheld naming (names ++ name ∷ more) told (Some refusal) was before events is)
+    (subst (λ told. ChoosesEach withheld naming (names ++ name ∷ more) told (Some refusal) was
+    before events is)
     (append-nil answers)
-    (choices_then withheld naming names answers (name ∷ more) [] (Some refusal) was before events is both))
+    (choices_then withheld naming names answers (name ∷ more) [] (Some refusal) was before events is
+    both))
 
 -- a step of choices in a loop: one more was answered
-pub choice_kept : (withheld : Bool) (old now new : Seen) (names : List (List ℕ)) (answers told : List Ruled) (i : ℕ)
+pub choice_kept : (withheld : Bool) (old now new : Seen) (names : List (List ℕ))
+    (answers told : List Ruled) (i : ℕ)
     (d : List ℕ) (ruled : Ruled) → i < length names → told ≡ answers ++ ruled ∷ []
     → IsTransition old now (ChoosesEach withheld old.naming (take i names) answers None)
     → IsTransition now new (Chooses withheld now.naming (get_or names i d) (Ok ruled))
     → IsTransition old new (ChoosesEach withheld old.naming (take (i + 1) names) told None)
 choice_kept withheld old now new names answers told i d ruled small so before made =
     let name : List ℕ = get_or names i d in
-    let made_so = subst (λ naming. IsTransition now new (Chooses withheld naming name (Ok ruled))) before.naming
+    let made_so = subst (λ naming. IsTransition now new (Chooses withheld naming name (Ok ruled)))
+    before.naming
     made in
     let both = work_then old now new (ChoosesEach withheld old.naming (take i names) answers None)
     (Chooses withheld old.naming name (Ok ruled)) before made_so in
@@ -83,8 +95,8 @@ choice_kept withheld old now new names answers told i d ruled small so before ma
     (sym (take_more names i d small)) so) both
 
 -- the next one was refused
-pub choice_refused : (withheld : Bool) (old now new : Seen) (names : List (List ℕ)) (answers : List Ruled) (i : ℕ)
-    (d : List ℕ) (refusal : LedgerFault) → i < length names
+pub choice_refused : (withheld : Bool) (old now new : Seen) (names : List (List ℕ))
+    (answers : List Ruled) (i : ℕ) (d : List ℕ) (refusal : LedgerFault) → i < length names
     → IsTransition old now (ChoosesEach withheld old.naming (take i names) answers None)
     → IsTransition now new (Chooses withheld now.naming (get_or names i d) (Err refusal))
     → IsTransition old new (ChoosesEach withheld old.naming names answers (Some refusal))
@@ -95,7 +107,8 @@ choice_refused withheld old now new names answers i d refusal small before made 
     sym (append_assoc (take i names) (name ∷ []) later)
     ∙ ap (λ front. front ++ later) (sym (take_more names i d small))
     ∙ take-append-drop (i + 1) names in
-    let made_so = subst (λ naming. IsTransition now new (Chooses withheld naming name (Err refusal)))
+    let made_so = subst (λ naming. IsTransition now new
+    (Chooses withheld naming name (Err refusal)))
     before.naming made in
     let both = work_then old now new (ChoosesEach withheld old.naming (take i names) answers None)
     (Chooses withheld old.naming name (Err refusal)) before made_so in
@@ -103,27 +116,32 @@ choice_refused withheld old now new names answers i d refusal small before made 
     (refused_after withheld old.naming (take i names) names answers name later refusal whole) both
 
 -- choices make only events that the books answered
-pub choices_answered : (withheld : Bool) (naming : Naming) (names : List (List ℕ)) (answers : List Ruled)
-    (refusal : Option LedgerFault) → MakesAnswered naming (ChoosesEach withheld naming names answers refusal)
+pub choices_answered : (withheld : Bool) (naming : Naming) (names : List (List ℕ))
+    (answers : List Ruled) (refusal : Option LedgerFault)
+    → MakesAnswered naming (ChoosesEach withheld naming names answers refusal)
 choices_answered withheld naming [] [] None = none_answered naming
 choices_answered withheld naming [] [] (Some refusal) = λ book was events is never. absurd never
-choices_answered withheld naming [] (ruled ∷ answers) refusal = λ book was events is never. absurd never
+choices_answered withheld naming [] (ruled ∷ answers) refusal =
+    λ book was events is never. absurd never
 choices_answered withheld naming (name ∷ names) [] None = λ book was events is never. absurd never
 choices_answered withheld naming (name ∷ names) [] (Some refusal) =
     ruling_answered naming (λ ruled. ruled) (choice_asked withheld name) (Err refusal)
 choices_answered withheld naming (name ∷ names) (ruled ∷ answers) refusal =
-    then_answered naming (Chooses withheld naming name (Ok ruled)) (ChoosesEach withheld naming names answers refusal)
+    then_answered naming (Chooses withheld naming name (Ok ruled))
+    (ChoosesEach withheld naming names answers refusal)
     (ruling_answered naming (λ ruled. ruled) (choice_asked withheld name) (Ok ruled))
     (choices_answered withheld naming names answers refusal)
 
 -- a refusal of open books is the one that the definitions say, unless memory or the store hindered it
-refusal_done : (withheld : Bool) (naming : Naming) (name : List ℕ) (refusal : LedgerFault) (book : Book)
-    (events : List Event) (is : Bool) → Chooses withheld naming name (Err refusal) false book events is
+refusal_done : (withheld : Bool) (naming : Naming) (name : List ℕ) (refusal : LedgerFault)
+    (book : Book) (events : List Event) (is : Bool)
+    → Chooses withheld naming name (Err refusal) false book events is
     → are_hindered (Some refusal) ≡ false
     → ((named_outcome withheld naming name book).answer ≡ Err refusal) × (events ≡ [])
 refusal_done withheld naming name Memory book events is called free = cc free
 refusal_done withheld naming name Store book events is called free = cc free
-refusal_done withheld naming name Reopen book events is called free = let no = called.reopens.reopen in cc no
+refusal_done withheld naming name Reopen book events is called free =
+    let no = called.reopens.reopen in cc no
 refusal_done withheld naming name refusal book events is called free = called.makes
 
 -- what is said of choices by the answer to the first
@@ -132,13 +150,15 @@ choices_of : (outcome : Outcome Ruled) (book : Book) (later : Book → ChoicesOu
     → choices_after outcome book later
     ≡ choices_by told (listed outcome.event) (later (after_all (listed outcome.event) book))
 choices_of outcome book later told is =
-    ap (λ told. choices_by told (listed outcome.event) (later (after_all (listed outcome.event) book)))
-    is
+    ap (λ told. choices_by told (listed outcome.event)
+    (later (after_all (listed outcome.event) book))) is
 
 -- choices of open books came to what the definitions say, unless memory or the store hindered one
-pub choices_done : (withheld : Bool) (naming : Naming) (names : List (List ℕ)) (answers : List Ruled)
-    (refusal : Option LedgerFault) (book : Book) (events : List Event) (is : Bool)
-    → ChoosesEach withheld naming names answers refusal false book events is → are_hindered refusal ≡ false
+pub choices_done : (withheld : Bool) (naming : Naming) (names : List (List ℕ))
+    (answers : List Ruled) (refusal : Option LedgerFault) (book : Book) (events : List Event)
+    (is : Bool)
+    → ChoosesEach withheld naming names answers refusal false book events is
+    → are_hindered refusal ≡ false
     → choices_outcome withheld naming names book
     ≡ record { answers = answers; refusal = refusal; events = events }
 choices_done withheld naming [] [] None book events is made free =
@@ -148,7 +168,8 @@ choices_done withheld naming [] (ruled ∷ answers) refusal book events is made 
 choices_done withheld naming (name ∷ names) [] None book events is made free = absurd made
 choices_done withheld naming (name ∷ names) [] (Some refusal) book events is made free =
     let done = refusal_done withheld naming name refusal book events is made free in
-    choices_of (named_outcome withheld naming name book) book (choices_outcome withheld naming names) (Err refusal) done.0
+    choices_of (named_outcome withheld naming name book) book
+    (choices_outcome withheld naming names) (Err refusal) done.0
     ∙ ap (λ events. record { answers = []; refusal = Some refusal; events = events }) (sym done.1)
 choices_done withheld naming (name ∷ names) (ruled ∷ answers) refusal book events is made free =
     let outcome = named_outcome withheld naming name book in
@@ -157,8 +178,10 @@ choices_done withheld naming (name ∷ names) (ruled ∷ answers) refusal book e
     let middle : Book = after_all (listed outcome.event) book in
     let early : after_all made.early book ≡ middle =
     ap (λ events. after_all events book) one.makes.1 in
-    let next = subst (λ book. ChoosesEach withheld naming names answers refusal false book made.late is) early
-    (subst (λ was. ChoosesEach withheld naming names answers refusal was (after_all made.early book) made.late is)
+    let next = subst (λ book. ChoosesEach withheld naming names answers refusal false book made.late
+    is) early
+    (subst (λ was. ChoosesEach withheld naming names answers refusal was (after_all made.early book)
+    made.late is)
     still made.next) in
     let rest = choices_done withheld naming names answers refusal middle made.late is next free in
     choices_of outcome book (choices_outcome withheld naming names) (Ok ruled) one.makes.0

@@ -14,6 +14,7 @@ mod ManyLemmas
 mod SumLemmas
 mod ServedWork
 mod OneCall
+mod RuledCalls
 mod WithheldStages
 mod LastNumbers
 mod TariffTries

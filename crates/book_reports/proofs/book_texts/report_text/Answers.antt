@@ -1,4 +1,5 @@
-use Rattle.std.proofs.Common.{refl, rules}
+use Rattle.std.proofs.Common.{FitsSigned, refl, rules, w32}
+use Rattle.book_model.proofs.Std.{to_z-of_z}
 use Rattle.report_texts.specs.DisputeLists.{dispute_list_text}
 use Rattle.report_texts.specs.DisputeTables.{dispute_table}
 use Rattle.report_texts.specs.PeriodLists.{period_list_text}
@@ -30,7 +31,10 @@ returns-in-Record g c =
 
 -- so is the text of a tariff that was replaced
 pub returns-in-ReplacedText : goal.returns-in-ReplacedText
-returns-in-ReplacedText g c = rw c.in-ReplacedText.is c.replaced_text.ensures
+returns-in-ReplacedText g c =
+    let day = c.in-ReplacedText.day in
+    let fits : FitsSigned w32 day = search rules in
+    rw c.in-ReplacedText.is (rw (to_z-of_z w32 day fits) at c.replaced_text.ensures)
 
 -- so is a bill
 pub returns-in-Bill : goal.returns-in-Bill

@@ -13,10 +13,10 @@ returns-in_err-credits g c =
 -- there are as many as were gathered
 pub returns : goal.returns
 returns g c =
-    let credits = c.in_ok-credits.credits.items in
+    let credits = c.in_ok-credits.credits in
+    let count = c.len.ensures ∙ credits.ok.0 ∙ sym (length-map credits.items credit_shown) in
     read_as (λ book. refl) (λ book. refl) (record { reopen = refl; store = refl })
     (λ book said.
     let are = sym (credits_are c.args.period None book.rulings) ∙ same_value said in
-    ap (λ (all : List Credit). Ok (length all)) are
-    ∙ ap Ok (length-map credits credit_shown ∙ sym c.len.ensures))
+    ap (λ (all : List Credit). Ok (length all)) are ∙ ap Ok (sym count))
     c.in_ok-credits.ensures

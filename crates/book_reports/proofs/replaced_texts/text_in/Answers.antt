@@ -7,5 +7,9 @@ returns-in-Replaced c =
     let day = c.in-Replaced.day in
     let fits : FitsSigned w32 day = search rules in
     rw c.in-Replaced.is
-    (rw (c.is_that-is_it.ensures, to_z-of_z w32 day fits, c.as_str.ensures.value,
-    c.as_str-in-Replaced.ensures.value) at c.text_if.ensures)
+    (rw (
+      c.is_that-is_it.ensures,
+      to_z-of_z w32 day fits,
+      c.as_str.ensures.value,
+      c.as_str-in-Replaced.ensures.value,
+    ) at c.text_if.ensures)

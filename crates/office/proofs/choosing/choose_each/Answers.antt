@@ -8,9 +8,10 @@ pub loop-name-init : goal.loop-name-init
 loop-name-init g c =
     let seen = g.L.Ledger.seen c.args.ledger.now in
     record {
-      chosen = work_as seen seen _ (ChoosesEach c.args.withheld seen.naming [] c.in_ok-answers.answers.items
-          None)
-          (none_chosen c.args.withheld seen.naming c.in_ok-answers.answers.items c.in_ok-answers.ensures.items)
+      chosen = work_as seen seen _ (ChoosesEach c.args.withheld seen.naming []
+          c.in_ok-answers.answers.items None)
+          (none_chosen c.args.withheld seen.naming c.in_ok-answers.answers.items
+          c.in_ok-answers.ensures.items)
           (no_work seen);
       count = search rules;
       room = search rules;
@@ -19,7 +20,8 @@ loop-name-init g c =
 pub loop-name-preserved : goal.loop-name-preserved
 loop-name-preserved g c =
     record {
-      chosen = choice_kept c.args.withheld (g.L.Ledger.seen c.args.ledger.now) (g.L.Ledger.seen c.loop-name.ledger)
+      chosen = choice_kept c.args.withheld (g.L.Ledger.seen c.args.ledger.now)
+          (g.L.Ledger.seen c.loop-name.ledger)
           (g.L.Ledger.seen c.choose_named.new.ledger) c.args.names.now c.loop-name.answers.items
           c.push.new.self.items c.loop-name.name-index _ c.in-Ok.ruled c.loop-name-test.true
           c.in_ok-push-in-Ok.ensures.items c.loop-name.invariant.chosen c.in-Ok.ensures.work;
@@ -30,7 +32,8 @@ loop-name-preserved g c =
 pub returns-in-Err : goal.returns-in-Err
 returns-in-Err g c =
     record {
-      chosen = choice_refused c.args.withheld (g.L.Ledger.seen c.args.ledger.now) (g.L.Ledger.seen c.loop-name.ledger)
+      chosen = choice_refused c.args.withheld (g.L.Ledger.seen c.args.ledger.now)
+          (g.L.Ledger.seen c.loop-name.ledger)
           (g.L.Ledger.seen c.choose_named.new.ledger) c.args.names.now c.loop-name.answers.items
           c.loop-name.name-index _ c.in-Err.fault c.loop-name-test.true c.loop-name.invariant.chosen
           c.in-Err.ensures.work;

@@ -37,8 +37,9 @@ loop-rest-smaller g c = omega (arith, c.in-Ok.ensures.some, c.split_at.ensures.b
 pub loop-rest-preserved : goal.loop-rest-preserved
 loop-rest-preserved g c =
     passes (g.L.Ledger.seen c.withhold_many.new.self) c.loop-rest.invariant c.in-Ok.told
-    c.with_taken-counts.result c.split_at.result.1.now c.in-Ok.ensures.takes c.with_taken-counts.ensures.value
-    c.with_taken-counts.ensures.answered c.in-Ok.ensures.few c.split_at.ensures.back
+    c.with_taken-counts.result c.split_at.result.1.now c.in-Ok.ensures.takes
+    c.with_taken-counts.ensures.value c.with_taken-counts.ensures.answered c.in-Ok.ensures.few
+    c.split_at.ensures.back
 
 pub returns : goal.returns
 returns g c =
