@@ -11,6 +11,7 @@ mod details;
 mod effects;
 mod ledger;
 mod limits;
+mod line_periods;
 mod lines;
 mod listed_rulings;
 mod pricing;
@@ -37,6 +38,7 @@ pub use ledger::Ledger;
 pub use limits::{
     CREDIT_END, LAST_PERIOD, MAX_CHOICES, MAX_COST, MAX_CREDITS, MAX_HELD, MAX_REPLACED,
 };
+pub use line_periods::charged_before;
 pub use lines::{line_with, sort_lines};
 pub use listed_rulings::{ListedAt, RulingCounts};
 pub use pricing::{is_last_begun, price_in, reckon_in};

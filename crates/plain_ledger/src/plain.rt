@@ -157,6 +157,10 @@ impl<N: Naming + Drop> Ledger for PlainLedger<N> {
         self.lines(period)
     }
 
+    fn period_of_line(&mut self, number: u16, line: &Line) -> Result<Option<u16>, LedgerFault> {
+        self.line_period(number, line)
+    }
+
     fn next_detail(
         &mut self,
         period: u16,

@@ -58,7 +58,6 @@ pub use fields::{
 };
 pub use figures::{Figures, figures_of, record_count, record_count_from, record_count_under};
 pub use focus_tables::{FocusHead, focus_table};
-pub use life_lines::is_charge;
 pub use moments::push_time;
 pub use period_lists::period_list_text;
 pub use periods::{push_head, push_title};

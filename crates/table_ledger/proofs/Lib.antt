@@ -58,6 +58,7 @@ mod RulingReads
 mod TraceLemmas
 mod ChosenOrder
 mod TrailTries
+mod LinePeriodTries
 mod RecordTries
 mod GivenUp
 mod LooksRefused

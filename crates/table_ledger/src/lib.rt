@@ -21,6 +21,7 @@ mod effects;
 mod finish;
 mod given_credits;
 mod ledger;
+mod line_periods;
 mod listed_rulings;
 mod load;
 mod many;
