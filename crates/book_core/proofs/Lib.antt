@@ -19,3 +19,4 @@ pub mod KeyedRowLemmas
 pub mod ListLimits
 pub mod MemoryLemmas
 pub mod OpenAnswers
+pub mod LastCharges

@@ -10,7 +10,7 @@ ghost use Rattle.book_model.specs.Words.{ShowsDispute, dispute_outcome, what_if_
 ghost use Rattle.book_model.specs.Words.{ShowsDetail, ended_outcome, next_detail_outcome};
 ghost use Rattle.book_model.specs.Words.{IsTrail, note_given, trail_outcome, trail_shown};
 ghost use Rattle.book_model.specs.Words.{IsUsage, record_outcome};
-ghost use Rattle.book_model.specs.Words.{credit_given_outcome, credit_shown};
+ghost use Rattle.book_model.specs.Words.{credit_given_outcome, credit_shown, line_period_outcome};
 ghost use Rattle.book_model.specs.Words.{ShowsEntryDays, arrival_outcome, entry_outcome, entry_shown};
 ghost use Rattle.book_core.specs.Ledgers.{StopIsHarmless, Seen};
 ghost use Rattle.book_core.specs.Calls.{IsCall};
@@ -215,6 +215,14 @@ pub trait Ledger {
         ensures lines { IsCall (λ lines. lines.items) (seen self.old) (seen self.new) result
             (adjustments_outcome (seen self.old).naming period) }
         ensures shown { IfOk result (λ lines. AreLines lines.items) };
+
+    /// The period that an adjustment line of a period speaks of: where it adds its record, the one
+    /// that the record's day belongs to; where it takes a charge back, the one that had charged it.
+    /// `None` where no record of its name is held, or nothing was charged before. It takes few looks
+    /// where the record's trail takes many. Never refused.
+    fn period_of_line(&mut self, number: u16, line: &Line) -> Result<Option<u16>, LedgerFault>
+        ensures { IsCall (λ period. period) (seen self.old) (seen self.new) result
+            (line_period_outcome (seen self.old).naming number line.now) };
 
     /// The first of the details of a period that comes after one; `None` where there are no more.
     /// They are the records that the period counts, by day, centre, shift, time and name; where a

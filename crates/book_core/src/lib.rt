@@ -12,6 +12,7 @@ mod effects;
 mod endings;
 mod ledger;
 mod limits;
+mod line_periods;
 mod lines;
 mod listed_rulings;
 mod notes;
@@ -42,6 +43,7 @@ pub use ledger::Ledger;
 pub use limits::{
     CREDIT_END, LAST_PERIOD, MAX_CHOICES, MAX_COST, MAX_CREDITS, MAX_HELD, MAX_REPLACED,
 };
+pub use line_periods::charged_before;
 pub use lines::{line_with, sort_lines};
 pub use listed_rulings::{ListedAt, RulingCounts};
 pub use notes::{copied_if_noted, copied_note};

@@ -1,27 +1,27 @@
 -- The bills of closed periods stay.
 use Rattle.std.proofs.Common.{◌≡◌, ℕ, zero, suc, ◌<◌, List, [], ◌∷◌, length, refl, sym, ap, ◌∙◌}
-use Rattle.std.proofs.Common.{true, false, true≢false, Bool, ◌||◌, Option, Some, None, is_some}
-use Rattle.std.proofs.Common.{arith, All, ℤ, pos, if◌then◌else◌, filter_map, ok_or, option_and_then}
+use Rattle.std.proofs.Common.{true, false, Bool, ◌||◌, Option, Some, None, is_some}
+use Rattle.std.proofs.Common.{arith, All, ℤ, pos, if◌then◌else◌, filter_map, ok_or}
 use Rattle.std.proofs.Common.{flat_map, option_map, int_cmp, length-append}
 use Rattle.std.proofs.lemmas.List.Sorted.{All-permutation}
-use Rattle.book_model.proofs.Std.{IsStrictlySortedBy, cons_option, list_any, result_ok, All-append}
+use Rattle.book_model.proofs.Std.{IsStrictlySortedBy, cons_option, list_any, All-append}
 use Rattle.book_model.proofs.Std.{All-cons, All-filter, All-nil, IsPermutation-sym}
 use Rattle.book_model.proofs.Std.{slice_get-get_or}
 use Rattle.book_model.specs.declared.bill.HeldBack.{HeldBack}
-use Rattle.book_model.specs.declared.fault.LedgerFault.TheVariants.{NoSuchRecord}
-use Rattle.book_model.specs.Words.{day_of, ended_step_of, job_id_of, job_of, program_of, Priced}
+use Rattle.book_model.specs.Words.{ended_step_of, job_id_of, job_of, program_of, Priced}
 use Rattle.book_model.specs.Words.{Book, Event, IsSound, Naming, Period}
-use Rattle.book_model.specs.Words.{Records, Rulings, Terms, after_all, bill_of, bill_outcome}
+use Rattle.book_model.specs.Words.{Records, Rulings, after_all, bill_of, bill_outcome}
 use Rattle.book_model.specs.Words.{billed_line, billed_lines, billed_shifts, billed_tariff}
 use Rattle.book_model.specs.Words.{book_after}
-use Rattle.book_model.specs.Words.{charged_before, details_asked, disputes_in, has, held_back_in}
-use Rattle.book_model.specs.Words.{held_back_of, in_force, is_dated_after, jobs_of, last_close}
-use Rattle.book_model.specs.Words.{letterhead_among, life_of, lines_for, lines_of, members, name_of}
-use Rattle.book_model.specs.Words.{no_event, period_by_trail, period_of_line, period_on, price_by}
-use Rattle.book_model.specs.Words.{price_in, reckoning_by, record_named, same_bytes, steps_of}
-use Rattle.book_model.specs.Words.{trail_by, trail_of, work_rows, CreditGiven, PeriodClosed}
+use Rattle.book_model.specs.Words.{details_asked, disputes_in, has, held_back_in}
+use Rattle.book_model.specs.Words.{held_back_of, is_dated_after, jobs_of, last_close}
+use Rattle.book_model.specs.Words.{letterhead_among, lines_for, lines_of, members, name_of}
+use Rattle.book_model.specs.Words.{no_event, period_of_line}
+use Rattle.book_model.specs.Words.{price_in, record_named, same_bytes, steps_of}
+use Rattle.book_model.specs.Words.{work_rows, CreditGiven, PeriodClosed}
 use Rattle.book_model.specs.Words.{RulingGiven, credits_asked, credits_in, open_by}
 use Rattle.book_model.proofs.CreditLemmas.{credit_late}
+use Rattle.book_model.proofs.LinePeriodLemmas.{line_told, told}
 use Rattle.book_model.proofs.Lemmas.{line_by, line_of, map-agree, is, is_first}
 use Rattle.book_model.proofs.SamePriceLemmas.{same_lines}
 use Rattle.report_texts.specs.Centres.{lines_of_centre}
@@ -43,29 +43,11 @@ use Rattle.std.specs.FinMap as map
 module _ (naming : Naming) (book : Book) (sound : IsSound naming book) (number : ℕ) (line : Line)
     (bytes : List ℕ) (there : has book.held bytes ≡ true) (named : line.name ≡ name_of naming bytes)
   where
-    abbrev pub told : Option ℕ
-    told =
-        if line.plus then Some (period_on book.rulings.closes (day_of bytes))
-        else charged_before number (life_of book bytes)
-
-    by_terms : (terms : Option Terms)
-        → is_some (option_map (λ terms. price_by terms bytes) terms) ≡ true
-        → option_and_then (period_by_trail number line)
-        (result_ok (ok_or
-        (option_map (trail_by naming book bytes) (option_map (λ terms. reckoning_by terms bytes) terms))
-        NoSuchRecord))
-        ≡ told
-    by_terms None never = absurd (true≢false (sym never))
-    by_terms (Some terms) some = refl
-
-    pub period_told : period_of_line naming book number line ≡ told
+    pub period_told : period_of_line naming book number line ≡ told naming book number line bytes
     period_told =
-        let by : Option (List ℕ) → Option ℕ = λ found.
-        option_and_then (period_by_trail number line)
-        (result_ok (ok_or (option_and_then (trail_of naming book) found) NoSuchRecord)) in
-        ap (λ name. by (record_named naming book.held name)) named
-        ∙ ap by (named_itself naming book sound bytes there)
-        ∙ by_terms (in_force (day_of bytes) book.rulings.tariffs) (sound.priced bytes there)
+        line_told naming book number line bytes
+        (ap (record_named naming book.held) named ∙ named_itself naming book sound bytes there)
+        (sound.priced bytes there)
 
 -- what holds of a line of each record, with any price, holds of the lines
 module _ (naming : Naming) (rulings : Rulings) (P : Line → Type 0) (plus : Bool) where

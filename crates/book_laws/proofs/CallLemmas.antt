@@ -9,9 +9,9 @@ use Rattle.book_model.specs.Words.{accept_answer, Book, new_book, dispute_shown}
 use Rattle.book_model.specs.Words.{arrival_outcome, entry_outcome, entry_shown}
 use Rattle.book_model.specs.Words.{book_after, Outcome, accept_outcome, charges_outcome}
 use Rattle.book_model.specs.Words.{adjustments_outcome, disputes_outcome, periods_outcome, Naming}
-use Rattle.book_model.specs.Words.{dispute_outcome, ended_outcome, next_detail_outcome}
-use Rattle.book_model.specs.Words.{credit_given_outcome, credit_shown, record_outcome}
-use Rattle.book_model.specs.Words.{ruling_outcome}
+use Rattle.book_model.specs.Words.{dispute_outcome, ended_outcome, line_period_outcome}
+use Rattle.book_model.specs.Words.{next_detail_outcome, credit_given_outcome, credit_shown}
+use Rattle.book_model.specs.Words.{record_outcome, ruling_outcome}
 use Rattle.book_model.specs.Words.{ruling_shown, trail_outcome, trail_shown, what_if_outcome}
 use Rattle.book_core.specs.Words.{Calls, listed, Seen, IsOpenAt, Accepts, TakesOf, first_of}
 use Rattle.book_core.specs.Words.{IsTransition, MakesAnswered}
@@ -32,7 +32,7 @@ use Rattle.book_laws.specs.CallLaws.{CallsFollowHistory}
 use Rattle.book_laws.specs.Calls.{Call, Request, RunRequests, AcceptRecord, ReadCharges}
 use Rattle.book_laws.specs.Calls.{AcceptRecords, ChooseEach, MakeRuling, HttpDetails, HttpRequest}
 use Rattle.book_laws.specs.Calls.{EndImport, ReadAdjustments, ReadArrival, ReadCredit, ReadEntry}
-use Rattle.book_laws.specs.Calls.{WithholdEach}
+use Rattle.book_laws.specs.Calls.{ReadLinePeriod, WithholdEach}
 use Rattle.book_laws.specs.Calls.{WithholdWorks}
 use Rattle.book_laws.specs.Calls.{ReadDisputes, ReadPeriods, ReadChargesUnder, ReadDetail}
 use Rattle.book_laws.specs.Calls.{ReadDispute, ReadRecord, ReadRuling, ReadTrail, Step, AreDone}
@@ -105,6 +105,9 @@ call_answered naming (ReadChargesUnder period terms answer) =
     (λ book. refl)
 call_answered naming (ReadAdjustments period answer) =
     readings_answered naming (λ lines. lines.items) (adjustments_outcome naming period) answer
+    (λ book. refl)
+call_answered naming (ReadLinePeriod number line answer) =
+    readings_answered naming (λ period. period) (line_period_outcome naming number line) answer
     (λ book. refl)
 call_answered naming (ReadDetail period centre last answer) =
     readings_answered naming (λ found. found) (next_detail_outcome naming period centre last) answer

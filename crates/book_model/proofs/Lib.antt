@@ -49,5 +49,6 @@ pub mod DetailOrder
 pub mod DetailLemmas
 pub mod CountedDays
 pub mod KnownCentreLemmas
+pub mod LinePeriodLemmas
 pub mod Std
 pub mod Lemmas

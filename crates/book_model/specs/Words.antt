@@ -124,7 +124,8 @@ pub use Rattle.book_model.specs.Bills.{charged_before, disputes_for, first_day_o
 pub use Rattle.book_model.specs.Bills.{held_back_in, held_back_of, in_force_from, is_paid_by}
 pub use Rattle.book_model.specs.Bills.{is_step, jobs_of, least_for, letterhead_among, letterhead_by}
 pub use Rattle.book_model.specs.Bills.{credit_shown, credits_asked, credits_in, line_alone}
-pub use Rattle.book_model.specs.Bills.{period_by_trail, period_of_line, steps_of, tariff_by}
+pub use Rattle.book_model.specs.Bills.{line_period_outcome, period_by_trail, period_of_line}
+pub use Rattle.book_model.specs.Bills.{steps_of, tariff_by}
 pub use Rattle.book_model.specs.Bills.{tariffs_from, tariffs_in, tariffs_through, work_rows}
 pub use Rattle.book_model.specs.KnownCentres.{begun_in, is_centre, names_centre, of_centre}
 pub use Rattle.book_model.specs.KnownCentres.{text_names}

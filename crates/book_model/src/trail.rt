@@ -1,3 +1,6 @@
+ghost use Rattle.std.specs.Prelude.{◌≡◌};
+ghost use Rattle.book_model.specs.Lives as lives;
+
 use crate::dispute::Variant;
 use tariff_rules::Reckoning;
 
@@ -10,6 +13,18 @@ pub enum Deed {
     Added,
     /// It takes an earlier charge back, by a minus line.
     Reversed,
+}
+
+impl Deed {
+    /// The record is charged by it; else a charge is reversed.
+    pub fn is_charge(self) -> bool
+        ensures { result ≡ lives.is_charge self }
+    {
+        match self {
+            Deed::Charged | Deed::Added => true,
+            Deed::Reversed => false,
+        }
+    }
 }
 
 /// One of these, and the number of the period.

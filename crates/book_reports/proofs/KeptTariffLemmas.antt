@@ -13,12 +13,12 @@ use Rattle.book_model.specs.declared.bill.BilledShift.{BilledShift}
 use Rattle.book_model.specs.Words.{in_force_from, letterhead_by, letterhead_in, letterhead_shown}
 use Rattle.book_model.specs.Words.{no_letterhead, tariff_by, tariffs_from, tariffs_through}
 use Rattle.book_model.specs.Words.{terms_in}
+use Rattle.book_core.proofs.LastCharges.{last_push}
 use Rattle.book_reports.specs.declared.bill_tariffs.KeptTariffs.{KeptTariffs}
 use Rattle.book_reports.specs.declared.period_days.PeriodDays.{PeriodDays}
 use Rattle.book_reports.proofs.Words.{BilledTariff, LedgerFault, HasKept, kept_of, left_by}
 use Rattle.book_reports.proofs.Words.{tariffs_billed, tariffs_shown}
 use Rattle.book_reports.specs.BillTariffs.{has_begun_after}
-use Rattle.book_reports.proofs.BillLineLemmas.{last_push}
 
 -- ---- one more tariff
 

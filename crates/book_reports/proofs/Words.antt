@@ -15,7 +15,6 @@ pub use Rattle.book_model.specs.declared.fault.LedgerFault.TheVariants.{Memory, 
 pub use Rattle.book_model.specs.declared.fault.LedgerFault.TheVariants.{NoSuchRecord}
 pub use Rattle.book_model.specs.declared.line.Line.{Line}
 pub use Rattle.book_model.specs.declared.row.ChargeRow.{ChargeRow}
-pub use Rattle.book_model.specs.declared.trail.Trail.{Trail}
 pub use Rattle.coverage_texts.proofs.CoverageLemmas.{ends_early}
 pub use Rattle.report_texts.specs.Centres.{lines_of_centre}
 pub use Rattle.coverage_texts.specs.Coverage.{days_between}
@@ -43,7 +42,7 @@ pub use Rattle.book_lists.specs.TariffsInTurn.{tariff_shown}
 pub use Rattle.book_lists.specs.Writing.{WritesTexts}
 pub use Rattle.book_lists.specs.WrittenLists.{list_answer, list_text, parts_from}
 pub use Rattle.book_lists.specs.declared.fault.ReportFault.{ReportFault}
-pub use Rattle.book_reports.specs.BillLines.{billed_outcome, is_unheld}
+pub use Rattle.book_reports.specs.BillLines.{billed_outcome}
 pub use Rattle.book_reports.specs.BillTariffs.{HasKept, kept_of, left_by, tariffs_billed}
 pub use Rattle.book_reports.specs.BillTariffs.{tariffs_outcome, tariffs_shown}
 pub use Rattle.book_reports.specs.BillWork.{work_outcome, work_seen, work_shown}

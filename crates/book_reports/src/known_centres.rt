@@ -1,6 +1,6 @@
 //! Which centres are there in a period: those that a tariff has a rule for which begins no later
 //! than the period's last day, and that of the records that no rule applies to. Tariffs are read
-//! one at a time.
+//! one at a time, and none is parsed after one that has such a rule.
 
 ghost use Rattle.std.specs.Prelude.{◌≡◌, ◌||◌, IfErr, IfOk, Some};
 ghost use Rattle.std.specs.Option.{ForSome};
@@ -49,13 +49,6 @@ fn is_named_by(
     text_names(alloc, centre, text)
 }
 
-/// One of these is so.
-fn is_either(one: bool, other: bool) -> bool
-    ensures { result ≡ (one || other) }
-{
-    one || other
-}
-
 /// Looks for a rule for the centre, in the tariffs that begin by the last of these days.
 #[derive(Drop)]
 struct CentreStep {
@@ -86,6 +79,10 @@ impl Step<ListedTariff> for CentreStep {
         named: &mut bool,
         tariff: &ListedTariff,
     ) -> Result<(), LedgerFault> {
+        // One that has a rule for it is enough: the texts after it are not parsed.
+        if *named {
+            return Ok(());
+        }
         let more = is_named_by(
             alloc,
             &self.centre,
@@ -93,7 +90,7 @@ impl Step<ListedTariff> for CentreStep {
             tariff.day,
             tariff.text.as_str(),
         )?;
-        *named = is_either(*named, more);
+        *named = more;
         Ok(())
     }
 }

@@ -1,18 +1,22 @@
--- The trail of a record of a plain ledger.
+-- The trail of a record of a plain ledger, and the period that a line of it speaks of.
 use Rattle.std.proofs.Common.{◌≡◌, ◌∙◌, ℕ, List, [], ◌∷◌, ◌++◌, map, refl, sym, ap, Bool, true}
 use Rattle.std.proofs.Common.{false, Option, None, Some, Err, ◌+◌, ◌<◌, length, take, get_or, cond}
-use Rattle.std.proofs.Common.{All, filter, ok_or, option_and_then, option_map}
+use Rattle.std.proofs.Common.{All, filter, if◌then◌else◌, is_some, ok_or, option_and_then, option_map}
+use Rattle.std.proofs.Common.{ℤ}
 use Rattle.std.specs.BTreeMap.{is_at}
 use Rattle.std.specs.Map.{keys_of}
 use Rattle.book_model.proofs.Std.{IsStrictlySortedBy, map-append, take_more, All-map, filter-append}
-use Rattle.book_model.proofs.Std.{exact_bytes, tells_apart, map-map}
+use Rattle.book_model.proofs.Std.{exact_bytes, tells_apart, map-map, result_ok}
 use Rattle.book_model.specs.declared.dispute.Variant.{Variant}
 use Rattle.book_model.specs.declared.fault.LedgerFault.TheVariants.{NoSuchRecord}
+use Rattle.book_model.specs.declared.line.Line.{Line}
 use Rattle.book_model.specs.Words.{Reckoning, Book, Choice, IsDay, Naming, TrailSeen, by_bytes}
 use Rattle.book_model.specs.Words.{choice_named, choices_among, day_of, identity_by, life_of}
 use Rattle.book_model.specs.Words.{period_on, reckoning_in, share_identity, trail_by}
-use Rattle.book_model.specs.Words.{Rulings, trail_of, trail_outcome}
+use Rattle.book_model.specs.Words.{Rulings, charged_before, period_by_trail, period_of_line}
+use Rattle.book_model.specs.Words.{price_in, trail_of, trail_outcome}
 use Rattle.book_model.proofs.Lemmas.{filter-map}
+use Rattle.book_model.proofs.LinePeriodLemmas.{line_told}
 use Rattle.plain_ledger.specs.declared.chosen.ChosenRecord.{ChosenRecord}
 use Rattle.plain_ledger.specs.declared.treatment.ClosedPeriod.{ClosedPeriod}
 use Rattle.plain_ledger.specs.declared.held.HeldRecord.{HeldRecord}
@@ -23,7 +27,7 @@ use Rattle.plain_ledger.specs.PlainBook.{book_with}
 use Rattle.plain_ledger.specs.Treatments.{Names, under_name}
 use Rattle.plain_ledger.proofs.ChosenLemmas.{found_holds, named-found, named-missing}
 use Rattle.plain_ledger.proofs.DisputeLemmas.{dispute_at-held}
-use Rattle.plain_ledger.proofs.HeldLemmas.{bytes_of}
+use Rattle.plain_ledger.proofs.HeldLemmas.{bytes_of, each_priced}
 use Rattle.plain_ledger.proofs.TariffLemmas.{each_dated}
 
 -- what is made of the elements that pass a test, with one element more
@@ -119,3 +123,39 @@ module _ {naming : Naming} (ruled : Rulings) (choices : List ChosenRecord)
         ap (λ one. ok_or (option_and_then (trail_of naming book) one) NoSuchRecord)
         (named-found kept rising name held found)
         ∙ (λ i. ok_or (option_map (λ reckoning. trail-held reckoning i) (sym is i)) NoSuchRecord)
+
+module _ {naming : Naming} (ruled : Rulings) (choices : List ChosenRecord)
+    {entries : List Entry} {total : ℕ}
+    (kept : AreBooked naming (with_choices choices ruled) entries total)
+    (rising : IsStrictlySortedBy by_bytes (keys_of entries)) (posted : Names)
+    (closed : List ClosedPeriod) (number : ℕ) (line : Line) where
+  abbrev its_book : Book
+  its_book = book_with (with_choices choices ruled) entries posted closed
+
+  -- a line of no record that is held speaks of no period
+  pub line-untold : under_name line.name entries ≡ None
+      → period_of_line naming its_book number line ≡ None
+  line-untold missing =
+      ap (λ found. option_and_then (period_by_trail number line)
+      (result_ok (ok_or (option_and_then (trail_of naming its_book) found) NoSuchRecord)))
+      (named-missing kept rising line.name missing)
+
+  -- that of one that is held speaks of a period by its day and its life
+  pub line-told : (held : HeldRecord) → under_name line.name entries ≡ Some held
+      → period_of_line naming its_book number line
+      ≡ (if line.plus then Some (period_on (with_choices choices ruled).closes held.priced.day)
+      else charged_before number (life_of its_book (record_of held)))
+  line-told held found =
+      let price : price_in (with_choices choices ruled) (record_of held) ≡ Some held.priced =
+      found_holds (λ (entry : Entry).
+      price_in (with_choices choices ruled) (bytes_of entry) ≡ Some entry.1.priced)
+      (is_at (by_bytes line.name)) line.name (tells_apart exact_bytes line.name) entries held
+      (each_priced kept) found in
+      let day : held.priced.day ≡ day_of (record_of held) =
+      found_holds (λ (entry : Entry). entry.1.priced.day ≡ day_of (bytes_of entry))
+      (is_at (by_bytes line.name)) line.name (tells_apart exact_bytes line.name) entries held
+      (each_dated kept) found in
+      line_told naming its_book number line (record_of held)
+      (named-found kept rising line.name held found) (ap is_some price)
+      ∙ ap (λ (day : ℤ). if line.plus then Some (period_on (with_choices choices ruled).closes day)
+      else charged_before number (life_of its_book (record_of held))) (sym day)

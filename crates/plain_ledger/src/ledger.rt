@@ -228,6 +228,10 @@ impl<N: Naming + Drop> Ledger for PlainLedger<N> {
         self.books.lines(period)
     }
 
+    fn period_of_line(&mut self, number: u16, line: &Line) -> Result<Option<u16>, LedgerFault> {
+        self.books.line_period(number, line)
+    }
+
     fn next_detail(
         &mut self,
         period: u16,

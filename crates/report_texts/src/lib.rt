@@ -62,7 +62,6 @@ pub use figures::{Figures, figures_of, record_count, record_count_from, record_c
 pub use focus_tables::{FocusHead, focus_table};
 pub use journal_lists::{push_entry_lines, push_journal_head};
 pub use journal_tables::{entry_row, journal_table_head};
-pub use life_lines::is_charge;
 pub use moments::push_time;
 pub use period_lists::period_list_text;
 pub use periods::{push_head, push_title};

@@ -33,16 +33,6 @@ fn push_turn(out: &mut Draft, turn: &Turn)
     out.push('\n');
 }
 
-/// The record is charged by it; else a charge is reversed.
-pub fn is_charge(deed: Deed) -> bool
-    ensures { result ≡ lives.is_charge deed }
-{
-    match deed {
-        Deed::Charged | Deed::Added => true,
-        Deed::Reversed => false,
-    }
-}
-
 /// How often the record is charged, and how often a charge is reversed.
 #[tactic(auto, using(std::proofs::lemmas::List::Sums::count_by_more_yes, std::proofs::lemmas::List::Sums::count_by_more_no))]
 fn counts(life: &[Turn]) -> (u64, u64)
@@ -51,7 +41,7 @@ fn counts(life: &[Turn]) -> (u64, u64)
     let mut charges = 0;
     let mut reversals = 0;
     for turn in life {
-        if is_charge(turn.deed) {
+        if turn.deed.is_charge() {
             charges += 1;
         } else {
             reversals += 1;

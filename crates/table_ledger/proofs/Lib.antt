@@ -69,6 +69,7 @@ mod ArrivalTries
 mod TraceLemmas
 mod ChosenOrder
 mod TrailTries
+mod LinePeriodTries
 mod RecordTries
 mod GivenUp
 mod LooksRefused

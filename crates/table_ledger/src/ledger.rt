@@ -19,6 +19,7 @@ use crate::disputes::{try_dispute, try_disputes};
 use crate::ends::try_end;
 use crate::finish::finish;
 use crate::given_credits::try_credit_given;
+use crate::line_periods::try_period_of_line;
 use crate::listed_entries::try_entry;
 use crate::listed_rulings::try_ruling;
 use crate::named_records::try_record;
@@ -214,6 +215,14 @@ impl<S: Store, N: Naming + Drop> Ledger for TableLedger<S, N> {
             return Err(LedgerFault::Reopen);
         }
         let tried = try_adjustments(&mut self.tables, &self.summary, self.alloc, period);
+        finish(&mut self.tables, &mut self.must_reopen, tried)
+    }
+
+    fn period_of_line(&mut self, number: u16, line: &Line) -> Result<Option<u16>, LedgerFault> {
+        if self.must_reopen {
+            return Err(LedgerFault::Reopen);
+        }
+        let tried = try_period_of_line(&mut self.tables, &self.summary, self.alloc, number, line);
         finish(&mut self.tables, &mut self.must_reopen, tried)
     }
 

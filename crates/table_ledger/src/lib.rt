@@ -25,6 +25,7 @@ mod finish;
 mod given_credits;
 mod groups;
 mod ledger;
+mod line_periods;
 mod listed_entries;
 mod listed_rulings;
 mod load;

@@ -94,7 +94,7 @@ fn put_first(turns: &mut Vec<Turn>, period: u16, counted: bool) -> Result<(), Al
 
 /// The life of a record: only the period that its day belongs to counts it, and only those after
 /// that have lines for it.
-fn look_for_life<S: Store>(
+pub(crate) fn look_for_life<S: Store>(
     tables: &mut TreeTables<S>,
     alloc: Global,
     summary: &Summary,

@@ -1,20 +1,24 @@
--- A record by its name, and its trail, are answered from the tables.
+-- A record by its name, its trail, and the period that a line of it speaks of, are answered from the
+-- tables.
 use Rattle.std.proofs.Common.{◌≡◌, ◌∙◌, ℕ, List, map, refl, sym, ap, true, true≢false, Bool, Option}
 use Rattle.std.proofs.Common.{None, Some, is_some, filter, ok_or, option_and_then, option_map}
-use Rattle.book_model.proofs.Std.{get, nat_list_eq_equiv, All-weaker, map-map}
+use Rattle.std.proofs.Common.{if◌then◌else◌}
+use Rattle.book_model.proofs.Std.{get, nat_list_eq_equiv, All-weaker, map-map, result_ok}
 use Rattle.book_model.specs.declared.fault.LedgerFault.TheVariants.{NoSuchRecord}
+use Rattle.book_model.specs.declared.line.Line.{Line}
 use Rattle.book_model.specs.Words.{Priced, Reckoning, Book, Choice, IsChoiceOf, IsSound, Naming}
 use Rattle.book_model.specs.Words.{choice_named, charged_of, choices_among, has, identity_by}
 use Rattle.book_model.specs.Words.{name_of, no_event, period_on, price_in, reckoning_in}
 use Rattle.book_model.specs.Words.{record_named, same_bytes, share_identity, trail_by, trail_of}
-use Rattle.book_model.specs.Words.{trail_outcome}
+use Rattle.book_model.specs.Words.{charged_before, period_by_trail, period_of_line, trail_outcome}
 use Rattle.book_model.proofs.Lemmas.{filter-agree, filter-map, named_held}
+use Rattle.book_model.proofs.LinePeriodLemmas.{line_told}
 use Rattle.book_core.proofs.NamedLemmas.{is_some-named, its_name}
 use Rattle.table_model.specs.Words.{ChoiceRow, RecordRow, Tables, choice_row, tables_of}
 use Rattle.table_model.specs.Words.{name_has_identity, IsReadable, choices_with, NamedRow}
 use Rattle.table_model.specs.Words.{row_record}
-use Rattle.table_model.specs.ListLaws.{RecordsFollow, TrailsFollow}
-use Rattle.table_model.specs.TrailRead.{row_choice, trail_at, trail_row}
+use Rattle.table_model.specs.ListLaws.{LinePeriodsFollow, RecordsFollow, TrailsFollow}
+use Rattle.table_model.specs.TrailRead.{line_period_row, row_choice, trail_at, trail_row}
 use Rattle.table_model.proofs.CostLemmas.{day-price}
 use Rattle.table_model.proofs.DueLemmas.{its_identity}
 use Rattle.table_model.proofs.LifeReading.{life_is}
@@ -118,6 +122,23 @@ module _ (naming : Naming) (book : Book) (whole : IsReadable naming book) where
           ∙ (λ i. no_event (ok_or (option_map (λ (reckoning : Reckoning). trail_is reckoning i)
           (reckoning_in book.rulings (framed i))) NoSuchRecord))
 
+  -- a line of a record that is held speaks of the period that its row tells
+  line_period_is : (number : ℕ) (line : Line) (bytes : List ℕ) (priced : Priced)
+      → has book.held bytes ≡ true → price_in book.rulings bytes ≡ Some priced
+      → line.name ≡ name_of naming bytes
+      → period_of_line naming book number line
+      ≡ line_period_row number line.plus book.rulings tables.lines
+      (entry_at naming book whole.sound bytes priced)
+  line_period_is number line bytes priced there price named =
+      let day = sym (day-price book.rulings bytes priced price) in
+      let life = life_is naming book whole bytes there priced price in
+      line_told naming book number line bytes
+      (ap (record_named naming book.held) named
+      ∙ named_itself naming book whole.sound bytes there)
+      (ap is_some price)
+      ∙ (λ i. if line.plus then Some (period_on book.rulings.closes (day i))
+      else charged_before number (life i))
+
 -- the law of records
 pub records_follow : RecordsFollow
 records_follow naming book name whole = by_row (get (tables_of naming book).records name) refl
@@ -149,3 +170,27 @@ trails_follow naming book name whole = by_row (get (tables_of naming book).recor
         ≡ no_event (trail_at book.rulings (tables_of naming book) entry.0 (Some entry.1)))
         (λ bytes priced there price. answer_is naming book whole bytes there priced price)
         name row some
+
+-- the law of the periods that lines speak of
+pub line_periods_follow : LinePeriodsFollow
+line_periods_follow naming book number line whole =
+    by_row (get (tables_of naming book).records line.name) refl
+  where
+    of_row : NamedRow → Option ℕ
+    of_row entry =
+        line_period_row number line.plus book.rulings (tables_of naming book).lines entry
+
+    by_row : (found : Option RecordRow) → get (tables_of naming book).records line.name ≡ found
+        → period_of_line naming book number line
+        ≡ option_and_then (λ (row : RecordRow). of_row (line.name, row)) found
+    by_row None none =
+        ap (λ found. option_and_then (period_by_trail number line)
+        (result_ok (ok_or (option_and_then (trail_of naming book) found) NoSuchRecord)))
+        (unnamed naming book whole line.name none)
+    by_row (Some row) some =
+        every_row naming book whole.sound
+        (λ (entry : NamedRow). line.name ≡ entry.0
+        → period_of_line naming book number line ≡ of_row entry)
+        (λ bytes priced there price named.
+        line_period_is naming book whole number line bytes priced there price named)
+        line.name row some refl

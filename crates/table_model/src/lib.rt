@@ -15,7 +15,7 @@ pub use laws::{
 };
 pub use readings::{
     accept_follows, adoptions_follow, book_follows, calls_read, calls_stay, choices_follow,
-    counted_follows, details_follow, disputes_follow, lists_follow, lists_show, numbers_fit,
-    records_follow, tables_determine, terms_follow, trails_follow, two_are_enough,
-    view_is_determined,
+    counted_follows, details_follow, disputes_follow, line_periods_follow, lists_follow,
+    lists_show, numbers_fit, records_follow, tables_determine, terms_follow, trails_follow,
+    two_are_enough, view_is_determined,
 };

@@ -6,7 +6,8 @@ ghost use Rattle.table_model.specs.AnswerLaws.{NumbersFit, TermsFollow};
 ghost use Rattle.table_model.specs.AnswerLaws.{TwoAreEnough, ViewIsDetermined};
 ghost use Rattle.table_model.specs.ReadingLaws.{BookFollows, CallsRead, CallsStay, TablesDetermine};
 ghost use Rattle.table_model.specs.ListLaws.{CountedFollows, DetailsFollow, DisputesFollow};
-ghost use Rattle.table_model.specs.ListLaws.{ListsFollow, ListsShow, RecordsFollow, TrailsFollow};
+ghost use Rattle.table_model.specs.ListLaws.{LinePeriodsFollow, ListsFollow, ListsShow};
+ghost use Rattle.table_model.specs.ListLaws.{RecordsFollow, TrailsFollow};
 
 /// New books are made by calls, and each call that is an event leaves such books.
 pub fn calls_stay()
@@ -93,6 +94,12 @@ pub fn records_follow()
 /// name one of these, and by the lines that it has itself.
 pub fn trails_follow()
     ensures { TrailsFollow }
+{}
+
+/// The period that a line speaks of is told by the row of its record, and by the lines that the
+/// record has itself.
+pub fn line_periods_follow()
+    ensures { LinePeriodsFollow }
 {}
 
 /// Signed 64-bit integers hold the numbers of the tables.

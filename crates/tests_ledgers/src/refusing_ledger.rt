@@ -152,6 +152,13 @@ impl<L: Ledger> Ledger for RefusingLedger<'_, L> {
         self.inner.adjustments(period)
     }
 
+    fn period_of_line(&mut self, number: u16, line: &Line) -> Result<Option<u16>, LedgerFault> {
+        if is_due(&mut self.calls_left) {
+            return Err(refusal(&mut *self.inner));
+        }
+        self.inner.period_of_line(number, line)
+    }
+
     fn next_detail(
         &mut self,
         period: u16,

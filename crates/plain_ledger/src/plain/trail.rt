@@ -1,17 +1,18 @@
-//! The trail of a record, as it is read of a plain ledger.
+//! The trail of a record, and the period that a line speaks of, as they are read of a plain ledger.
 
 use super::PlainBooks;
 use crate::choices::choices_with;
 use crate::held::HeldRecord;
 use crate::identities::members_with;
 use crate::life::{closed_turns, push_turn};
-use book_core::reckon_in;
-use book_model::{LedgerFault, Naming, Trail, Turn};
+use book_core::{charged_before, reckon_in};
+use book_model::{LedgerFault, Line, Naming, Trail, Turn};
 use std::alloc::{AllocError, Global};
 
 impl<N: Naming + Drop> PlainBooks<N> {
     ghost use Rattle.std.specs.Prelude.{◌≡◌, IfOk, Some};
-    ghost use Rattle.book_model.specs.Words.{Answers, IsTrail, life_of, trail_outcome, trail_shown};
+    ghost use Rattle.book_model.specs.Words.{Answers, IsTrail, life_of, line_period_outcome};
+    ghost use Rattle.book_model.specs.Words.{trail_outcome, trail_shown};
     ghost use Rattle.plain_ledger.specs.Plain.{record_of};
     ghost use Rattle.plain_ledger.specs.PlainBook.{book_in, naming_in};
     ghost use Rattle.plain_ledger.specs.Treatments.{under_name};
@@ -33,6 +34,21 @@ impl<N: Naming + Drop> PlainBooks<N> {
         let share = period_end.treatment(self.posted.contains(name), held);
         push_turn(&mut life, self.rulings.open_number(), share)?;
         Ok(life)
+    }
+
+    /// The period that a line of a period speaks of, by the record that is held under its name.
+    pub(crate) fn line_period(&self, number: u16, line: &Line) -> Result<Option<u16>, LedgerFault>
+        ensures { Answers (λ period. period) result (line_period_outcome
+            (N.name_of (naming_in self.now)) number line.now (book_in self.now)).answer }
+    {
+        let Some(held) = self.held.get(&line.name) else {
+            return Ok(None);
+        };
+        if line.plus {
+            return Ok(Some(self.rulings.period_of_day(&held.priced.day)));
+        }
+        let life = self.life(self.alloc, &line.name, held)?;
+        Ok(charged_before(number, &life))
     }
 
     /// The trail of the record that is held under a name.

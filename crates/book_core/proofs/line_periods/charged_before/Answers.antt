@@ -1,6 +1,6 @@
 use Rattle.std.proofs.Common.{◌∙◌}
-use Rattle.book_reports.proofs.BillLineLemmas.{charged_more}
-use Rattle.book_reports.proofs.bill_lines.charged_before.Goals as goal
+use Rattle.book_core.proofs.LastCharges.{charged_more}
+use Rattle.book_core.proofs.line_periods.charged_before.Goals as goal
 
 pub loop-turn-preserved : goal.loop-turn-preserved
 loop-turn-preserved c =
