@@ -29,7 +29,7 @@
 //!
 //! | A line | Is answered with |
 //! |---|---|
-//! | `rows`, `lines`, `marks`, `closed`, `choices`, `tariffs`, `detail`, `book`, `credits`, `replaced` | the rows of a table, in the order of their keys |
+//! | `rows`, `lines`, `marks`, `closed`, `choices`, `tariffs`, `detail`, `book`, `credits`, `replaced`, `entries` | the rows of a table, in the order of their keys |
 //! | `identities` | of each record its name and its identity |
 //! | `index NAME` | the rows of a tree that finds others, by its name in the file |
 //! | `set day_sum.COLUMN NUMBER` | how many charge rows were changed behind the books' back |
