@@ -166,13 +166,14 @@ module _ {X : Type 0} (key : X → List ℕ) where
   unfolding IsStrictlySortedBy
   walk_to item [] rest rise = found_first (key item) item rest (same_from (key item))
   walk_to item (first ∷ front) rest rise =
-      not_found (key item) first (front ++ item ∷ rest) (at_item front rise.0)
+      not_found (key item) first (front ++ item ∷ rest)
+      (at_item (λ other. by_bytes (key first) other ≡ Less) front rise.0)
       ∙ walk_to item front rest rise.1
     where
-      at_item : {P : List ℕ → Type 0} (front : List X)
+      at_item : (P : List ℕ → Type 0) (front : List X)
           → AllByRecursion P (map key (front ++ item ∷ rest)) → P (key item)
-      at_item [] all = all.0
-      at_item (other ∷ front) all = at_item front all.1
+      at_item P [] all = all.0
+      at_item P (other ∷ front) all = at_item P front all.1
 
 -- ---- a walk over disputes
 

@@ -29,7 +29,7 @@
 //!
 //! | A line | Is answered with |
 //! |---|---|
-//! | `rows`, `lines`, `marks`, `closed`, `choices`, `tariffs`, `detail`, `book`, `credits`, `replaced` | the rows of a table, in the order of their keys |
+//! | `rows`, `lines`, `marks`, `closed`, `choices`, `tariffs`, `detail`, `book`, `credits`, `replaced`, `entries` | the rows of a table, in the order of their keys |
 //! | `identities` | of each record its name and its identity |
 //! | `index NAME` | the rows of a tree that finds others, by its name in the file |
 //! | `set day_sum.COLUMN NUMBER` | how many charge rows were changed behind the books' back |
@@ -43,7 +43,9 @@
 //! | `refuses memory files` | the same, where the books were in two files |
 //!
 //! The body of `stops` and of `refuses` is a run of commands. The row continues with the books
-//! after it. Each word of an import names one record there.
+//! after it. Each word of an import names one record there. A run may also give the groups of an
+//! import one by one: `group first PARTS..` is the first that keeps a record, `group next PARTS..`
+//! one after it, and `ended` says that the import came to its end.
 #![tactic(auto)]
 
 mod changed_rows;

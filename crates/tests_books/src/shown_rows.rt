@@ -1,8 +1,8 @@
 //! The rows of the trees of books, a text line a row.
 
 use crate::tree_numbers::{
-    BOOK, CHARGES, CHOICE_NAMES, CHOICES, CLOSES, CREDITS, DETAILS, IDENTITIES, LINES, MARKS,
-    RECORDS, REPLACED, TARIFFS,
+    BOOK, CHARGES, CHOICE_NAMES, CHOICES, CLOSES, CREDITS, DETAILS, IDENTITIES, JOURNAL, LINES,
+    MARKS, RECORDS, REPLACED, TARIFFS,
 };
 use crate::trees::{Trees, WholeRow};
 use sqlite_trees::store::Store;
@@ -29,7 +29,7 @@ enum Showing {
 }
 
 /// The tables, by the verbs that show them.
-const TABLES: [(&str, (u32, Showing)); 10] = [
+const TABLES: [(&str, (u32, Showing)); 11] = [
     ("book", (BOOK, Showing::Whole)),
     ("closed", (CLOSES, Showing::Whole)),
     ("rows", (CHARGES, Showing::Whole)),
@@ -40,6 +40,7 @@ const TABLES: [(&str, (u32, Showing)); 10] = [
     ("detail", (DETAILS, Showing::Whole)),
     ("credits", (CREDITS, Showing::Whole)),
     ("replaced", (REPLACED, Showing::Replaced)),
+    ("entries", (JOURNAL, Showing::Whole)),
 ];
 
 /// The trees that find rows of a table, by their names in the file.
@@ -195,7 +196,7 @@ fn push_trees<S: Store + Drop>(
 
 /// Adds all rows of all trees but those of choices. False where one can't be read.
 pub(crate) fn push_all_rows<S: Store + Drop>(trees: &mut Trees<S>, out: &mut AnswerText) -> bool {
-    push_trees(trees, BOOK, MARKS, out) && push_trees(trees, DETAILS, REPLACED, out)
+    push_trees(trees, BOOK, MARKS, out) && push_trees(trees, DETAILS, JOURNAL, out)
 }
 
 /// Adds all rows of the trees of choices. False where one can't be read.

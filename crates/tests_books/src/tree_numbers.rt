@@ -37,5 +37,8 @@ pub(crate) const DETAILS: u32 = 10;
 /// That of the credits.
 pub(crate) const CREDITS: u32 = 11;
 
-/// That of the tariffs that were replaced, the last.
+/// That of the tariffs that were replaced.
 pub(crate) const REPLACED: u32 = 12;
+
+/// That of the journal, the last.
+pub(crate) const JOURNAL: u32 = 13;
