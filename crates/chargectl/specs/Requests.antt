@@ -129,6 +129,25 @@ Does files shelf (book.RuleNear ruling) name old new held holds Failed ended =
 Does files shelf asked name old new held holds Failed ended =
     AsksAndTells files asked name (shelf old) (shelf new) held holds Failed ended
 
+-- those that go over the records of a list, a dump or an import, one after the other
+abbrev pub GoesOverRecords : BookRequest → Type 0
+GoesOverRecords (book.ChooseListed withheld file) = Unit {0}
+GoesOverRecords (book.TryListed withheld file) = Unit {0}
+GoesOverRecords (book.WithholdDump file layout) = Unit {0}
+GoesOverRecords (book.WithholdImport number) = Unit {0}
+GoesOverRecords asked = ⊥
+
+-- and those that make no ruling and read no dump
+abbrev pub LooksIntoBooks : BookRequest → Type 0
+LooksIntoBooks (book.Report asked) = Unit {0}
+LooksIntoBooks (book.List asked) = Unit {0}
+LooksIntoBooks (book.WhatIf form period file) = Unit {0}
+LooksIntoBooks book.Upgrade = Unit {0}
+LooksIntoBooks (book.Audit quiet) = Unit {0}
+LooksIntoBooks (book.BackUp copy quiet) = Unit {0}
+LooksIntoBooks (book.Serve port requests) = Unit {0}
+LooksIntoBooks asked = ⊥
+
 -- a command that opens no books and reads no dump
 pub record EndsAt (Does : Result (Unit {0}) CommandFault → Type 0) (ended : Ended) : Type 0 where
   pub came : Result (Unit {0}) CommandFault

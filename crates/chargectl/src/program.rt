@@ -6,7 +6,7 @@ ghost use Rattle.program_output.specs.Messages.{AreSaid};
 ghost use Rattle.without_books.specs.Faults.{shelf_end};
 ghost use Rattle.chargectl.specs.Requests as requests;
 ghost use Rattle.chargectl.specs.Requests.{CommandsBy, Does, Helps, IsRefusedFor, Runs};
-ghost use Rattle.chargectl.specs.Requests.{UnlessUnnoted, WaitsAndDoes};
+ghost use Rattle.chargectl.specs.Requests.{GoesOverRecords, LooksIntoBooks, UnlessUnnoted, WaitsAndDoes};
 
 use crate::audits::{audit, back_up};
 use crate::book_commands::{import_dump, rule, tell};
@@ -156,98 +156,114 @@ fn wait_for(asked: &BookRequest<'_>, wait: u16) -> u16
 /// Does what is asked of books, with its note.
 fn run_on_books<S: AuditedRepository, F: Inputs, O: Writer + Drop>(
     rt: &HostRuntime,
-    repository: &mut S,
+    place: &mut S,
+    inputs: &F,
+    book: &str,
+    note: Option<Note>,
+    asked: BookRequest<'_>,
+    output: O,
+) -> (Ended, O)
+    ensures { Does (F.held inputs.now) S.shelf asked.entry book.now place.old place.new
+        (O.contents output) (O.contents result.1) (∥ HasFailed O.may_answer result.1 ∥₁) result.0 }
+{
+    match asked {
+        BookRequest::Init => (Ended::without_log(made(place.make(book))), output),
+        BookRequest::Rule(ruling) => { tell(rule(rt, place, inputs, book, ruling, note), output) }
+        BookRequest::RuleNear(ruling) => {
+            tell(rule_near(rt, place, inputs, book, ruling, note), output)
+        }
+        BookRequest::Import(dump) => {
+            tell(import_dump(rt, place, inputs, book, dump, note), output)
+        }
+        BookRequest::DryRun(ruling) => tell(dry_run(rt, place, inputs, book, ruling), output),
+        BookRequest::ChooseListed { .. }
+        | BookRequest::TryListed { .. }
+        | BookRequest::WithholdDump { .. }
+        | BookRequest::WithholdImport { .. } => {
+            go_over_records(rt, place, inputs, book, note, asked, output)
+        }
+        BookRequest::Report(_)
+        | BookRequest::List(_)
+        | BookRequest::WhatIf { .. }
+        | BookRequest::Upgrade
+        | BookRequest::Audit { .. }
+        | BookRequest::BackUp { .. }
+        | BookRequest::Serve { .. } => {
+            look_into_books(rt, place, inputs, book, note, asked, output)
+        }
+    }
+}
+
+/// Chooses records, or withholds their works, one after the other, with the note; or tries that, which
+/// needs none.
+fn go_over_records<S: AuditedRepository, F: Inputs, O: Writer + Drop>(
+    rt: &HostRuntime,
+    place: &mut S,
+    inputs: &F,
+    book: &str,
+    note: Option<Note>,
+    asked: BookRequest<'_>,
+    output: O,
+) -> (Ended, O)
+    requires { GoesOverRecords asked.entry }
+    ensures { Does (F.held inputs.now) S.shelf asked.entry book.now place.old place.new
+        (O.contents output) (O.contents result.1) (∥ HasFailed O.may_answer result.1 ∥₁) result.0 }
+{
+    let alloc = rt.alloc();
+    match asked {
+        BookRequest::ChooseListed { none, file } => choose_listed(
+            alloc, place, inputs, book, file, false, none, note, output,
+        ),
+        BookRequest::TryListed { none, file } => choose_listed(
+            alloc, place, inputs, book, file, true, none, None, output,
+        ),
+        BookRequest::WithholdDump { file, layout } => withhold_dump(
+            alloc, place, inputs, book, file, layout, note, output,
+        ),
+        BookRequest::WithholdImport { number } => {
+            withhold_by_entry(alloc, place, book, number, note, output)
+        }
+        _ => unreachable!(),
+    }
+}
+
+/// Does what makes no ruling and reads no dump, but for a service, whose clients may post with the note.
+fn look_into_books<S: AuditedRepository, F: Inputs, O: Writer + Drop>(
+    rt: &HostRuntime,
+    place: &mut S,
     inputs: &F,
     book: &str,
     note: Option<Note>,
     asked: BookRequest<'_>,
     mut output: O,
 ) -> (Ended, O)
-    ensures { Does (F.held inputs.now) S.shelf asked.entry book.now repository.old repository.new
+    requires { LooksIntoBooks asked.entry }
+    ensures { Does (F.held inputs.now) S.shelf asked.entry book.now place.old place.new
         (O.contents output) (O.contents result.1) (∥ HasFailed O.may_answer result.1 ∥₁) result.0 }
 {
     match asked {
-        BookRequest::Init => (Ended::without_log(made(repository.make(book))), output),
-        BookRequest::Rule(ruling) => {
-            tell(rule(rt, repository, inputs, book, ruling, note), output)
-        },
-        BookRequest::RuleNear(ruling) => {
-            tell(
-                rule_near(rt, repository, inputs, book, ruling, note),
-                output,
-            )
-        }
-        BookRequest::Import(dump) => {
-            tell(
-                import_dump(rt, repository, inputs, book, dump, note),
-                output,
-            )
-        }
-        BookRequest::ChooseListed { none, file } => choose_listed(
-            rt.alloc(),
-            repository,
-            inputs,
-            book,
-            file,
-            false,
-            none,
-            note,
-            output,
-        ),
-        BookRequest::TryListed { none, file } => choose_listed(
-            rt.alloc(),
-            repository,
-            inputs,
-            book,
-            file,
-            true,
-            none,
-            None,
-            output,
-        ),
-        BookRequest::WithholdDump { file, layout } => withhold_dump(
-            rt.alloc(),
-            repository,
-            inputs,
-            book,
-            file,
-            layout,
-            note,
-            output,
-        ),
-        BookRequest::WithholdImport { number } => withhold_by_entry(
-            rt.alloc(),
-            repository,
-            book,
-            number,
-            note,
-            output,
-        ),
-        BookRequest::DryRun(ruling) => tell(dry_run(rt, repository, inputs, book, ruling), output),
-        BookRequest::Report(words) => tell(report(rt, repository, book, words), output),
+        BookRequest::Report(words) => tell(report(rt, place, book, words), output),
         BookRequest::List(words) => {
-            let (listed, output) = list(rt, repository, book, words, output);
+            let (listed, output) = list(rt, place, book, words, output);
             (settled(listed), output)
         }
         BookRequest::WhatIf { form, period, file } => {
-            tell(
-                what_if(rt, repository, inputs, book, form, period, file),
-                output,
-            )
+            tell(what_if(rt, place, inputs, book, form, period, file), output)
         }
-        BookRequest::Upgrade => (settled(upgrade(repository, book, &mut output)), output),
+        BookRequest::Upgrade => (settled(upgrade(place, book, &mut output)), output),
         BookRequest::Audit { quiet } => {
-            let (audited, output) = audit(rt, repository, book, quiet, output);
+            let (audited, output) = audit(rt, place, book, quiet, output);
             (settled(audited), output)
         }
         BookRequest::BackUp { copy, quiet } => {
-            let (audited, output) = back_up(rt, repository, book, copy, quiet, output);
+            let (audited, output) = back_up(rt, place, book, copy, quiet, output);
             (settled(audited), output)
         }
         BookRequest::Serve { port, requests } => {
-            let (served, output) = serve(rt, repository, book, port, requests, note, output);
+            let (served, output) = serve(rt, place, book, port, requests, note, output);
             (settled(served), output)
         }
+        _ => unreachable!(),
     }
 }
 

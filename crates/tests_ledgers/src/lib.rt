@@ -94,6 +94,7 @@ mod each_call;
 mod exchange;
 mod failing_reads;
 mod faults;
+mod groups;
 mod http_lines;
 mod layouts;
 mod lines;

@@ -1,5 +1,5 @@
 use Rattle.std.proofs.Common.{rules}
-use Rattle.chargectl.proofs.program.run_on_books.Goals as goal
+use Rattle.chargectl.proofs.program.look_into_books.Goals as goal
 
 pub returns-in-Report : goal.returns-in-Report
 returns-in-Report g c =
