@@ -137,12 +137,12 @@ refused_work naming noted names fault some held was before events is called = ca
 
 -- ---- a change that takes one work, by a call of its own
 
-pub one_refused : {old new : Seen} {noted : Option Note} {name : List ℕ} {fault : LedgerFault}
-    (names : List (List ℕ)) (told : Result Withheld LedgerFault) → told ≡ Err fault → 0 < length names
+pub one_refused : {old new : Seen} {name : List ℕ} {fault : LedgerFault}
+    (noted : Option Note) (names : List (List ℕ)) (told : Result Withheld LedgerFault) → told ≡ Err fault → 0 < length names
     → is_not_held fault ≡ false → first_of names ≡ name
     → IsCall said old new (Err fault) (withhold_outcome old.naming noted name)
     → IsTransition old new (TakesWorks old.naming noted names told)
-one_refused {old} {new} {noted} {name} {fault} names told is some held first called =
+one_refused {old} {new} {name} {fault} noted names told is some held first called =
     subst (λ told. IsTransition old new (TakesWorks old.naming noted names told)) (sym is)
     (work_as old new (Calls said (withhold_outcome old.naming noted name) (Err fault))
     (TakesWorks old.naming noted names (Err fault))
@@ -151,12 +151,12 @@ one_refused {old} {new} {noted} {name} {fault} names told is some held first cal
     (subst (λ name. Calls said (withhold_outcome old.naming noted name) (Err fault) was before events leaves)
     (sym first) call)) called.work)
 
-pub one_withheld : {old new : Seen} {noted : Option Note} {names : List (List ℕ)} {name : List ℕ} {told : Withheld}
-    (answer : Option Ruled) → told ≡ withheld_of (answer ∷ []) → 0 < length names
+pub one_withheld : {old new : Seen} {names : List (List ℕ)} {name : List ℕ} {told : Withheld}
+    (noted : Option Note) (answer : Option Ruled) → told ≡ withheld_of (answer ∷ []) → 0 < length names
     → first_of names ≡ name
     → IsCall said old new (told_as answer) (withhold_outcome old.naming noted name)
     → IsTransition old new (TakesWorks old.naming noted names (Ok told))
-one_withheld {old} {new} {noted} {names} {name} {told} answer counts some first called =
+one_withheld {old} {new} {names} {name} {told} noted answer counts some first called =
     work_as old new (Calls said (withhold_outcome old.naming noted name) (told_as answer))
     (TakesSome old.naming noted names told)
     (λ was before events leaves call. record {

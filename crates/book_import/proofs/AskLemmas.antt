@@ -344,7 +344,7 @@ module _ (naming : Naming) (layout : Layout) (bytes : List ℕ) (started records
             (without_notes both.late) false) (journal_stands_apart before both.early) kept;
         all = ap without_notes both.all ∙ notes-append both.late both.early;
       } in
-      let says = takes_says answers was false false before both.early both.late events (asked refl)
+      let says = takes_says answers false false before both.early both.late events (asked refl)
       both.first.said keeps.kept both.all ahead in (
         entry.begun || keeps_one answers,
         end_said (keeps_one answers) (length answers == length (usage_of records)) ending,

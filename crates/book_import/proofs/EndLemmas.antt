@@ -15,6 +15,7 @@ use Rattle.book_model.specs.declared.note.Share.{Share}
 use Rattle.book_model.specs.declared.note.Stop.{Stop}
 use Rattle.book_model.specs.declared.note.Stop.TheVariants.{Ledger}
 use Rattle.book_core.specs.Calls.{Calls}
+use Rattle.book_core.specs.Ledgers.{Seen}
 use Rattle.book_core.specs.Transition.{IsTransition, NoEvent, Then}
 use Rattle.book_core.proofs.TransitionLemmas.{Implies, no_work, work_as}
 use Rattle.book_import.specs.declared.import_entry.ImportEntry.{ImportEntry}
@@ -455,17 +456,17 @@ module _ (naming : Naming) (layout : Layout) (cut : Option Stop) (bytes : List �
 
 -- ---- the receipt
 
-pub ends_plain : (import : Option Note) (read told : Receipt) → told ≡ read → EndsAs import read told
-ends_plain None read told so = so
-ends_plain (Some note) read told so = inl so
+pub ends_plain : (import : Option Note) (done told : Receipt) → told ≡ done → EndsAs import done told
+ends_plain None done told so = so
+ends_plain (Some note) done told so = inl so
 
-pub ends_refused : (entry : ImportEntry) (stop : Stop) (read told : Receipt) (fault : LedgerFault)
-    → is_to_end entry stop ≡ true → told ≡ record read { stop = Ledger fault }
-    → EndsAs (note_of entry) read told
-ends_refused entry stop read told fault on so =
+pub ends_refused : (entry : ImportEntry) (stop : Stop) (done told : Receipt) (fault : LedgerFault)
+    → is_to_end entry stop ≡ true → told ≡ record done { stop = Ledger fault }
+    → EndsAs (note_of entry) done told
+ends_refused entry stop done told fault on so =
     let parts = going_on entry.share entry.begun entry.ended
     (by_store (is_store_stop stop) on) in
-    subst (λ import. EndsAs import read told) (sym parts.1) (inr (fault, so))
+    subst (λ import. EndsAs import done told) (sym parts.1) (inr (fault, so))
   where
     by_store : (store : Bool) → (if store then false else goes_on entry) ≡ true
         → goes_on entry ≡ true
@@ -473,11 +474,11 @@ ends_refused entry stop read told fault on so =
     by_store false on = on
 
 -- it counts what was counted
-pub ends_counted : (import : Option Note) (read told : Receipt) → EndsAs import read told
-    → counted told ≡ counted read
-ends_counted None read told so = ap counted so
-ends_counted (Some note) read told (inl so) = ap counted so
-ends_counted (Some note) read told (inr refused) = ap counted refused.1
+pub ends_counted : (import : Option Note) (done told : Receipt) → EndsAs import done told
+    → counted told ≡ counted done
+ends_counted None done told so = ap counted so
+ends_counted (Some note) done told (inl so) = ap counted so
+ends_counted (Some note) done told (inr refused) = ap counted refused.1
 
 -- ---- the books are told
 

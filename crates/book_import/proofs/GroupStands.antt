@@ -72,17 +72,17 @@ pub record Stands (begins : Seen) (before : Receipt) (group : Group) (entry : Im
       (usage_of (drop i gathered.records)) pending receipt)
 
 -- an import that has the note of another has read what that has
-still_read : {Read : Type 0} (one other : Option Share) → note_in one ≡ note_in other
+still_read : (Read : Type 0) (one other : Option Share) → note_in one ≡ note_in other
     → IfSome other (λ share. Read) → IfSome one (λ share. Read)
-still_read None other same read = tt
-still_read (Some share) None same read = absurd (cc)
-still_read (Some share) (Some also) same read = read
+still_read Read None other same read = tt
+still_read Read (Some share) None same read = absurd (cc)
+still_read Read (Some share) (Some also) same read = read
 
 pub still_has : (bytes : List ℕ) (one other : ImportEntry) → note_of one ≡ note_of other
     → one.bytes ≡ other.bytes → HasRead bytes other → HasRead bytes one
 still_has bytes one other note same has =
     subst (λ read. IfSome one.share (λ share. AreRead bytes read)) (sym same)
-    (still_read {Read = AreRead bytes other.bytes} one.share other.share note has)
+    (still_read (AreRead bytes other.bytes) one.share other.share note has)
 
 -- where an end was said, it was this one
 ended_as : (ending ended given : Option Stop) (kept whole : Bool) → given ≡ None

@@ -1,6 +1,6 @@
 -- The bytes that an import has read, where it has a note.
-use Rattle.std.proofs.Common.{◌≡◌, true, true≢false, sym, Option, Some, None}
-use Rattle.std.specs.Prelude.{IfSome, is_none}
+use Rattle.std.proofs.Common.{◌≡◌, false, is_some, true≢false, Option, Some, None}
+use Rattle.std.specs.Prelude.{IfSome}
 
 -- what holds of them holds where there is a note,
 pub some_read : {A Read : Type 0} (share : Option A) → Read → IfSome share (λ one. Read)
@@ -8,10 +8,10 @@ some_read None read = tt
 some_read (Some share) read = read
 
 -- and anything holds where there is none
-pub none_read : {A Read : Type 0} (share : Option A) → is_none share ≡ true
+pub none_read : {A : Type 0} (Read : Type 0) (share : Option A) → is_some share ≡ false
     → IfSome share (λ one. Read)
-none_read None none = tt
-none_read (Some share) none = absurd (true≢false (sym none))
+none_read Read None none = tt
+none_read Read (Some share) none = absurd (true≢false none)
 
 -- more were read
 pub all_read : {A Read More : Type 0} (share : Option A) → (Read → More)

@@ -54,7 +54,7 @@ fn add_entry_time(row: &mut RowDraft, time: u64)
 /// What was ruled, in one word, by where it stands.
 #[tactic(auto, unfolding(crate::specs::JournalTables::place_word))]
 fn word_of(place: Place) -> &'static str
-    ensures { result ≡ spec.place_word (place_shown place) }
+    ensures { result.now ≡ spec.place_word (place_shown place) }
 {
     match place {
         Place::Tariff(_) => "TARIFF",

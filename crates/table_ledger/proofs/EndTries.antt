@@ -15,7 +15,7 @@ use Rattle.std.specs.FinMap.{insert}
 use Rattle.tree_tables.specs.JournalColumns.{entry_stored}
 use Rattle.table_ledger.specs.Groups.{FindsNewest, Joins, end_step, going_on, joined_entry}
 use Rattle.table_ledger.specs.declared.groups.Joined.{Joined}
-use Rattle.table_ledger.specs.declared.groups.Newest.{Newest}
+use Rattle.table_ledger.specs.declared.newest.Newest.{Newest}
 use Rattle.table_ledger.specs.declared.summary.Summary.{Summary}
 use Rattle.table_ledger.proofs.GroupEntries.{joins_found}
 use Rattle.table_ledger.proofs.KeptGroups.{put_joined, unended}

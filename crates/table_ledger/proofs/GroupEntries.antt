@@ -23,7 +23,7 @@ use Rattle.tree_tables.specs.JournalColumns.{entry_stored}
 use Rattle.table_ledger.specs.Groups.{FindsNewest, Joins, JoinsEntry, act_renewed, begun_entries}
 use Rattle.table_ledger.specs.Groups.{begun_entry, going_on, joined_by, joined_entry, joining, renewed}
 use Rattle.table_ledger.specs.declared.groups.Joined.{Joined}
-use Rattle.table_ledger.specs.declared.groups.Newest.{Newest}
+use Rattle.table_ledger.specs.declared.newest.Newest.{Newest}
 use Rattle.table_ledger.proofs.KeptGroups.{AreNew, begun_with, ended, grown, put_joined, told_left}
 use Rattle.table_ledger.proofs.KeptGroups.{unended, unjoined, unread}
 use Rattle.table_ledger.proofs.LastNumbers.{last_entered}

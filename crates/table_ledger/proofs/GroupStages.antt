@@ -26,7 +26,7 @@ use Rattle.table_ledger.specs.Premises.{HaveSums}
 use Rattle.table_ledger.specs.Stages.{AnswersFirst, IsStaged, LeavesFirst, RefusesNext, StagesFirst}
 use Rattle.table_ledger.specs.Stages.{StagesJoined}
 use Rattle.table_ledger.specs.declared.groups.Joined.{Joined}
-use Rattle.table_ledger.specs.declared.groups.Newest.{Newest}
+use Rattle.table_ledger.specs.declared.newest.Newest.{Newest}
 use Rattle.table_ledger.specs.declared.summary.Summary.{Summary}
 use Rattle.table_ledger.proofs.Words.{Accepted, Always, Does, HasCleanDisk, Holds, IsAt, IsAtAs}
 use Rattle.table_ledger.proofs.Words.{IsStoredIn, LedgerFault, Saw, StagesMany, State, StoreError}

@@ -3,7 +3,6 @@
 mod Words
 pub mod SurvivalLemmas
 pub mod UnchangedStores
-pub mod CameNames
 mod TryLemmas
 mod Answering
 pub mod Refusals

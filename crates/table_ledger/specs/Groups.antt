@@ -15,7 +15,7 @@ use Rattle.table_model.specs.Tables.{ImportRow, JournalRow, JournalTable, RowAct
 use Rattle.tree_tables.specs.Answers.{last_number}
 use Rattle.tree_tables.specs.JournalColumns.{entry_stored}
 use Rattle.table_ledger.specs.declared.groups.Joined.{Joined}
-use Rattle.table_ledger.specs.declared.groups.Newest.{Newest}
+use Rattle.table_ledger.specs.declared.newest.Newest.{Newest}
 use Rattle.std.specs.FinMap as fin
 
 -- the number of the entry by which a record comes that is kept: of the newest, where its import goes

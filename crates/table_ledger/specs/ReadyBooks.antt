@@ -12,7 +12,7 @@ use Rattle.table_model.specs.Words.{close_after, past_in, period_in, records_of_
 use Rattle.table_model.proofs.BookLemmas.{book_follows}
 use Rattle.table_ledger.specs.Ready.{IsReadyAt, IsStoredIn}
 use Rattle.table_ledger.specs.LedgerState.{book_of_trees, AreBooks, seen_of}
-use Rattle.table_ledger.proofs.CameNames.{among_all}
+use Rattle.table_ledger.specs.CameNames.{among_all}
 use Rattle.table_ledger.specs.TablesRead.{came_among, tables_read}
 use Rattle.table_ledger.specs.declared.summary.Summary.{Summary}
 

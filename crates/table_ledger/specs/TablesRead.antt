@@ -102,7 +102,7 @@ came_back (Some number) = refl
 -- by which entries the records of the tables came
 abbrev pub came_named : CameTable → List (List ℕ × RecordRow) → List (List ℕ × ℕ)
 came_named came rows =
-    filter_map {B = List ℕ × ℕ} (λ (entry : List ℕ × RecordRow).
+    filter_map {Y = List ℕ × ℕ} (λ (entry : List ℕ × RecordRow).
     option_map {U = List ℕ × ℕ} (λ number. (entry.0, number)) (get came entry.0)) rows
 
 abbrev pub came_among : Tables → CameTable

@@ -9,20 +9,13 @@ ghost use Rattle.tree_tables.specs.Steps.{Always, Does, Looks};
 ghost use Rattle.table_ledger.specs.Groups.{FindsNewest, act_renewed, begun_row, going_on};
 ghost use Rattle.table_ledger.specs.Groups.{joined_entry, joining, renewed};
 
+use crate::newest::Newest;
 use book_core::{Accepted, Note, Reading, Share, ending_of};
 use book_model::Ending;
 use sqlite_trees::error::StoreError;
 use sqlite_trees::store::Store;
 use std::alloc::Global;
-use tree_tables::{StoredAct, StoredEntry, TreeTables};
-
-/// The newest entry of the journal, if there is one, and its number, which is 0 where there is none.
-#[derive(Drop)]
-pub(crate) struct Newest {
-    pub(crate) number: u64,
-    pub(crate) entry: Option<StoredEntry>,
-    ghost small: { number < 2 ^ 63 },
-}
+use tree_tables::{StoredAct, TreeTables};
 
 /// The entry that records join which are kept: its number and its note, and what its import had
 /// read and kept before.

@@ -31,6 +31,7 @@ mod listed_rulings;
 mod load;
 mod many;
 mod named_records;
+mod newest;
 mod other_prices;
 mod periods;
 mod replaced_prices;

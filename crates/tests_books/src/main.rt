@@ -43,7 +43,9 @@
 //! | `refuses memory files` | the same, where the books were in two files |
 //!
 //! The body of `stops` and of `refuses` is a run of commands. The row continues with the books
-//! after it. Each word of an import names one record there.
+//! after it. Each word of an import names one record there. A run may also give the groups of an
+//! import one by one: `group first PARTS..` is the first that keeps a record, `group next PARTS..`
+//! one after it, and `ended` says that the import came to its end.
 #![tactic(auto)]
 
 mod changed_rows;

@@ -6,7 +6,7 @@ ghost use Rattle.office.specs.Runs.{IsAskableWithoutReader};
 
 use crate::day::Day;
 use crate::names::{centre_in, name_in};
-use book_core::{is_credit_amount, is_reason};
+use book_core::{Note, is_credit_amount, is_reason};
 use office::{Asked, OwnedRuling, StatementForm, WhatIf};
 use smf_frames::Layout;
 use smf_text::Name;
@@ -111,9 +111,9 @@ fn asked_by_word(named: &Named, ask: Ask<'_>) -> LineResult<Asked>
     }
 }
 
-/// The request of a line, with the bytes of its dump, if it has one. No line asks for a report so:
-/// a report may also be written to a limited writer.
-pub(crate) fn asked_by(named: &Named, layout: Layout, ask: Ask<'_>) -> LineResult<Asked>
+/// The request of a line without a note, with the bytes of its dump, if it has one. No line asks for
+/// a report so: a report may also be written to a limited writer.
+fn asked_without_note(named: &Named, layout: Layout, ask: Ask<'_>) -> LineResult<Asked>
     ensures { IfOk result IsAskableWithoutReader }
 {
     match (ask.verb, ask.words) {
@@ -139,4 +139,64 @@ pub(crate) fn asked_by(named: &Named, layout: Layout, ask: Ask<'_>) -> LineResul
         }
         _ => asked_by_word(named, ask),
     }
+}
+
+/// A text of a note: `-` is none.
+fn note_text(alloc: Global, word: &str) -> LineResult<String> {
+    let text = if word == "-" { "" } else { word };
+    Ok(String::from_str(alloc, text)?)
+}
+
+/// The note that words say: a time in seconds, a person, a remark and a file.
+pub(crate) fn note_of(
+    alloc: Global,
+    time: &str,
+    person: &str,
+    remark: &str,
+    file: &str,
+) -> LineResult<Note> {
+    Ok(Note {
+        time: time.parse::<u64>()?,
+        person: note_text(alloc, person)?,
+        remark: note_text(alloc, remark)?,
+        file: note_text(alloc, file)?,
+    })
+}
+
+/// The request with this note.
+fn with_note(asked: Asked, note: Note) -> Asked
+    requires { IsAskableWithoutReader asked }
+    ensures { IsAskableWithoutReader result }
+{
+    match asked {
+        Asked::Rule(ruling, _) => Asked::Rule(ruling, Some(note)),
+        Asked::ImportBytes {
+            layout,
+            bytes,
+            note: _,
+        } => Asked::ImportBytes {
+            layout,
+            bytes,
+            note: Some(note),
+        },
+        other => other,
+    }
+}
+
+/// The request of a line, with the note that it begins with, if it has one.
+pub(crate) fn asked_by(named: &Named, layout: Layout, ask: Ask<'_>) -> LineResult<Asked>
+    ensures { IfOk result IsAskableWithoutReader }
+{
+    let ("noted", [time, person, remark, file, words @ ..]) = (ask.verb, ask.words) else {
+        return asked_without_note(named, layout, ask);
+    };
+    let note = note_of(named.alloc(), time, person, remark, file)?;
+    let inner = ask_of(words);
+    let alone = Ask {
+        verb: inner.verb,
+        words: inner.words,
+        body: ask.body,
+    };
+    let asked = asked_without_note(named, layout, alone)?;
+    Ok(with_note(asked, note))
 }

@@ -151,7 +151,7 @@ fn answer_by_calls<L: Ledger>(
             push_changes(&mut lines.shown_texts, ledger, out);
             Ok(())
         }
-        "tariff" | "replace" | "close" | "choose" | "withhold" | "credit" | "adopt" => {
+        "tariff" | "replace" | "close" | "choose" | "withhold" | "credit" | "adopt" | "noted" => {
             push_request(named, reading.layout, ledger, ask, out)
         }
         "what-if" | "what-if-table" => push_request(named, reading.layout, ledger, ask, out),

@@ -1,6 +1,7 @@
 //! Commands of a run, and what they report.
 
 use crate::asked::asked_by;
+use crate::groups::group;
 use book_core::{Ledger, LedgerFault, Ruled};
 use book_import::{Receipt, Stop};
 use office::{Answer, ask_without_reader};
@@ -45,10 +46,10 @@ fn report_of(answer: &Result<Answer, LedgerFault>) -> Option<Reported> {
     }
 }
 
-/// Asks books a command. None: it is not one, or there was no memory for it.
+/// Asks books a command, or gives them a group of an import. None: it is not one, or there was no memory for it.
 pub fn command<L: Ledger>(named: &Named, ledger: &mut L, ask: Ask<'_>) -> Option<Reported> {
     let Ok(asked) = asked_by(named, Layout::Rdw, ask) else {
-        return None;
+        return group(named, ledger, ask);
     };
     let answer = ask_without_reader(named.alloc(), ledger, &asked);
     report_of(&answer)

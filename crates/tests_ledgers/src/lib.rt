@@ -12,6 +12,7 @@
 //! | `withhold RECORD`, or 64 hexadecimal digits | the same: of its work no record counts |
 //! | `credit PERIOD CENTRE AMOUNT REASON`, in ten-thousandths, a reason of one word | the same |
 //! | `adopt RULE`: the number of a rule of identity | the same |
+//! | `noted TIME PERSON REMARK FILE LINE`: one of these, or `import PARTS..`, with a note for the journal: seconds since 1970, and words, of which `-` is none | the answer to the line |
 //! | `import PARTS..` | the receipt |
 //! | `accept PARTS..` | `KEPT`, `KNOWN`, `UNPRICED` or the fault's line, of each usage record |
 //! | `import-each-read PARTS..` | the receipts where each read fails in turn |
@@ -26,6 +27,7 @@
 //! | `coverage PERIOD`, `coverage-table PERIOD` | the text, and its comma-separated values |
 //! | `page PERIOD`, `office-page` | the page as HTML |
 //! | `record RECORD`, or 64 hexadecimal digits | the record's trail |
+//! | `journal`, `journal-table` | the journal, and its comma-separated values |
 //! | `what-if PERIOD TEXT..`, with a body before the texts | what it would have cost by that |
 //! | `what-if-table PERIOD TEXT..` | the same as comma-separated values |
 //! | these two with `PERIOD/CENTRE` | the same of the centre |
@@ -92,6 +94,7 @@ mod each_call;
 mod exchange;
 mod failing_reads;
 mod faults;
+mod groups;
 mod http_lines;
 mod layouts;
 mod lines;

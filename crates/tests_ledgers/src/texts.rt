@@ -5,7 +5,7 @@ use crate::text_writing::{Writes, Written};
 use book_core::{Ledger, Sink};
 use book_import::Stop;
 use book_reports::{
-    DetailReport, PeriodReport, Report, StatementForm, write_details, write_report,
+    DetailReport, PeriodReport, Report, StatementForm, write_details, write_journal, write_report,
 };
 use smf_text::Name;
 use std::alloc::Global;
@@ -16,6 +16,8 @@ use tests_scripts::{Ask, LimitedWriter, Limits, LineFault, LineResult, Named, va
 pub(crate) enum BookText {
     /// The details of a period, or of one centre in it.
     Details(DetailReport),
+    /// The journal.
+    Journal(StatementForm),
     /// Any other.
     Report(Report),
 }
@@ -102,6 +104,8 @@ impl BookText {
             ("disputes", []) => Ok(BookText::Report(Report::DisputeList)),
             ("periods", []) => Ok(BookText::Report(Report::PeriodList)),
             ("office-page", []) => Ok(BookText::Report(Report::OfficePage)),
+            ("journal", []) => Ok(BookText::Journal(StatementForm::Text)),
+            ("journal-table", []) => Ok(BookText::Journal(StatementForm::Table)),
             ("record", [word]) => Ok(BookText::Report(Report::Record(name_in(named, word)?))),
             (verb, words) => in_period(verb, words),
         }
@@ -121,6 +125,7 @@ impl<L: Ledger> Writes for TextOf<'_, L> {
         let ledger = &mut *self.ledger;
         let answer = match &self.text {
             BookText::Details(report) => write_details(alloc, ledger, *report, &mut sink),
+            BookText::Journal(form) => write_journal(alloc, ledger, *form, &mut sink),
             BookText::Report(report) => write_report(alloc, ledger, *report, &mut sink),
         };
         Written::of(alloc, sink, answer.and(Ok(Stop::End)))

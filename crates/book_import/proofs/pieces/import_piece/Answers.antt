@@ -3,7 +3,8 @@ use Rattle.std.proofs.Common.{Some, is_some, subst, sym, true≢false, ◌≡◌
 use Rattle.std.specs.Prelude.{IfSome}
 use Rattle.smf_frames.specs.declared.fault.FrameFault.{FrameFault}
 use Rattle.book_model.specs.Words.{Front, front, HasTaken}
-use Rattle.book_model.specs.declared.note.Stop.TheVariants.{Frame}
+use Rattle.book_model.specs.declared.fault.LedgerFault.TheVariants.{Memory}
+use Rattle.book_model.specs.declared.note.Stop.TheVariants.{Frame, Ledger}
 use Rattle.book_import.specs.declared.import_entry.ImportEntry.{ImportEntry}
 use Rattle.book_import.specs.declared.read_bytes.ReadBytes.{ReadBytes}
 use Rattle.book_import.specs.EntryWork.{note_of}
@@ -140,16 +141,19 @@ returns-in-None-clause-goes_on g c = λ other none.
 
 pub returns-in_default-clause-ended : goal.returns-in_default-clause-ended
 returns-in_default-clause-ended g c = λ text stood.
-    piece_end c.args.joiner.now.layout text c.args.piece.now c.args.entry.now _ c.requires.fresh
+    piece_end c.args.joiner.now.layout text c.args.piece.now c.args.entry.now
+    (Some (Ledger Memory)) c.requires.fresh
 
 pub returns-in_default-read-clause-ended : goal.returns-in_default-read-clause-ended
 returns-in_default-read-clause-ended g c = λ text stood.
-    piece_end c.args.joiner.now.layout text c.args.piece.now c.read.new.self _
+    piece_end c.args.joiner.now.layout text c.args.piece.now c.read.new.self
+    (Some (Ledger Memory))
     (ap (λ (entry : ImportEntry). entry.ended) c.in_default-read.ensures.rest ∙ c.requires.fresh)
 
 pub returns-in-Err-clause-ended : goal.returns-in-Err-clause-ended
 returns-in-Err-clause-ended g c = λ text stood.
-    piece_end c.args.joiner.now.layout text c.args.piece.now c.handle_group.new.entry _
+    piece_end c.args.joiner.now.layout text c.args.piece.now c.handle_group.new.entry
+    (Some (Ledger c.in-Err.fault))
     c.in-Err.ensures.refused
 
 pub returns-in-None-clause-ended : goal.returns-in-None-clause-ended

@@ -13,7 +13,8 @@ pub returns-in_err-answer-clause-takes : goal.returns-in_err-answer-clause-takes
 returns-in_err-answer-clause-takes g c =
     let p = err_from_is_err_and c.from_residual.result c.from_residual.ensures.1 in
     let old = g.Self.Ledger.seen c.args.self.now in
-    one_refused c.args.names.now c.from_residual.result (p.1 ∙ ap Err p.2) c.requires c.in_err-answer.ensures.held
+    one_refused (note_given c.args.note.now) c.args.names.now c.from_residual.result (p.1 ∙ ap Err p.2)
+    c.requires c.in_err-answer.ensures.held
     (first_name c.args.names.now [] c.requires)
     (subst (λ (told : Result Ruled LedgerFault). IsCall (λ (ruled : Ruled). ruled) old
     (g.Self.Ledger.seen c.withhold-told.new.self) told
@@ -25,7 +26,8 @@ pub returns-clause-takes : goal.returns-clause-takes
 returns-clause-takes g c =
     let answer = c.in_ok-answer.answer in
     let old = g.Self.Ledger.seen c.args.self.now in
-    one_withheld answer (c.with_answer.ensures.value ∙ more_withheld [] answer) c.requires
+    one_withheld (note_given c.args.note.now) answer (c.with_answer.ensures.value ∙ more_withheld [] answer)
+    c.requires
     (first_name c.args.names.now [] c.requires)
     (subst (λ (told : Result Ruled LedgerFault). IsCall (λ (ruled : Ruled). ruled) old
     (g.Self.Ledger.seen c.withhold-told.new.self) told

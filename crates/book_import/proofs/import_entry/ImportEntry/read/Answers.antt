@@ -1,11 +1,12 @@
-use Rattle.std.proofs.Common.{◌∙◌, ◌++◌, sym}
+use Rattle.std.proofs.Common.{◌∙◌, ◌++◌, ap, not}
 use Rattle.book_import.specs.EntryWork.{AreRead}
 use Rattle.book_import.proofs.ReadingLemmas.{all_read, none_read}
 use Rattle.book_import.proofs.import_entry.ImportEntry.read.Goals as goal
 
 pub returns-then-is_none-clause-more : goal.returns-then-is_none-clause-more
 returns-then-is_none-clause-more c = λ bytes has.
-    none_read c.args.self.now.share (sym c.is_none.ensures ∙ c.if-is_none.true)
+    none_read (AreRead (bytes ++ c.args.piece.now) c.args.self.now.bytes) c.args.self.now.share
+    (c.is_none.ensures ∙ ap not c.if-is_none.true)
 
 pub returns-clause-more : goal.returns-clause-more
 returns-clause-more c = λ bytes has.
