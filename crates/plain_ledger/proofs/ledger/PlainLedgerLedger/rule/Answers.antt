@@ -1,4 +1,4 @@
-use Rattle.std.proofs.Common.{FitsSigned, ap, refl, rules, subst, sym, w64, ℤ}
+use Rattle.std.proofs.Common.{FitsSigned, ap, refl, rules, subst, w64, ℤ}
 use Rattle.book_model.proofs.Std.{to_z-of_z}
 use Rattle.book_model.specs.declared.ruling.Ruling.{Ruling}
 use Rattle.book_model.specs.Words.{AdoptionAsked, ChoiceAsked, CloseAsked, CreditAsked, MayBeAsked}
@@ -25,12 +25,6 @@ returns-in-Close g c =
     (ap (CloseAsked c.in-Close.period) (day_kept c.in-Close.through may))
     c.make_entered-in-Close.result c.make_entered-in-Close.ensures.books
     c.make_entered-in-Close.ensures.said)
-
-pub make_entered-in-Close-requires : goal.make_entered-in-Close-requires
-make_entered-in-Close-requires g c =
-    let may = subst (λ (ruling : Ruling). MayBeAsked (ruling_asked ruling)) c.in-Close.is c.requires in
-    subst (λ day. MayBeAsked (CloseAsked c.in-Close.period day))
-    (sym (day_kept c.in-Close.through may)) may
 
 pub returns-in-Choose : goal.returns-in-Choose
 returns-in-Choose g c =
@@ -71,12 +65,3 @@ returns-in-Credit g c =
     CreditAsked c.in-Credit.period c.in-Credit.centre amount c.in-Credit.reason.now)
     (to_z-of_z w64 amount fits)) c.make_entered-in-Credit.result
     c.make_entered-in-Credit.ensures.books c.make_entered-in-Credit.ensures.said)
-
-pub make_entered-in-Credit-requires : goal.make_entered-in-Credit-requires
-make_entered-in-Credit-requires g c =
-    let amount = c.in-Credit.amount in
-    let fits : FitsSigned w64 amount = search rules in
-    let may = subst (λ (ruling : Ruling). MayBeAsked (ruling_asked ruling)) c.in-Credit.is c.requires in
-    subst (λ (amount : ℤ). MayBeAsked
-    (CreditAsked c.in-Credit.period c.in-Credit.centre amount c.in-Credit.reason.now))
-    (sym (to_z-of_z w64 amount fits)) may
