@@ -434,8 +434,8 @@ def member_line(one):
 
 
 class Journal:
-    """Who did what: the lines of each entry, the oldest first, and by which one each record came, with its file. The times are
-    left open: NOW stands for each."""
+    """Who did what: the lines of each entry, the oldest first, and by which one each record came, with its file. NOW stands for
+    the time of the clock."""
 
     # The word of what was ruled, where it is another than the first of its line.
     WORDS = {"NONE": "CHOICE", "ADOPTED": "ADOPTION"}
@@ -444,7 +444,7 @@ class Journal:
         self.entries, self.came = [], {}
 
     def after(self, before, books, lines, note, dump=None):
-        """What a command did that found such rulings and records, with its note: a person, a remark and a file."""
+        """What a command did that found such rulings and records, with its note: a person, a remark, a file and a time."""
         rulings, held = before
         new = [line for line in books.rulings() if line not in rulings]
         replaced = [line for line in new if line.startswith("REPLACED")]
@@ -463,22 +463,22 @@ class Journal:
     def came_line(self, name):
         if name not in self.came:
             return "CAME -"
-        person, remark, file = self.entries[self.came[name] - 1][3]
-        return "CAME %d NOW" % self.came[name] + (" " + file if file else "")
+        person, remark, file, time = self.entries[self.came[name] - 1][3]
+        return "CAME %d %s" % (self.came[name], time) + (" " + file if file else "")
 
     def lines(self):
         yield "JOURNAL %d" % len(self.entries)
         for number, (act, words, read, note) in enumerate(self.entries, 1):
             counted = " ".join("%s %s" % pair for pair in zip(COUNTED, read[2:]))
-            yield "%d NOW %s" % (number, words or "IMPORT %s %s %s STOP %s" % (*read[:2], counted, read[-1]))
-            person, remark, file = note
+            person, remark, file, time = note
+            yield "%d %s %s" % (number, time, words or "IMPORT %s %s %s STOP %s" % (*read[:2], counted, read[-1]))
             yield from ("  %s %s" % pair for pair in (("BY", person), ("FILE", file), ("NOTE", remark)) if pair[1])
 
     def table(self):
         yield ("number,time,act,words,digest,length,kept,known,unpriced,other,headers,trailers,lost,continued,damaged,stop,"
                "person,file,note")
-        for number, (act, words, read, (person, remark, file)) in enumerate(self.entries, 1):
-            yield ",".join(map(quoted, (str(number), "NOW", act, words, *read, person, file, remark)))
+        for number, (act, words, read, (person, remark, file, time)) in enumerate(self.entries, 1):
+            yield ",".join(map(quoted, (str(number), time, act, words, *read, person, file, remark)))
 
 
 # The words of a receipt.
@@ -492,7 +492,7 @@ def quoted(field):
 
 class Books:
     def __init__(self):
-        # Rows that are no commands have no journal.
+        # Lines that are no commands have no entry, but those with a note.
         self.journal = Journal()
         self.tariffs, self.held, self.data, self.charged_at, self.closes = [], {}, {}, [], []
         # The names of the records that were chosen, each with the period that was open then; and the numbers of those choices,

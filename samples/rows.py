@@ -424,6 +424,13 @@ class Rows:
     def command(self, verb, words, body=()):
         """The answer to a command of books."""
         books = self.books
+        if verb == "noted":
+            return self.with_note(*words[:4], words[4], words[5:], body)
+        if verb == "group":
+            self.take(dump_of(self.dumps, words[1:]))
+            return ["DONE"]
+        if verb == "ended":
+            return ["DONE"]
         if verb == "import":
             return self.take(dump_of(self.dumps, words))
         if verb in RULINGS and self.is_refused():
@@ -444,6 +451,24 @@ class Rows:
         if verb == "adopt":
             return books.adopt(int(words[0]))
         raise NotKnown
+
+    def with_note(self, seconds, person, remark, file, verb, words, body):
+        """The answer to a command with a note: a dash is none of its texts."""
+        books = self.books
+        before = list(books.rulings()), set(books.held)
+        lines = self.command(verb, words, body)
+        time = datetime.datetime.fromtimestamp(int(seconds), datetime.timezone.utc).strftime("%Y-%m-%d %H:%M:%SZ")
+        note = [text if text != "-" else "" for text in (person, remark, file)]
+        dump = dump_of(self.dumps, words) if verb == "import" else None
+        books.journal.after(before, books, lines, (*note, time), dump)
+        return lines
+
+    def journal(self, verb):
+        """The journal, or why it is not told: its entries are counted, and then read."""
+        books = self.books
+        if any(self.is_refused() for _ in range(2 * (len(books.journal.entries) + 1))):
+            return office.refused(office.MEMORY)
+        return list(books.journal.lines() if verb == "journal" else books.journal.table())
 
     def swept(self, what, body):
         """A run of commands, each answered with no fault."""
@@ -560,6 +585,8 @@ class Rows:
             return self.page(*words)
         if verb == "record":
             return self.trail(self.name_of(*words))
+        if verb in ("journal", "journal-table"):
+            return self.journal(verb)
         if verb == "writer":
             self.is_counted = words == ["all", "1..2"]
             return []
@@ -631,7 +658,7 @@ class Rows:
         before = list(books.rulings()), set(books.held)
         output = self.output(words)
         of_file = words[2] if words[0] in ("tariff", "import") else given.get("--from") or given.get("--dump") or ""
-        note = given.get("--by", "player"), given.get("--note", ""), of_file
+        note = given.get("--by", "player"), given.get("--note", ""), of_file, "NOW"
         books.journal.after(before, books, output, note, self.file(of_file) if words[0] == "import" else None)
         return output
 

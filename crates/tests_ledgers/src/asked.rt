@@ -148,7 +148,13 @@ fn note_text(alloc: Global, word: &str) -> LineResult<String> {
 }
 
 /// The note that words say: a time in seconds, a person, a remark and a file.
-fn note_of(alloc: Global, time: &str, person: &str, remark: &str, file: &str) -> LineResult<Note> {
+pub(crate) fn note_of(
+    alloc: Global,
+    time: &str,
+    person: &str,
+    remark: &str,
+    file: &str,
+) -> LineResult<Note> {
     Ok(Note {
         time: time.parse::<u64>()?,
         person: note_text(alloc, person)?,
