@@ -1,6 +1,6 @@
 -- A record with the entry by which it came, by its name: what is found is what the book has.
-use Rattle.std.proofs.Common.{◌≡◌, ◌∙◌, ◌+◌, ◌||◌, ℕ, Bool, List, [], ◌∷◌, None, Option, Some, ap, cond}
-use Rattle.std.proofs.Common.{false, find, is_some, length, map, not, option_map, refl, sym, true}
+use Rattle.std.proofs.Common.{◌≡◌, ◌∙◌, ◌+◌, ◌||◌, ℕ, Bool, List, [], ◌∷◌, None, Option, Some, ap}
+use Rattle.std.proofs.Common.{cond, false, find, is_some, length, map, not, option_map, refl, sym, true}
 use Rattle.std.proofs.Common.{subst, true≢false, unwrap_or}
 use Rattle.std.proofs.Math.Bool.{or-true}
 use Rattle.std.specs.List.{AllByRecursion}
@@ -146,7 +146,8 @@ module _ (naming : Naming) (book : Book) (whole : IsReadable naming book)
       ∙ ap (λ found. unwrap_or (else_find found before) 0)
       (own_value naming book whole.sound bytes there number own among)
       ∙ elim (has own bytes) as (λ b.
-      unwrap_or (else_find (cond b (Some number) None) before) 0 ≡ cond b number (came_by older bytes)) [
+      unwrap_or (else_find (cond b (Some number) None) before) 0
+      ≡ cond b number (came_by older bytes)) [
         | true ↦ refl
         | false ↦ rest
       ]

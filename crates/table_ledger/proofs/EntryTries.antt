@@ -1,8 +1,8 @@
 -- Entries of the journal as they are listed: what looks find is what the book has.
-use Rattle.std.proofs.Common.{◌≡◌, ◌∙◌, ◌+◌, ◌-◌, ◌<◌, ◌≤◌, ℕ, zero, suc, ℤ, Bool, true, false, List}
-use Rattle.std.proofs.Common.{[], ◌∷◌, ◌++◌, None, Option, Some, All, ap, arith, cond, drop, filter}
-use Rattle.std.proofs.Common.{find, length, map, option_and_then, option_map, refl, slice_get, string_bytes}
-use Rattle.std.proofs.Common.{subst, sym, unwrap_or}
+use Rattle.std.proofs.Common.{◌≡◌, ◌∙◌, ◌+◌, ◌-◌, ◌<◌, ◌≤◌, ℕ, zero, suc, ℤ, Bool, true, false}
+use Rattle.std.proofs.Common.{List, [], ◌∷◌, ◌++◌, None, Option, Some, All, ap, arith, cond, drop, filter}
+use Rattle.std.proofs.Common.{find, length, map, option_and_then, option_map, refl, slice_get}
+use Rattle.std.proofs.Common.{string_bytes, subst, sym, unwrap_or}
 use Rattle.std.proofs.lemmas.Bool.Decides.{Decides-int_eq}
 use Rattle.std.proofs.lemmas.List.{drop-map, drop_all}
 use Rattle.std.proofs.lemmas.List.Elements.{All-drop}
@@ -81,7 +81,7 @@ module _ (day : ℤ) (number count passed : ℕ) (tables : Tables)
   -- where no more are left, no text is found
   pub text_none : count ≤ passed → FindsText day number count tables None
   text_none past = λ rows are.
-      let all = are.count in
+      let all = are.many in
       sym (before rows are ∙ ap (text_among day) (drop_all passed rows (omega (arith, all, past))))
 
   module _ (tariff : StoredReplaced) (found : FindsReplaced (passed + 1) tables (Some tariff)) where
@@ -93,8 +93,8 @@ module _ (day : ℤ) (number count passed : ℕ) (tables : Tables)
     next_is begins is rows are =
         let row : ReplacedRow = (replaced_entry tariff).1 in
         ap (text_among day) (rest_is rows passed row (row_found are passed tariff found))
-        ∙ ap (λ b. cond b (Some (string_bytes tariff.body)) (text_among day (drop (passed + 1) rows)))
-        is
+        ∙ ap (λ b. cond b (Some (string_bytes tariff.body))
+        (text_among day (drop (passed + 1) rows))) is
 
     -- it begins on the day,
     pub text_found : int_eq day (replaced_entry tariff).1.day ≡ true
@@ -232,7 +232,7 @@ module _ {summary : Summary} {book : Book} (remembers : Remembers summary book) 
   rows_are : AreReplaced (map replaced_row gone) summary.replaced kept
   rows_are = record {
     table = refl;
-    count = length-map gone replaced_row ∙ sym remembers.replaced;
+    many = length-map gone replaced_row ∙ sym remembers.replaced;
   }
 
   -- a tariff of a day
@@ -345,5 +345,6 @@ module _ {summary : Summary} {book : Book} (remembers : Remembers summary book) 
       ∙ find-numbers 1 (number + 1) number rows (omega arith) in
       by_row number
       ∙ ap (option_map (row_listed naming book.rulings (number + 1))) (sym (found ∙ at))
-      ∙ ap {B = Option EntrySeen} (λ act. Some (record { number = number + 1; note = row.note; act = act }))
+      ∙ ap {B = Option EntrySeen} (λ act.
+      Some (record { number = number + 1; note = row.note; act = act }))
       (sym (act_is row.act act shows))

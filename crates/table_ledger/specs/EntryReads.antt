@@ -21,7 +21,7 @@ use Rattle.table_ledger.specs.declared.summary.Summary.{Summary}
 -- the rows of the tariffs that were replaced, so many of them
 pub record AreReplaced (rows : List ReplacedRow) (count : ℕ) (tables : Tables) : Type 0 where
   pub table : tables.replaced ≡ from_entries (under_numbers 1 rows)
-  pub count : length rows ≡ count
+  pub many : length rows ≡ count
 
 -- the text of the first of some that begins on a day
 abbrev pub text_among : ℤ → List ReplacedRow → Option (List ℕ)
@@ -69,7 +69,8 @@ ShowsPlace summary (ChoiceOf number) tables found =
     (0 < number) × (found ≡ choice_read_at number tables.choices)
 ShowsPlace summary AdoptionOf tables found =
     found ≡ option_map AdoptionSeen (ruled_in summary.rulings).adopted
-ShowsPlace summary (ReplacementOf number) tables found = ShowsReplacement summary number tables found
+ShowsPlace summary (ReplacementOf number) tables found =
+    ShowsReplacement summary number tables found
 ShowsPlace summary (CreditOf number) tables found =
     (0 < number) × (found ≡ credit_read_at number tables.credits)
 
