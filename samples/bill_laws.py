@@ -2,13 +2,13 @@
 """What holds of the bills of any books, and of their cost and usage and their coverage, tried by the rules of office.py on
 random histories of imports, closes, choices, tariffs that come late, and, in two of three, an adoption of the second rule;
 and of what takes back: works of which none counts, tariffs in the place of others, and credits. Some of the steps run on
-another system.
+another system. Two of three calls have a note.
 
     bill_laws.py HISTORIES CALLS [SCRIPT]   tries so many histories of so many calls: 400 of 60 take some minutes. With
                                             SCRIPT it also writes them there as rows, which ask after each ruling for the
                                             bills of each period and centre, and at the end for these as tables and pages,
-                                            for cost and usage, for coverage, and for the office's pages, for tests_books
-                                            to play
+                                            for cost and usage, for coverage, for the office's pages, for the journal and
+                                            for some records, for tests_books to play
 
 After each call: the steps and jobs of a bill are the rows of its centre's statement; what it comes to is that statement's
 total with the centre's adjustments, without what is credited; of a work that is withheld nothing is charged; the centres'
@@ -24,6 +24,7 @@ import copy
 import csv
 import datetime
 import decimal
+import hashlib
 import io
 import json
 import pathlib
@@ -207,6 +208,9 @@ def try_withheld(books):
 
 REASONS = "courier tape-lost ticket-4711,twice".split()
 
+# What notes may say: persons, remarks and files; a dash is none.
+PERSONS, REMARKS, FILES = ("meier", "huber", "-"), ("-", "-", 'ticket-4711,"twice"'), ("month.smf", "-")
+
 
 class Tried(history.History):
     """A history of which each call is tried."""
@@ -258,6 +262,31 @@ class Tried(history.History):
         self.came[" ".join([verb, *answer.removeprefix("chargectl: ").split()[:2]])] += 1
         return [answer]
 
+    def noted(self, turn, words):
+        """The answer to a call, and the call with its note, if it has one: the journal keeps it where something was done."""
+        books, numbers = self.books, self.numbers
+        if turn % 3 == 0:
+            return words, list(self.answer(words))
+        seconds = 1706767200 + 60 * numbers.below(60 * turn + 1)
+        note = [texts[numbers.below(len(texts))] for texts in (PERSONS, REMARKS, FILES)]
+        before = list(books.rulings()), set(books.held)
+        lines = list(self.answer(words))
+        verb, *rest = words.split()
+        dump = history.dump_of(self.dumps, rest) if verb == "import" else None
+        time = datetime.datetime.fromtimestamp(seconds, datetime.timezone.utc).strftime("%Y-%m-%d %H:%M:%SZ")
+        books.journal.after(before, books, lines, (*("" if text == "-" else text for text in note), time), dump)
+        return " ".join(["noted", str(seconds), *note, words]), lines
+
+    def ask_of_the_journal(self):
+        """The journal, and the last records that came, with their entries."""
+        self.ask("journal", self.books.journal.lines())
+        self.ask("journal-table", self.books.journal.table())
+        for name in self.steps[-6:]:
+            [data] = office.joined(self.dumps[name])
+            digest = hashlib.sha256(data).hexdigest()
+            if digest in self.books.held:
+                self.ask("record " + name, self.books.trail(digest))
+
     def centres(self):
         """All centres that some record or credit is of, and one that none is of."""
         held = {one.centre for one in self.books.held.values()}
@@ -305,12 +334,13 @@ class Tried(history.History):
     def play_all(self):
         for turn in range(self.calls):
             words = "adopt 2" if turn == self.adopted_at else self.words(turn)
-            answer = list(self.answer(words))
+            words, answer = self.noted(turn, words)
             self.ask(words, answer)
             self.try_all()
             if answer == ["DONE"]:
                 self.ask_bills_of_all("bill")
         self.ask_of_all_periods()
+        self.ask_of_the_journal()
 
 
 def main(histories, calls, script=None):

@@ -81,7 +81,7 @@ module _ (day : ℤ) (number count passed : ℕ) (tables : Tables)
   -- where no more are left, no text is found
   pub text_none : count ≤ passed → FindsText day number count tables None
   text_none past = λ rows are.
-      let all = are.count in
+      let all = are.many in
       sym (before rows are ∙ ap (text_among day) (drop_all passed rows (omega (arith, all, past))))
 
   module _ (tariff : StoredReplaced) (found : FindsReplaced (passed + 1) tables (Some tariff)) where
@@ -232,7 +232,7 @@ module _ {summary : Summary} {book : Book} (remembers : Remembers summary book) 
   rows_are : AreReplaced (map replaced_row gone) summary.replaced kept
   rows_are = record {
     table = refl;
-    count = length-map gone replaced_row ∙ sym remembers.replaced;
+    many = length-map gone replaced_row ∙ sym remembers.replaced;
   }
 
   -- a tariff of a day

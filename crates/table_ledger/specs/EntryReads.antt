@@ -21,7 +21,7 @@ use Rattle.table_ledger.specs.declared.summary.Summary.{Summary}
 -- the rows of the tariffs that were replaced, so many of them
 pub record AreReplaced (rows : List ReplacedRow) (count : ℕ) (tables : Tables) : Type 0 where
   pub table : tables.replaced ≡ from_entries (under_numbers 1 rows)
-  pub count : length rows ≡ count
+  pub many : length rows ≡ count
 
 -- the text of the first of some that begins on a day
 abbrev pub text_among : ℤ → List ReplacedRow → Option (List ℕ)

@@ -32,10 +32,10 @@ remark_said (Some text) = text.now
 
 -- The note has the person whom the words name, if they name one, their remark, and the name of the
 -- file.
-pub record SaysSo (said : NoteWords) (file : List ℕ) (note : GivenNote) : Type 0 where
-  pub person : IfSome said.by (λ name. string_bytes note.person ≡ name.now)
+pub record SaysSo (said : NoteWords) (name : List ℕ) (note : GivenNote) : Type 0 where
+  pub person : IfSome said.by (λ person. string_bytes note.person ≡ person.now)
   pub remark : string_bytes note.remark ≡ remark_said said.remark
-  pub file : string_bytes note.file ≡ file_shown file
+  pub file : string_bytes note.file ≡ file_shown name
 
 abbrev pub IsNoteBy : NoteWords → List ℕ → Option GivenNote → Type 0
 IsNoteBy said file None = ⊥
