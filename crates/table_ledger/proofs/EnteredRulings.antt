@@ -16,13 +16,8 @@ pub does_ruling : {T U : Type 0} {first middle last : State} {When : Tables → 
     (result : Result U StoreError) → Does (Ok done) first middle When change → given ≡ place
     → Does result middle last NumbersEntries (enter_row noted given)
     → DoesRuling result first last When change noted place
-<<<<<<< HEAD
 does_ruling {middle = middle} {last = last} {When = When} {change = change} noted result early same
     enters =
-=======
-does_ruling {middle = middle} {last = last} {When = When} {change = change} {noted = noted} result
-    early same enters =
->>>>>>> 6189bf1bc806afea65c9fb799de5e154fb9a97f9
     does_then {When = λ tables. When tables × NumbersEntries (change tables)} result early
     (subst (λ place. Does result middle last NumbersEntries (enter_row noted place)) same enters)
     (λ tables known. known)
