@@ -63,7 +63,10 @@ rest_is : (rows : List ReplacedRow) (place : ℕ) (row : ReplacedRow)
     → slice_get rows place ≡ Some row → drop place rows ≡ row ∷ drop (place + 1) rows
 rest_is [] place row is = cc
 rest_is (first ∷ later) zero row is = ap (λ found. unwrap_or found first ∷ later) is
-rest_is (first ∷ later) (suc place) row is = rest_is later place row is
+rest_is (first ∷ later) (suc place) row is =
+    let same : suc (place + 1) ≡ suc place + 1 = omega arith in
+    rest_is later place row is
+    ∙ ap {B = List ReplacedRow} (λ n. row ∷ drop n (first ∷ later)) same
 
 -- of the rows behind some, as many are passed as the number says
 abbrev pub PassedTo : ℤ → ℕ → ℕ → ℕ → Tables → Type 0
