@@ -13,10 +13,10 @@ pub returns-in-Going-clause-shown : goal.returns-in-Going-clause-shown
 returns-in-Going-clause-shown g c =
     rw c.in-Going.is
     (ap (ImportDone (reading_shown c.in-Going.reading) None)
-    (rw c.deref.ensures.value at c.count_kept.ensures))
+    (rw c.deref-in-Going.ensures.value at c.count_kept-in-Going.ensures))
 
 pub returns-in-Ended-clause-shown : goal.returns-in-Ended-clause-shown
 returns-in-Ended-clause-shown g c =
     rw c.in-Ended.is
     (ap (ImportDone (reading_shown c.in-Ended.reading) (Some (ending_shown c.in-Ended.ending)))
-    (rw c.deref-2.ensures.value at c.count_kept-2.ensures))
+    (rw c.deref-in-Ended.ensures.value at c.count_kept-in-Ended.ensures))
