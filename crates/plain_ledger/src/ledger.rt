@@ -77,9 +77,9 @@ impl<N: Naming + Drop> PlainLedger<N> {
     }
 
     /// What a ruling says with its note, if it is done.
-    fn noted(&self, ruling: Ruling<'_>, note: &Note) -> Result<Option<Said>, AllocError>
+    fn noted(&self, ruling: &Ruling<'_>, note: &Note) -> Result<Option<Said>, AllocError>
         ensures { IfOk result (λ said. said_all said (entries_in self.now.journal)
-            ≡ entries_ruled (Some (note_shown note.now)) (ruling_asked ruling.entry)
+            ≡ entries_ruled (Some (note_shown note.now)) (ruling_asked ruling.now)
             (book_in self.now.books).rulings (entries_in self.now.journal)) }
     {
         let copy = copied_note(self.alloc, note)?;
@@ -88,9 +88,9 @@ impl<N: Naming + Drop> PlainLedger<N> {
     }
 
     /// What a ruling says, if it is done: nothing where it has no note.
-    fn said_of(&self, ruling: Ruling<'_>, note: &Option<Note>) -> Result<Option<Said>, AllocError>
+    fn said_of(&self, ruling: &Ruling<'_>, note: &Option<Note>) -> Result<Option<Said>, AllocError>
         ensures { IfOk result (λ said. said_all said (entries_in self.now.journal)
-            ≡ entries_ruled (note_given note.now) (ruling_asked ruling.entry)
+            ≡ entries_ruled (note_given note.now) (ruling_asked ruling.now)
             (book_in self.now.books).rulings (entries_in self.now.journal)) }
     {
         match note {
@@ -102,14 +102,14 @@ impl<N: Naming + Drop> PlainLedger<N> {
     /// Makes a ruling, and its entry, if it has a note.
     fn make_entered(
         &mut self,
-        ruling: Ruling<'_>,
+        ruling: &Ruling<'_>,
         note: &Option<Note>,
     ) -> Result<Ruled, LedgerFault>
-        requires { MayBeAsked (ruling_asked ruling) }
+        requires { MayBeAsked (ruling_asked ruling.now) }
         ensures books { IsPlainCall (λ ruled. ruled) self.old.books self.new.books result
-            (rule_outcome (N.name_of (naming_in self.old.books)) None (ruling_asked ruling.entry)) }
+            (rule_outcome (N.name_of (naming_in self.old.books)) None (ruling_asked ruling.now)) }
         ensures said { entries_in self.new.journal ≡ after_ruling (note_given note.now)
-            (ruling_asked ruling.entry) (book_in self.old.books).rulings result
+            (ruling_asked ruling.now) (book_in self.old.books).rulings result
             (entries_in self.old.journal) }
     {
         let said = self.said_of(ruling, note)?;
@@ -189,7 +189,30 @@ impl<N: Naming + Drop> Ledger for PlainLedger<N> {
     ghost seen = { seen_in };
 
     fn rule(&mut self, ruling: Ruling<'_>, note: &Option<Note>) -> Result<Ruled, LedgerFault> {
-        self.make_entered(ruling, note)
+        match ruling {
+            Ruling::Tariff(text) => self.make_entered(&Ruling::Tariff(text), note),
+            Ruling::Close { period, through } => {
+                self.make_entered(&Ruling::Close { period, through }, note)
+            }
+            Ruling::Choose(name) => self.make_entered(&Ruling::Choose(name), note),
+            Ruling::Adopt(rule) => self.make_entered(&Ruling::Adopt(rule), note),
+            Ruling::Replace(text) => self.make_entered(&Ruling::Replace(text), note),
+            Ruling::Withhold(name) => self.make_entered(&Ruling::Withhold(name), note),
+            Ruling::Credit {
+                period,
+                centre,
+                amount,
+                reason,
+            } => {
+                let credit = Ruling::Credit {
+                    period,
+                    centre,
+                    amount,
+                    reason,
+                };
+                self.make_entered(&credit, note)
+            }
+        }
     }
 
     fn accept(&mut self, bytes: &[u8]) -> Result<Accepted, LedgerFault> {

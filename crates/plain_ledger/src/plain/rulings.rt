@@ -20,12 +20,12 @@ impl<N: Naming + Drop> PlainBooks<N> {
     ghost use Rattle.plain_ledger.specs.Repricing.{cost_anew, ruled_by_cost};
 
     /// Makes a ruling.
-    pub(crate) fn make_ruling(&mut self, ruling: Ruling<'_>) -> Result<Ruled, LedgerFault>
-        requires { MayBeAsked (ruling_asked ruling) }
+    pub(crate) fn make_ruling(&mut self, ruling: &Ruling<'_>) -> Result<Ruled, LedgerFault>
+        requires { MayBeAsked (ruling_asked ruling.now) }
         ensures { IsPlainCall (λ ruled. ruled) self.old self.new result
-            (rule_outcome (N.name_of (naming_in self.old)) None (ruling_asked ruling.entry)) }
+            (rule_outcome (N.name_of (naming_in self.old)) None (ruling_asked ruling.now)) }
     {
-        match ruling {
+        match *ruling {
             Ruling::Tariff(text) => self.put_in_force(text),
             Ruling::Close { period, through } => self.close_period(period, through),
             Ruling::Choose(name) => self.choose_named(name),

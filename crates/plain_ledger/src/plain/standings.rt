@@ -33,11 +33,11 @@ impl<N: Naming + Drop> PlainBooks<N> {
     }
 
     /// Where a ruling will stand, if it is done.
-    pub(crate) fn standing_of(&self, ruling: Ruling<'_>) -> Result<Standing, AllocError>
+    pub(crate) fn standing_of(&self, ruling: &Ruling<'_>) -> Result<Standing, AllocError>
         ensures { IfOk result (λ standing. place_by standing
-            ≡ place_asked (ruling_asked ruling.entry) (book_in self.now).rulings) }
+            ≡ place_asked (ruling_asked ruling.now) (book_in self.now).rulings) }
     {
-        match ruling {
+        match *ruling {
             Ruling::Tariff(text) => Ok(Standing::Tariff(String::from_str(self.alloc, text)?)),
             Ruling::Close { .. } => Ok(Standing::Close(self.rulings.open_number())),
             Ruling::Choose(_) => Ok(Standing::Choice(self.choice_count())),

@@ -9,7 +9,7 @@ pub returns : goal.returns
 returns c =
     let share = c.args.share.now in
     let kept = c.in_ok-kept.ensures
-    ∙ ap (λ none. with (kept_of none) c.args.bytes.now) c.new.ensures.empty in
+    ∙ ap (λ none. with (kept_of none) c.args.bytes.now) c.new.ensures.items in
     let act = c.ended_where-act.ensures
     ∙ ap (λ kept. end_where share.ending c.args.whole
     (Importing (reading_shown share.reading) kept)) kept in

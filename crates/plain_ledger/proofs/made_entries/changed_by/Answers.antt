@@ -13,4 +13,4 @@ returns-in_ok-more-in-Import c =
     ∙ ap (end_where share.ending c.in-Import.whole)
     (c.read_in-read.ensures
     ∙ ap (read_on (reading_shown share.reading))
-    (rw c.deref.ensures.value at c.in_ok-more-in-Import.ensures)))
+    (rw c.deref-in-Import.ensures.value at c.in_ok-more-in-Import.ensures)))

@@ -13,7 +13,7 @@ pub returns-in-Going-clause-shown : goal.returns-in-Going-clause-shown
 returns-in-Going-clause-shown g c =
     rw c.in-Going.is
     (ap (ImportDone (reading_shown c.in-Going.reading) None)
-    (rw c.deref-in-Going.ensures.value at c.count_kept-in-Going.ensures))
+    (rw c.deref.ensures.value at c.count_kept.ensures))
 
 pub returns-in-Ended-clause-shown : goal.returns-in-Ended-clause-shown
 returns-in-Ended-clause-shown g c =
