@@ -12,7 +12,8 @@ use Rattle.book_core.proofs.ArrivalLemmas.{arrival_named}
 use Rattle.report_texts.specs.RecordTexts.{record_text}
 use Rattle.book_reports.specs.RecordReports.{before_found, came_entry, entry_after}
 use Rattle.book_reports.specs.RecordReports.{found_entry_outcome, record_answer}
-use Rattle.book_reports.proofs.Words.{LedgerFault, Memory, NoSuchRecord, Tells, Trail, answers}
+use Rattle.book_model.specs.declared.trail.Trail.{Trail}
+use Rattle.book_reports.proofs.Words.{LedgerFault, Memory, NoSuchRecord, Tells, answers}
 use Rattle.book_reports.proofs.Words.{answers_none, both_shown, by_names, read_as, read_then}
 use Rattle.book_reports.proofs.Words.{refused_next, same_value, shown, shown_by}
 

@@ -54,7 +54,7 @@ can_build = record {
           refl,
           (
             refl,
-            (refl, (refl, (refl, (refl, (refl, (refl, (refl, (refl, tt)))))))),
+            (refl, (refl, (refl, (refl, (refl, (refl, (refl, (refl, (refl, tt))))))))),
           ),
         ),
       ),
@@ -85,7 +85,10 @@ can_build = record {
                             λ root. storable _ _ _ _ root (lit< tt),
                             (
                               λ root. storable _ _ _ _ root (lit< tt),
-                              (λ root. storable _ _ _ _ root (lit< tt), tt),
+                              (
+                                λ root. storable _ _ _ _ root (lit< tt),
+                                (λ root. storable _ _ _ _ root (lit< tt), tt),
+                              ),
                             ),
                           ),
                         ),

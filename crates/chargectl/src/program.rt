@@ -205,7 +205,7 @@ fn go_over_records<S: AuditedRepository, F: Inputs, O: Writer + Drop>(
     asked: BookRequest<'_>,
     output: O,
 ) -> (Ended, O)
-    requires { GoesOverRecords asked.entry }
+    requires { GoesOverRecords asked }
     ensures { Does (F.held inputs.now) S.shelf asked.entry book.now place.old place.new
         (O.contents output) (O.contents result.1) (∥ HasFailed O.may_answer result.1 ∥₁) result.0 }
 {
@@ -237,7 +237,7 @@ fn look_into_books<S: AuditedRepository, F: Inputs, O: Writer + Drop>(
     asked: BookRequest<'_>,
     mut output: O,
 ) -> (Ended, O)
-    requires { LooksIntoBooks asked.entry }
+    requires { LooksIntoBooks asked }
     ensures { Does (F.held inputs.now) S.shelf asked.entry book.now place.old place.new
         (O.contents output) (O.contents result.1) (∥ HasFailed O.may_answer result.1 ∥₁) result.0 }
 {

@@ -257,7 +257,7 @@ module _ (naming : Naming) (tables : Tables) (whole : AreConsistent naming table
       elim (cases_Bool own) [
         | inl there ↦ absurd (never number (omega arith) (own_kept number row.act bytes there))
         | inr out ↦
-            let none = ap (λ b. cond b 1 0) out in
+            let none = ap {B = ℕ} (λ b. cond b 1 0) out in
             omega (arith, behind, rest, none)
       ]
 
@@ -278,11 +278,11 @@ module _ (naming : Naming) (tables : Tables) (whole : AreConsistent naming table
             let other = (came_there naming tables whole n bytes among).1 in
             let same : number ≡ n = same_Some number n (sym mine ∙ other) in
             absurd (omega (arith, above, same))) in
-            let one = ap (λ b. cond b 1 0) there in
+            let one = ap {B = ℕ} (λ b. cond b 1 0) there in
             omega (arith, behind, rest, one)
         | inr out ↦
             let rest = times_once (suc number) later bytes in
-            let none = ap (λ b. cond b 1 0) out in
+            let none = ap {B = ℕ} (λ b. cond b 1 0) out in
             omega (arith, behind, rest, none)
       ]
 
@@ -401,7 +401,8 @@ module _ (naming : Naming) (tables : Tables) (whole : AreConsistent naming table
       none-some n (sym none ∙ came))
   found_as name (Some n) came =
       let own = whole.came name n came in
-      found_some 0 (values tables.journal) name n each_says came own.numbered own.there
+      found_some 0 (values tables.journal) name n each_says came own.numbered
+      (omega (arith, own.there))
 
   pub came_are : tables.came ≡ (tables_of naming (book_in tables)).came
   came_are =

@@ -63,7 +63,7 @@ module _ (naming : Naming) (tables : Tables) (whole : AreConsistent naming table
 
   -- the closed ones are linked by what was charged at the end of each
   abbrev linked : IsReadable naming book
-  linked = record (consistent_are_readable naming tables whole) {
+  linked = record (consistent_are_readable.books naming tables whole) {
     past = record {
       charged = ends naming tables whole;
       past = book_past naming tables whole;

@@ -1,5 +1,5 @@
-//! Works that are withheld by the import by which their records came. No table says which these are: each
-//! record is asked for its entry.
+//! Works that are withheld by the import by which their records came. No table says which these are:
+//! each record is asked for its entry.
 
 ghost use Rattle.std.specs.Prelude.{◌≡◌, OnOk};
 ghost use Rattle.book_model.specs.Words.{note_given};

@@ -49,7 +49,8 @@ pub fn withhold_each<L: Ledger>(
     note: &Option<Note>,
 ) -> WorksTold
     ensures { IsTransition (L.seen ledger.old) (L.seen ledger.new)
-        (WithholdsSo (note_given note.now) (L.seen ledger.old).naming names.now result.counts result.refusal) }
+        (WithholdsSo (note_given note.now) (L.seen ledger.old).naming names.now result.counts
+        result.refusal) }
 {
     let mut counts = WorkCounts {
         withheld: 0,

@@ -9,6 +9,7 @@ use Rattle.book_model.specs.declared.answer.Ruled.{Ruled}
 use Rattle.book_model.specs.declared.answer.Ruled.TheVariants.{Done, Already}
 use Rattle.book_model.specs.declared.fault.LedgerFault.{LedgerFault}
 use Rattle.book_model.specs.declared.fault.LedgerFault.TheVariants.{Memory, Store}
+use Rattle.book_model.specs.declared.naming.Naming.{Ghosts}
 use Rattle.book_model.specs.declared.note.Share.{Share}
 use Rattle.book_model.specs.declared.note.Stop.{Stop}
 use Rattle.book_model.specs.Journal.{AdoptionOf, ChoiceOf, CloseOf, CreditOf, Entry, Note, Place}
@@ -30,14 +31,19 @@ use Rattle.book_model.specs.Words.{rule_outcome, tariff_answer, terms_in, told, 
 use Rattle.book_model.specs.Words.{withheld_answer}
 use Rattle.book_core.specs.Words.{AcceptsOf, IsTransition, TakesOf, Transition, first_of}
 use Rattle.book_core.specs.Words.{in_memory, is_store, listed}
-use Rattle.book_core.proofs.OpenAnswers.{accept_open}
+use Rattle.book_core.specs.Calls.{IsCall}
+use Rattle.book_core.proofs.OpenAnswers.{accept_open, ruling_open}
 use Rattle.book_core.proofs.RulingLemmas.{meant_by, replaced_by, said_by, withheld_by}
 use Rattle.book_core.proofs.SubmissionLemmas.{accepts_one, none_told}
-use Rattle.plain_ledger.specs.Journals.{entries_by, events_told, first_day, place_asked, said_after}
+use Rattle.plain_ledger.specs.Journals.{entries_by, entries_in, events_told, first_day}
+use Rattle.plain_ledger.specs.Journals.{place_asked, said_after}
 use Rattle.plain_ledger.specs.Journals.{said_from}
 use Rattle.plain_ledger.specs.declared.journal.Said.{Said}
-use Rattle.plain_ledger.specs.LedgerBook.{after_record, after_ruling, entries_ruled, with_entries}
-use Rattle.plain_ledger.proofs.PlainCallLemmas.{call_in_memory}
+use Rattle.plain_ledger.specs.declared.ledger.PlainLedger.{PlainLedger}
+use Rattle.plain_ledger.specs.LedgerBook.{after_record, after_ruling, entries_ruled, ledger_book}
+use Rattle.plain_ledger.specs.LedgerBook.{seen_in, with_entries}
+use Rattle.plain_ledger.specs.PlainBook.{IsPlainCall, book_in, naming_in}
+use Rattle.plain_ledger.proofs.PlainCallLemmas.{call_in_memory, ledger_call}
 
 -- ---- what calls said
 
@@ -172,6 +178,25 @@ ruled_call naming said asked old new entries later (Err fault) call is = record 
   answer = same_answer naming said asked old entries ∙ call.answer;
   book = λ i. with_entries (call.book i) (is i);
 }
+
+module _ {N : Type 0} {names : Ghosts N} where
+  -- as a call of the ledger
+  pub entered_call : (old new : PlainLedger N names) (said : Option Note) {given : RulingAsked}
+      (asked : RulingAsked) → given ≡ asked → (result : Result Ruled LedgerFault)
+      → IsPlainCall (λ (value : Ruled). value) old.books new.books result
+      (rule_outcome (names.name_of (naming_in old.books)) None given)
+      → entries_in new.journal
+      ≡ after_ruling said given (book_in old.books).rulings result (entries_in old.journal)
+      → IsCall (λ (value : Ruled). value) (seen_in old) (seen_in new) result
+      (rule_outcome (names.name_of (naming_in old.books)) said asked)
+  entered_call old new said {given} asked same result books told =
+      let naming = names.name_of (naming_in old.books) in
+      subst (λ (asked : RulingAsked). IsCall (λ (value : Ruled). value) (seen_in old) (seen_in new)
+      result (rule_outcome naming said asked)) same
+      (ledger_call (λ (value : Ruled). value) old new result (rule_outcome naming said given)
+      (ruling_open naming said (ledger_book old) given) books.naming
+      (ruled_call naming said given (book_in old.books) (book_in new.books)
+      (entries_in old.journal) (entries_in new.journal) result books.call told))
 
 -- ---- a record with what its import says
 

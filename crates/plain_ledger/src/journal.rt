@@ -158,7 +158,7 @@ impl Journal {
     }
 
     /// The entries, the oldest first.
-    pub(crate) fn entries(&self, alloc: Global) -> Result<Vec<MadeEntry>, LedgerFault>
+    pub(crate) fn entries(&self, alloc: Global) -> Result<Vec<MadeEntry>, AllocError>
         ensures { IfOk result (λ made. entries_made made.items ≡ spec.entries_in self.now) }
     {
         make_entries(alloc, &self.said)

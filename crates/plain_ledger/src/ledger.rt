@@ -189,7 +189,30 @@ impl<N: Naming + Drop> Ledger for PlainLedger<N> {
     ghost seen = { seen_in };
 
     fn rule(&mut self, ruling: Ruling<'_>, note: &Option<Note>) -> Result<Ruled, LedgerFault> {
-        self.make_entered(&ruling, note)
+        match ruling {
+            Ruling::Tariff(text) => self.make_entered(&Ruling::Tariff(text), note),
+            Ruling::Close { period, through } => {
+                self.make_entered(&Ruling::Close { period, through }, note)
+            }
+            Ruling::Choose(name) => self.make_entered(&Ruling::Choose(name), note),
+            Ruling::Adopt(rule) => self.make_entered(&Ruling::Adopt(rule), note),
+            Ruling::Replace(text) => self.make_entered(&Ruling::Replace(text), note),
+            Ruling::Withhold(name) => self.make_entered(&Ruling::Withhold(name), note),
+            Ruling::Credit {
+                period,
+                centre,
+                amount,
+                reason,
+            } => {
+                let credit = Ruling::Credit {
+                    period,
+                    centre,
+                    amount,
+                    reason,
+                };
+                self.make_entered(&credit, note)
+            }
+        }
     }
 
     fn accept(&mut self, bytes: &[u8]) -> Result<Accepted, LedgerFault> {

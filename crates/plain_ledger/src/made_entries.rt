@@ -11,7 +11,7 @@ ghost use Rattle.plain_ledger.specs.MadeEntries.{act_of, entries_made, entry_of,
 
 use crate::journal::{Said, Standing};
 use book_core::{copied_note, ending_of};
-use book_model::{Ending, LedgerFault, Note, Place, Reading, Share, Stop};
+use book_model::{Ending, Note, Place, Reading, Share, Stop};
 use std::alloc::{AllocError, Global};
 use tariff_rules::Tariff;
 
@@ -34,26 +34,26 @@ pub(crate) struct MadeEntry {
 }
 
 /// The number behind one.
-fn next_number(before: u32) -> Result<u32, LedgerFault>
+fn next_number(before: u32) -> Result<u32, AllocError>
     ensures { IfOk result (λ number. number ≡ before + 1) }
 {
-    let number = before.checked_add(1).ok_or(LedgerFault::Memory)?;
+    let number = before.checked_add(1).ok_or(AllocError)?;
     Ok(number)
 }
 
 /// The first day of a tariff that was taken, by its text.
-fn tariff_day(alloc: Global, text: &str) -> Result<i32, LedgerFault>
+fn tariff_day(alloc: Global, text: &str) -> Result<i32, AllocError>
     ensures { IfOk result (λ day. day ≡ first_day (terms_in text.now)) }
 {
     match Tariff::parse(alloc, text) {
         Ok(tariff) => Ok(tariff.effective()),
         // Its text was read before: only memory can be too little.
-        Err(_) => Err(LedgerFault::Memory),
+        Err(_) => Err(AllocError),
     }
 }
 
 /// Where a ruling stands.
-fn place_of(alloc: Global, standing: &Standing) -> Result<Place, LedgerFault>
+fn place_of(alloc: Global, standing: &Standing) -> Result<Place, AllocError>
     ensures { IfOk result (λ place. place_shown place ≡ place_by standing.now) }
 {
     match standing {
@@ -158,7 +158,7 @@ fn begun_if(
 }
 
 /// The entry of a ruling.
-fn begun_ruling(alloc: Global, note: &Note, standing: &Standing) -> Result<MadeEntry, LedgerFault>
+fn begun_ruling(alloc: Global, note: &Note, standing: &Standing) -> Result<MadeEntry, AllocError>
     ensures { IfOk result (λ made. entry_of made ≡ spec.begun_ruling note.now standing.now) }
 {
     let note = copied_note(alloc, note)?;
@@ -168,7 +168,7 @@ fn begun_ruling(alloc: Global, note: &Note, standing: &Standing) -> Result<MadeE
 }
 
 /// The entry that begins with what a call said, if one does.
-fn begun_by(alloc: Global, said: &Said) -> Result<Option<MadeEntry>, LedgerFault>
+fn begun_by(alloc: Global, said: &Said) -> Result<Option<MadeEntry>, AllocError>
     ensures { IfOk result (λ made. option_map entry_of made ≡ spec.begun_by said.now) }
 {
     match said {
@@ -196,7 +196,7 @@ fn changed_by(alloc: Global, act: MadeAct, said: &Said) -> Result<MadeAct, Alloc
 }
 
 /// The newest entry is about what one more call said, which begins none.
-fn change_last(alloc: Global, made: &mut Vec<MadeEntry>, said: &Said) -> Result<(), LedgerFault>
+fn change_last(alloc: Global, made: &mut Vec<MadeEntry>, said: &Said) -> Result<(), AllocError>
     requires { None ≡ spec.begun_by said.now }
     ensures { OnOk result (entries_made made.new.items
         ≡ said_after said.now (entries_made made.old.items)) }
@@ -213,7 +213,7 @@ fn change_last(alloc: Global, made: &mut Vec<MadeEntry>, said: &Said) -> Result<
 }
 
 /// Entries with what one more call said.
-fn join(alloc: Global, made: &mut Vec<MadeEntry>, said: &Said) -> Result<(), LedgerFault>
+fn join(alloc: Global, made: &mut Vec<MadeEntry>, said: &Said) -> Result<(), AllocError>
     ensures { OnOk result (entries_made made.new.items
         ≡ said_after said.now (entries_made made.old.items)) }
 {
@@ -225,7 +225,7 @@ fn join(alloc: Global, made: &mut Vec<MadeEntry>, said: &Said) -> Result<(), Led
 }
 
 /// The entries of what calls said, the oldest first.
-pub(crate) fn make_entries(alloc: Global, said: &[Said]) -> Result<Vec<MadeEntry>, LedgerFault>
+pub(crate) fn make_entries(alloc: Global, said: &[Said]) -> Result<Vec<MadeEntry>, AllocError>
     ensures { IfOk result (λ made. entries_made made.items ≡ said_from [] said.now) }
 {
     let mut made = Vec::new(alloc);

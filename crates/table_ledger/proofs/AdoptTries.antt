@@ -30,7 +30,8 @@ done_by rulings rule done =
     eqb-true rule second_rule (is_second (rule == rule_by rulings) (rule == second_rule) done)
 
 -- An adoption that is answered Done is an event.
-pub adopt_is_event : {naming : Naming} {view : View} (noted : Option Note) (was : Summary) (rule : ℕ)
+pub adopt_is_event : {naming : Naming} {view : View} (noted : Option Note) (was : Summary)
+    (rule : ℕ)
     → adopt_answer (ruled_in was.rulings) rule ≡ Ok Done → (period : ℕ) (through : Option ℤ)
     → period ≡ open_by (ruled_in was.rulings) → through ≡ last_close (ruled_in was.rulings)
     → (book : Book) → IsAt naming was view book

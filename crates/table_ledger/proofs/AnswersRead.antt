@@ -1,6 +1,6 @@
 -- What an import has read, with the answers to its records counted one after another.
-use Rattle.std.proofs.Common.{◌≡◌, ◌∙◌, ◌+◌, ◌<◌, ◌++◌, ℕ, List, [], ◌∷◌, ap, get_or, length, refl, sym}
-use Rattle.std.proofs.Common.{take}
+use Rattle.std.proofs.Common.{◌≡◌, ◌∙◌, ◌+◌, ◌<◌, ◌++◌, ℕ, List, [], ◌∷◌, ap, get_or, length}
+use Rattle.std.proofs.Common.{refl, sym, take}
 use Rattle.book_model.proofs.Std.{take_more}
 use Rattle.book_model.specs.declared.answer.Accepted.{Accepted}
 use Rattle.book_model.specs.declared.answer.Accepted.TheVariants.{Kept, Known, Unpriced}
@@ -8,7 +8,8 @@ use Rattle.book_model.specs.Words.{Reading, read_with}
 
 -- one after others
 read_behind : (answers : List Accepted) (answer : Accepted) (reading : Reading)
-    → read_with (answer ∷ []) (read_with answers reading) ≡ read_with (answers ++ answer ∷ []) reading
+    → read_with (answer ∷ []) (read_with answers reading)
+    ≡ read_with (answers ++ answer ∷ []) reading
 read_behind [] answer reading = refl
 read_behind (Kept ∷ later) answer reading = read_behind later answer reading
 read_behind (Known ∷ later) answer reading =

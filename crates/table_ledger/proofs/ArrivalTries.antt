@@ -1,13 +1,14 @@
 -- A record with the entry by which it came, by its name: what is found is what the book has.
-use Rattle.std.proofs.Common.{◌≡◌, ◌∙◌, ◌+◌, ◌||◌, ℕ, Bool, List, [], ◌∷◌, None, Option, Some, ap, cond}
-use Rattle.std.proofs.Common.{false, find, is_some, length, map, not, option_map, refl, sym, true}
+use Rattle.std.proofs.Common.{◌≡◌, ◌∙◌, ◌+◌, ◌||◌, ℕ, Bool, List, [], ◌∷◌, None, Option, Some, ap}
+use Rattle.std.proofs.Common.{cond, false, find, is_some, length, map, not, option_map, refl, sym, true}
 use Rattle.std.proofs.Common.{subst, true≢false, unwrap_or}
 use Rattle.std.proofs.Math.Bool.{or-true}
 use Rattle.std.specs.List.{AllByRecursion}
 use Rattle.std.specs.Ordering.{is_lt}
 use Rattle.std.specs.declared.cmp.Ordering.TheVariants.{Less}
 use Rattle.book_model.proofs.Std.{IsStrictlySortedBy, exact_bytes, get, get-from_entries, list_any}
-use Rattle.book_model.proofs.Std.{nat_list_cmp_total, option_map_or, tells_apart}
+use Rattle.book_model.proofs.Std.{nat_list_cmp_total, option_map_or, sorted_head, sorted_tail}
+use Rattle.book_model.proofs.Std.{tells_apart}
 use Rattle.book_model.specs.declared.entry.Arrival.{Arrival}
 use Rattle.book_model.specs.Words.{Book, Entry, Naming, Records, arrival_at, arrival_from, arrivals}
 use Rattle.book_model.specs.Words.{by_bytes, came_by, has, is_from, kept_by, members, name_of}
@@ -32,14 +33,16 @@ use Rattle.std.specs.FinMap as fin
 -- ---- the first of names that rise
 
 -- what is said of all is said of each
-of_each : {P : List ℕ → Type 0} (name : List ℕ) (names : List (List ℕ)) → AllByRecursion P names
+of_each : (P : List ℕ → Type 0) (name : List ℕ) (names : List (List ℕ)) → AllByRecursion P names
     → list_any (is name) names ≡ true → P name
-of_each name [] all there = absurd (true≢false (sym there))
-of_each {P} name (first ∷ rest) all there = by (is name first) refl there
+of_each P name [] all there = absurd (true≢false (sym there))
+of_each P name (first ∷ rest) all there =
+    by (is name first) refl there (of_each P name rest all.1)
   where
-    by : (same : Bool) → is name first ≡ same → (same || list_any (is name) rest) ≡ true → P name
-    by true same there = subst P (sym (tells_apart exact_bytes name first same)) all.0
-    by false other there = of_each name rest all.1 there
+    by : (same : Bool) → is name first ≡ same → (same || list_any (is name) rest) ≡ true
+        → (list_any (is name) rest ≡ true → P name) → P name
+    by true same there later = subst P (sym (tells_apart exact_bytes name first same)) all.0
+    by false other there later = later there
 
 -- the least of those from some bytes on is found first
 least_found : (from name : List ℕ) (names : List (List ℕ)) → IsStrictlySortedBy by_bytes names
@@ -47,11 +50,10 @@ least_found : (from name : List ℕ) (names : List (List ℕ)) → IsStrictlySor
     → ((other : List ℕ) → list_any (is other) names ≡ true → is_from from other ≡ true
     → is_from name other ≡ true)
     → find (is_from from) names ≡ Some name
-unfolding IsStrictlySortedBy
 least_found from name [] rise there reached least = absurd (true≢false (sym there))
 least_found from name (first ∷ rest) rise there reached least =
-    by (is name first) refl rise.0
-    (λ later. least_found from name rest rise.1 later reached
+    by (is name first) refl (sorted_head by_bytes first rest rise)
+    (λ later. least_found from name rest (sorted_tail by_bytes first rest rise) later reached
     (λ other among high.
     least other (ap (λ b. is other first || b) among ∙ or-true (is other first)) high))
     there
@@ -64,7 +66,7 @@ least_found from name (first ∷ rest) rise there reached least =
     late true on below later found =
         let own = ap (λ b. b || list_any (is first) rest) (is_itself first) in
         let less : by_bytes first name ≡ Less =
-        of_each {P = λ other. by_bytes first other ≡ Less} name rest below later in
+        of_each (λ other. by_bytes first other ≡ Less) name rest below later in
         absurd (true≢false (sym (least first own on) ∙ ap (λ order. not (is_lt order)) less))
     late false on below later found = found
 
@@ -146,7 +148,8 @@ module _ (naming : Naming) (book : Book) (whole : IsReadable naming book)
       ∙ ap (λ found. unwrap_or (else_find found before) 0)
       (own_value naming book whole.sound bytes there number own among)
       ∙ elim (has own bytes) as (λ b.
-      unwrap_or (else_find (cond b (Some number) None) before) 0 ≡ cond b number (came_by older bytes)) [
+      unwrap_or (else_find (cond b (Some number) None) before) 0
+      ≡ cond b number (came_by older bytes)) [
         | true ↦ refl
         | false ↦ rest
       ]

@@ -7,8 +7,8 @@ use Rattle.book_core.specs.Words.{choice_effects, ruled_in, LeavesOpen}
 use Rattle.book_core.specs.declared.effects.ChoiceEffects.{ChoiceEffects}
 use Rattle.book_core.specs.declared.effects.Effects.{Effects}
 use Rattle.book_model.specs.Journal.{ChoiceOf}
-use Rattle.book_model.specs.Words.{Book, IsAnswered, Naming, Note, RecordChosen, last_close, open_by, choose_answer}
-use Rattle.book_model.specs.Words.{choose_outcome, chosen_answer, if_done, most_choices}
+use Rattle.book_model.specs.Words.{Book, IsAnswered, Naming, Note, RecordChosen, last_close}
+use Rattle.book_model.specs.Words.{open_by, choose_answer, choose_outcome, chosen_answer, if_done, most_choices}
 use Rattle.book_model.specs.Words.{RulingGiven, record_named}
 use Rattle.book_model.specs.declared.fault.LedgerFault.TheVariants.{NoSuchRecord}
 use Rattle.table_model.specs.Changed.{chosen_at, rows_changed}
@@ -179,7 +179,8 @@ module _ (naming : Naming) (was : Summary) (name : List ℕ) (view : View) (book
             entries_numbered naming book noted ruling readable answered made,
           );
           submitted = tt;
-          changes = ruling_entered naming book noted ruling readable answered made (ap ChoiceOf count);
+          changes = ruling_entered naming book noted ruling readable answered made
+              (ap ChoiceOf count);
           remembers = λ follows summary says. record {
             rulings = says.rulings ∙ ready.remembers.rulings;
             choices = says.choices ∙ count ∙ sym (length-append book.rulings.choices _);

@@ -3,8 +3,8 @@ use Rattle.std.proofs.Common.{◌≡◌, ◌∙◌, ℕ, suc, ◌+◌, ◌≤◌
 use Rattle.std.proofs.Common.{false, Ok, Option, None, Some, arith, cond, is_some, map, subst, ℤ}
 use Rattle.std.proofs.Common.{Ordering, length-append}
 use Rattle.book_model.specs.Journal.{CloseOf}
-use Rattle.book_model.specs.Words.{IsDay, Book, Note, all_periods, open_number, open_period, PeriodClosed}
-use Rattle.book_model.specs.Words.{close_outcome, if_done, Naming, by_key, close_answer, IsSound}
+use Rattle.book_model.specs.Words.{IsDay, Book, Note, all_periods, open_number, open_period}
+use Rattle.book_model.specs.Words.{PeriodClosed, close_outcome, if_done, Naming, by_key, close_answer, IsSound}
 use Rattle.book_model.specs.Words.{last_close, with_close}
 use Rattle.book_model.proofs.Lemmas.{else_find, find-both, by_key_total, closed_open}
 use Rattle.book_core.specs.Words.{ruled_in}
@@ -53,12 +53,14 @@ none_next naming book number sound is place =
 
 -- A close that is answered Done is an event.
 pub close_is_event : {naming : Naming} (noted : Option Note) (was : Summary) {view : View}
-    (number : ℕ) (day : ℤ) (last : Option ℤ) → IsDay day → close_answer (ruled_in was.rulings) number day ≡ Ok Done
+    (number : ℕ) (day : ℤ) (last : Option ℤ) → IsDay day
+    → close_answer (ruled_in was.rulings) number day ≡ Ok Done
     → last ≡ last_close (ruled_in was.rulings) → (book : Book) → IsAt naming was view book
     → IsEvent (λ (ruled : Ruled). ruled) naming (close_outcome noted number day) Done
     (Says (with_close day (ruled_in was.rulings)) was.choices was.replaced was.credits was.held
     was.total)
-    (λ (tables : Tables). CanClose number last tables × NumbersEntries (closed_at number day tables))
+    (λ (tables : Tables). CanClose number last tables
+    × NumbersEntries (closed_at number day tables))
     (λ tables. enter_row noted (CloseOf number) (closed_at number day tables)) book
 close_is_event {naming = naming} noted was number day last is_day answer last_is book at =
     let done : close_answer book.rulings number day ≡ Ok Done =

@@ -49,7 +49,8 @@ module _ {naming : Naming} {view : View} (was : Summary) (credit : CreditText) (
       (nat_le most_credits (sym at.remembers.credits i)) credit.period credit.centre
 
   -- A credit that is answered Done is an event.
-  pub credit_is_event : (noted : Option Note) → IsCreditOf credit.centre credit.amount credit.reason.now
+  pub credit_is_event : (noted : Option Note)
+      → IsCreditOf credit.centre credit.amount credit.reason.now
       → credit_ruled (ruled_in was.rulings) given (nat_le most_credits was.credits) credit.period
       credit.centre ≡ Ok Done
       → IsEvent (λ (ruled : Ruled). ruled) naming

@@ -52,7 +52,8 @@ module _ (naming : Naming) (was : Summary) (stop : Stop) (newest : Newest) (foun
     found = λ clean book ready.
         let seen = saw.seen clean in
         let ending = stop_shown stop in
-        let at = record { kept = ready.kept; remembers = ready.remembers } in
+        let at : IsAt naming was old.view book =
+        record { kept = ready.kept; remembers = ready.remembers } in
         let joins = joins_in None none book at (seen.known (tables_of naming book) ready.kept.holds) in
         let same : after (ImportEnded ending) book ≡ book =
         ap (λ entries. record book { journal = entries }) (unended ending book.journal joins) in

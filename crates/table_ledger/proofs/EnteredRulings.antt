@@ -12,12 +12,12 @@ use Rattle.table_ledger.proofs.StepLemmas.{does_then}
 
 -- steps that write a ruling, and then its entry
 pub does_ruling : {T U : Type 0} {first middle last : State} {When : Tables → Type 0}
-    {change : Tables → Tables} {noted : Option Note} {place given : Place} {done : T}
+    {change : Tables → Tables} (noted : Option Note) {place given : Place} {done : T}
     (result : Result U StoreError) → Does (Ok done) first middle When change → given ≡ place
     → Does result middle last NumbersEntries (enter_row noted given)
     → DoesRuling result first last When change noted place
-does_ruling {middle = middle} {last = last} {When = When} {change = change} {noted = noted} result early
-    same enters =
+does_ruling {middle = middle} {last = last} {When = When} {change = change} noted result early same
+    enters =
     does_then {When = λ tables. When tables × NumbersEntries (change tables)} result early
     (subst (λ place. Does result middle last NumbersEntries (enter_row noted place)) same enters)
     (λ tables known. known)
@@ -25,7 +25,8 @@ does_ruling {middle = middle} {last = last} {When = When} {change = change} {not
 module _ (naming : Naming) (book : Book) (noted : Option Note) (ruling : Ruling)
     (whole : IsReadable naming book) (answered : IsAnswered naming (RulingGiven noted ruling) book)
     {made : Tables}
-    (is : made ≡ rows_changed naming book.rulings (RulingGiven noted ruling) (tables_of naming book))
+    (is : made
+    ≡ rows_changed naming book.rulings (RulingGiven noted ruling) (tables_of naming book))
   where
     abbrev tables : Tables
     tables = tables_of naming book

@@ -1,8 +1,8 @@
 -- Entries of the journal as they are listed: what looks find is what the book has.
-use Rattle.std.proofs.Common.{◌≡◌, ◌∙◌, ◌+◌, ◌-◌, ◌<◌, ◌≤◌, ℕ, zero, suc, ℤ, Bool, true, false, List}
-use Rattle.std.proofs.Common.{[], ◌∷◌, ◌++◌, None, Option, Some, All, ap, arith, cond, drop, filter}
-use Rattle.std.proofs.Common.{find, length, map, option_and_then, option_map, refl, slice_get, string_bytes}
-use Rattle.std.proofs.Common.{subst, sym, unwrap_or}
+use Rattle.std.proofs.Common.{◌≡◌, ◌∙◌, ◌+◌, ◌-◌, ◌<◌, ◌≤◌, ℕ, zero, suc, ℤ, Bool, true, false}
+use Rattle.std.proofs.Common.{List, [], ◌∷◌, ◌++◌, None, Option, Some, All, ap, arith, cond, drop, filter}
+use Rattle.std.proofs.Common.{find, length, map, option_and_then, option_map, refl, slice_get}
+use Rattle.std.proofs.Common.{string_bytes, subst, sym, unwrap_or}
 use Rattle.std.proofs.lemmas.Bool.Decides.{Decides-int_eq}
 use Rattle.std.proofs.lemmas.List.{drop-map, drop_all}
 use Rattle.std.proofs.lemmas.List.Elements.{All-drop}
@@ -63,7 +63,10 @@ rest_is : (rows : List ReplacedRow) (place : ℕ) (row : ReplacedRow)
     → slice_get rows place ≡ Some row → drop place rows ≡ row ∷ drop (place + 1) rows
 rest_is [] place row is = cc
 rest_is (first ∷ later) zero row is = ap (λ found. unwrap_or found first ∷ later) is
-rest_is (first ∷ later) (suc place) row is = rest_is later place row is
+rest_is (first ∷ later) (suc place) row is =
+    let same : suc (place + 1) ≡ suc place + 1 = omega arith in
+    rest_is later place row is
+    ∙ ap {B = List ReplacedRow} (λ n. row ∷ drop n (first ∷ later)) same
 
 -- of the rows behind some, as many are passed as the number says
 abbrev pub PassedTo : ℤ → ℕ → ℕ → ℕ → Tables → Type 0
@@ -93,8 +96,8 @@ module _ (day : ℤ) (number count passed : ℕ) (tables : Tables)
     next_is begins is rows are =
         let row : ReplacedRow = (replaced_entry tariff).1 in
         ap (text_among day) (rest_is rows passed row (row_found are passed tariff found))
-        ∙ ap (λ b. cond b (Some (string_bytes tariff.body)) (text_among day (drop (passed + 1) rows)))
-        is
+        ∙ ap (λ b. cond b (Some (string_bytes tariff.body))
+        (text_among day (drop (passed + 1) rows))) is
 
     -- it begins on the day,
     pub text_found : int_eq day (replaced_entry tariff).1.day ≡ true
@@ -345,5 +348,6 @@ module _ {summary : Summary} {book : Book} (remembers : Remembers summary book) 
       ∙ find-numbers 1 (number + 1) number rows (omega arith) in
       by_row number
       ∙ ap (option_map (row_listed naming book.rulings (number + 1))) (sym (found ∙ at))
-      ∙ ap {B = Option EntrySeen} (λ act. Some (record { number = number + 1; note = row.note; act = act }))
+      ∙ ap {B = Option EntrySeen} (λ act.
+      Some (record { number = number + 1; note = row.note; act = act }))
       (sym (act_is row.act act shows))

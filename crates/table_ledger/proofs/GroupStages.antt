@@ -73,7 +73,7 @@ begun_all naming (Some share) book are = begun_are naming (note_shown share.note
 
 -- What is written but for the sums and the entries is the same, where records came by the same
 -- entries.
-module _ {held amount : ℕ} {rows : JournalTable} {naming : Naming} {is : Summary} {view : View} where
+module _ (held amount : ℕ) (rows : JournalTable) (naming : Naming) (is : Summary) (view : View) where
   abbrev Written : Book → Type 0
   Written book = IsAtAs (before_entry held amount rows) naming is view book
 
@@ -141,7 +141,7 @@ begun_at : {naming : Naming} {was : Summary} {view : View} {book : Book} (import
     → IsAtAs (before_entry was.held was.total (rows_table book.journal)) naming was view
     (begun_book import book)
 begun_at {naming} {was} {view} {book} import at =
-    still_at book (record {
+    still_at was.held was.total (rows_table book.journal) naming was view book (record {
       kept = record {
         readable = at.kept.readable;
         journaled = at.kept.journaled;
@@ -162,8 +162,8 @@ refuses_beside naming records book entries (Err fault) refuses =
 
 -- ---- the sums and the entry
 
-module _ {naming : Naming} {joined : Option Joined} {import : Option Share} {count : ℕ}
-    {records : List (List ℕ)} {was is : Summary} {first second : State} {came : Option ℕ}
+module _ (naming : Naming) (joined : Option Joined) (import : Option Share) (count : ℕ)
+    (records : List (List ℕ)) (was is : Summary) (first second : State) (came : Option ℕ)
     (joins_is : came ≡ option_map {U = ℕ} (λ (one : Joined). one.number) joined) where
   -- they are staged one after another
   abbrev Each : List Accepted → Result (Result (Unit {0}) LedgerFault) StoreError → Type 0
@@ -212,7 +212,8 @@ module _ {naming : Naming} {joined : Option Joined} {import : Option Share} {cou
             accepted_new naming records answers false begun events false accepts in
             let left : Book = after_all (told_by import whole answers events) book in
             let tables : Tables = tables_of naming left in
-            let all = told_at import whole answers events book at.kept.journaled
+            let all = told_at was.held was.total (rows_table book.journal) naming is second.view import
+            whole answers events book at.kept.journaled
             (record { kept = staged.kept; remembers = staged.remembers is refl }) in
             let now = (staged.remembers is refl).held in
             let before = at.remembers.held in
@@ -308,8 +309,8 @@ module _ {naming : Naming} {joined : Option Joined} {import : Option Share} {cou
 
 -- ---- the entry that was found before them
 
-module _ {naming : Naming} {import : Option Share} {count : ℕ} {records : List (List ℕ)}
-    {was is : Summary} {first middle last : State} {newest : Newest} (joined : Option Joined)
+module _ (naming : Naming) (import : Option Share) (count : ℕ) (records : List (List ℕ))
+    (was is : Summary) (first middle last : State) (newest : Newest) (joined : Option Joined)
     (saw : Saw first middle (λ tables. FindsNewest tables newest))
     (is_joined : option_map joined_entry joined
     ≡ joining import newest.number (option_map entry_stored newest.entry)) where

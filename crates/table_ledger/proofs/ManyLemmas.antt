@@ -52,11 +52,11 @@ kept_or_none bytes book (Ok Known) = refl
 kept_or_none bytes book (Ok Unpriced) = refl
 kept_or_none bytes book (Err fault) = refl
 
-joined_then : {naming : Naming} {bytes : List ℕ} {answer : Accepted} {book : Book}
-    {events : List Event} {came : Option ℕ} → came ≡ joined_by book.journal
+joined_then : (naming : Naming) (bytes : List ℕ) (answer : Accepted) (book : Book)
+    (events : List Event) {came : Option ℕ} → came ≡ joined_by book.journal
     → MakesOf (λ (accepted : Accepted). accepted) (accept_outcome naming bytes) (Ok answer) book events
     → came ≡ joined_by (after_all events book).journal
-joined_then {naming} {bytes} {answer} {book} {events} given made =
+joined_then naming bytes answer book events given made =
     given
     ∙ sym (ap (λ events. joined_by (after_all events book).journal) made.1
     ∙ kept_or_none bytes book (accept_answer naming book bytes))
@@ -119,8 +119,8 @@ more_taken {came} {written} {naming} {records} {rest} {bytes} {was} {is} {old} {
       (record { kept = staged.kept; remembers = staged.remembers is refl });
   joined = subst (λ (left : Book). came ≡ joined_by left.journal)
       (sym (after_all-append staged.events taken.events book))
-      (joined_then {naming = naming} {bytes = bytes} {answer = answer} {book = after_all taken.events book}
-      {events = staged.events} {came = came} taken.joined staged.made);
+      (joined_then naming bytes answer (after_all taken.events book) staged.events taken.joined
+      staged.made);
 }
 
 -- the first of the records are staged: these answers were given, and if there are none, this is why

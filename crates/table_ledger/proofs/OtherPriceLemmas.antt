@@ -125,8 +125,8 @@ module _ (terms : Terms) (test : CountTest) where
 
     module _ (more : RowSums) where
       -- the pass goes on
-      pub passed_on : ((passed : List NamedRow) (came : CameTable) (one : NamedRow) → row ≡ record_columns came one
-          → SumsUp sums (costs_of terms test passed) true
+      pub passed_on : ((passed : List NamedRow) (came : CameTable) (one : NamedRow)
+          → row ≡ record_columns came one → SumsUp sums (costs_of terms test passed) true
           → SumsUp more (costs_of terms test (passed ++ one ∷ [])) true)
           → PassedSo new more (steps + 1) tables
       passed_on adds = record {
@@ -139,8 +139,8 @@ module _ (terms : Terms) (test : CountTest) where
       }
 
       -- or stops, since with the next record all are too dear
-      pub passed_dear : ((passed : List NamedRow) (came : CameTable) (one : NamedRow) → row ≡ record_columns came one
-          → SumsUp sums (costs_of terms test passed) true
+      pub passed_dear : ((passed : List NamedRow) (came : CameTable) (one : NamedRow)
+          → row ≡ record_columns came one → SumsUp sums (costs_of terms test passed) true
           → SumsUp more (costs_of terms test (passed ++ one ∷ [])) false)
           → AreRowsOf (costs_of terms test (entries tables.records)) None
       passed_dear adds =

@@ -9,8 +9,8 @@ use Rattle.book_model.specs.declared.answer.Ruled.TheVariants.{Already}
 use Rattle.book_model.specs.declared.fault.LedgerFault.TheVariants.{NoSuchTariff, TariffDate}
 use Rattle.book_model.specs.declared.fault.LedgerFault.TheVariants.{TariffRefused}
 use Rattle.book_model.specs.Journal.{ReplacementOf}
-use Rattle.book_model.specs.Words.{AcceptedTerms, Book, IsDay, Naming, Note, RulingGiven, TariffReplaced}
-use Rattle.book_model.specs.Words.{Terms, has_text, if_done, is_after, is_effective, is_too_dear}
+use Rattle.book_model.specs.Words.{AcceptedTerms, Book, IsDay, Naming, Note, RulingGiven}
+use Rattle.book_model.specs.Words.{TariffReplaced, Terms, has_text, if_done, is_after, is_effective, is_too_dear}
 use Rattle.book_model.specs.Words.{is_under, last_close, most_cost, most_replaced, open_by}
 use Rattle.book_model.specs.Words.{replace_outcome, replace_ruled, replaced_in, replacing_answer}
 use Rattle.book_model.specs.Words.{terms_in, Rulings, with_replaced}
@@ -124,7 +124,8 @@ module _ (noted : Option Note) (summary : Summary) (text : List ℕ) (terms : Te
     readable = ready.kept.readable
 
     -- the answer to the text
-    answered : (replace_outcome noted text book).answer ≡ replace_ruled ruled (much || many) text terms
+    answered : (replace_outcome noted text book).answer
+        ≡ replace_ruled ruled (much || many) text terms
     answered =
         let dear : is_too_dear (with_replaced text terms book.rulings) book.held ≡ much =
         ap (nat_lt most_cost)
@@ -171,7 +172,8 @@ module _ (noted : Option Note) (summary : Summary) (text : List ℕ) (terms : Te
             (Says (in_its_place (record { text = Some text; terms = terms }) ruled) summary.choices
             (summary.replaced + 1) summary.credits summary.held amount)
             (λ tables. HasTextAndCounts terms was summary.held tables
-            × NumbersEntries (replaced_at (summary.replaced + 1) period tariffs text terms amount tables))
+            × NumbersEntries
+            (replaced_at (summary.replaced + 1) period tariffs text terms amount tables))
             (λ tables. enter_row noted (ReplacementOf (summary.replaced + 1))
             (replaced_at (summary.replaced + 1) period tariffs text terms amount tables)) book
         replace_is_event few amount known utf8 day period number_is was begun =
@@ -197,8 +199,8 @@ module _ (noted : Option Note) (summary : Summary) (text : List ℕ) (terms : Te
             let ruling = TariffReplaced text terms in
             let answer = sym (ap (replacing_answer book text) said) ∙ is_done in
             let made : replaced_at (summary.replaced + 1) period tariffs text terms amount tables
-            ≡ replaced_at (length book.rulings.replaced + 1) (open_by book.rulings) book.rulings.tariffs
-            text terms cost tables =
+            ≡ replaced_at (length book.rulings.replaced + 1) (open_by book.rulings)
+            book.rulings.tariffs text terms cost tables =
             λ i. replaced_at (count i) (number i) (its i) text terms (cost_is.1 i) tables in
             record {
               event = RulingGiven noted ruling;

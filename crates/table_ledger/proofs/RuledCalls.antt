@@ -20,7 +20,8 @@ pub record HasTried {S N : Type 0} {ghosts : Ghosts S} (name_of : N → Naming)
       (rule_outcome (name_of old.naming) noted (ruling_asked ruling)) tried
 
 module _ {S N : Type 0} {ghosts : Ghosts S} (name_of : N → Naming) (old new : TableLedger S N ghosts)
-    (noted : Option Note) (ruling : Ruling) (tried : Result (Result Ruled LedgerFault) StoreError) where
+    (noted : Option Note) (ruling : Ruling)
+    (tried : Result (Result Ruled LedgerFault) StoreError) where
   -- by what is so of the ruling that it is
   pub has_tried : (made : TableLedger S N ghosts) (own : Ruling)
       (given : Result (Result Ruled LedgerFault) StoreError) → new ≡ made → ruling ≡ own

@@ -115,7 +115,8 @@ module _ (noted : Option Note) (summary : Summary) (text : List ℕ) (terms : Te
           λ i. tariff_at (number i) (Some text) terms (cost_is.1 i) tables in
           record {
             event = RulingGiven noted ruling;
-            is = ap (if_done (said_by noted text (terms_in text))) is_done ∙ ap (said_by noted text) said;
+            is = ap (if_done (said_by noted text (terms_in text))) is_done
+                ∙ ap (said_by noted text) said;
             answer = is_done;
             answered = answer;
             when = (

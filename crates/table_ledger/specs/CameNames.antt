@@ -51,7 +51,8 @@ module _ (came : CameTable) (name : List ℕ) where
   rows_found (entry ∷ rows) =
       row_more entry.0 entry.1 rows (came_named came rows) (get came entry.0) refl (rows_found rows)
 
-module _ (naming : Naming) (book : Book) (sound : IsSound naming book) (are : IsJournaled book) where
+module _ (naming : Naming) (book : Book) (sound : IsSound naming book)
+    (are : IsJournaled book) where
   abbrev tables : Tables
   tables = tables_of naming book
 

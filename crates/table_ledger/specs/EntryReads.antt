@@ -69,7 +69,8 @@ ShowsPlace summary (ChoiceOf number) tables found =
     (0 < number) × (found ≡ choice_read_at number tables.choices)
 ShowsPlace summary AdoptionOf tables found =
     found ≡ option_map AdoptionSeen (ruled_in summary.rulings).adopted
-ShowsPlace summary (ReplacementOf number) tables found = ShowsReplacement summary number tables found
+ShowsPlace summary (ReplacementOf number) tables found =
+    ShowsReplacement summary number tables found
 ShowsPlace summary (CreditOf number) tables found =
     (0 < number) × (found ≡ credit_read_at number tables.credits)
 

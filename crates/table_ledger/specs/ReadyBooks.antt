@@ -16,8 +16,8 @@ use Rattle.table_ledger.specs.CameNames.{among_all}
 use Rattle.table_ledger.specs.TablesRead.{came_among, tables_read}
 use Rattle.table_ledger.specs.declared.summary.Summary.{Summary}
 
--- the book that tables determine does not depend on which names are counted; and but for its journal
--- on by which entries records came
+-- the book that tables determine does not depend on which names are counted; and but for its
+-- journal on by which entries records came
 past_alike : (counted : CountedTable) (came : CameTable) (tables : Tables) (k : ℕ)
     (charged : Records)
     → past_in k charged (record tables { counted = counted; came = came })

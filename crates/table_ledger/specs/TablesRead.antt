@@ -91,7 +91,8 @@ act_back number note (RulingRow (CreditOf credit)) = refl
 act_back number note (ImportRow reading ending kept) =
     ap (λ ending. ImportRow reading ending kept) (ending_back ending)
 
-entry_back : (number : ℕ) (row : JournalRow) → entry_in (journal_columns (number, row)) ≡ (number, row)
+entry_back : (number : ℕ) (row : JournalRow)
+    → entry_in (journal_columns (number, row)) ≡ (number, row)
 entry_back number row = λ i. (number, record row { act = act_back number row.note row.act i })
 
 -- and the number by which a record came

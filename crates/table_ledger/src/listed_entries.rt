@@ -78,8 +78,8 @@ fn listed_by(
     }
 }
 
-/// The tariff of a day that came first, or in the place of the one that was replaced under a number:
-/// it is the next of that day that was replaced, or the one in force.
+/// The tariff of a day that came first, or in the place of the one that was replaced under a
+/// number: it is the next of that day that was replaced, or the one in force.
 fn look_for_brought<S: Store>(
     tables: &mut TreeTables<S>,
     summary: &Summary,

@@ -38,17 +38,17 @@ module _ (tables : Tables) (from : List ℕ) where
       key_is (subst (λ some. IsFirst (from_key plain key some) row there) held begins))
 
   -- where no row is found, there is none
-  pub arrival_none : {row : Row} → ShowsFrom row false → FindsArrival from tables None
-  arrival_none missing = λ name row there. ap not (missing name row there)
+  pub arrival_none : (row : Row) → ShowsFrom row false → FindsArrival from tables None
+  arrival_none row missing = λ name row there. ap not (missing name row there)
 
   -- what is read of a row is the next
-  pub arrival_some : {row : Row} (arrival : Arrival) → ShowsFrom row true
+  pub arrival_some : (row : Row) (arrival : Arrival) → ShowsFrom row true
       → ((came : CameTable) (entry : List ℕ × RecordRow) → row ≡ record_columns came entry
       → arrival.name ≡ entry.0)
       → ((came : CameTable) (entry : List ℕ × RecordRow) → row ≡ record_columns came entry
       → arrival.entry ≡ unwrap_or (get came entry.0) 0)
       → FindsArrival from tables (Some arrival)
-  arrival_some arrival found named numbered =
+  arrival_some row arrival found named numbered =
       let name = named tables.came (found.0, found.1) found.3 in
       let number = numbered tables.came (found.0, found.1) found.3 in
       record {

@@ -3,7 +3,7 @@ use Rattle.std.proofs.Common.{◌≡◌, ◌≢◌, ◌∙◌, ℕ, List, [], �
 use Rattle.std.proofs.Common.{Err, IfOk, ap, cond, map, refl, sym}
 use Rattle.std.specs.FinMap.{entries, get, get-insert, insert}
 use Rattle.std.specs.List.{AllByRecursion}
-use Rattle.std.proofs.lemmas.Cmp.{nat_list_cmp_total}
+use Rattle.std.proofs.lemmas.Cmp.{eq_by_cmp_equiv, nat_list_cmp_total}
 use Rattle.std.proofs.lemmas.Map.Lookups.{exact_bytes}
 use Rattle.sqlite_trees.specs.declared.error.StoreError.{StoreError}
 use Rattle.sqlite_value.specs.Order.{Row, column}
@@ -43,9 +43,7 @@ pub came_own : (came : CameTable) (own : List ℕ) (number : ℕ)
     → get (insert came own number) own ≡ Some number
 came_own came own number =
     get-insert nat_list_cmp_total came own number own
-    ∙ by_tie nat_list_cmp_total exact_bytes own own
-    (λ b. cond b (Some number) (get came own)) (λ b. Some number)
-    (λ same. refl) (λ apart. absurd (apart refl))
+    ∙ ap (λ b. cond b (Some number) (get came own)) ((eq_by_cmp_equiv nat_list_cmp_total).refl own)
 
 -- the rows of some records, which all came by the entries that they came by
 rows_alike : (one other : CameTable) (list : List (List ℕ × RecordRow))

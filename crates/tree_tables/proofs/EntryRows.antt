@@ -1,6 +1,6 @@
 -- Entries of the journal, as they are read of their rows.
 use Rattle.std.proofs.Common.{◌≡◌, ◌∙◌, ℕ, ℤ, pos, List, [], ◌∷◌, ◌++◌, Option, None, Some, map}
-use Rattle.std.proofs.Common.{Bool, false, true, ap, refl, subst, sym}
+use Rattle.std.proofs.Common.{Bool, false, true, true≢false, ap, refl, subst, sym}
 use Rattle.std.specs.Prelude.{option_map, string_bytes}
 use Rattle.std.specs.FinMap.{entries, get}
 use Rattle.sqlite_value.specs.Order.{Row}
@@ -9,6 +9,7 @@ use Rattle.book_model.specs.Journal.{AdoptionOf, AtEnd, AtFrame, AtLedger, AtRea
 use Rattle.book_model.specs.Journal.{ChoiceOf, CloseOf, CreditOf, Ending, Note, Place, Reading}
 use Rattle.book_model.specs.Journal.{ReplacementOf, TariffOf}
 use Rattle.book_model.specs.Words.{ending_shown, note_shown, place_shown, reading_shown}
+use Rattle.book_model.specs.Words.{same_bytes}
 use Rattle.book_model.specs.declared.entry.Ending.{Ending as StoredEnding}
 use Rattle.book_model.specs.declared.note.Note.{Note as StoredNote}
 use Rattle.book_model.specs.declared.note.Reading.{Reading as StoredReading}
@@ -56,13 +57,17 @@ same_ending one other word number =
     sym (ending_back one) ∙ (λ i. ending_in (word i) (number i)) ∙ ending_back other
 
 -- no ruling has the word of an import
+other_word : (place : Place) → same_bytes (place_word place) import_word ≡ false
+other_word (TariffOf day) = refl
+other_word (CloseOf period) = refl
+other_word (ChoiceOf number) = refl
+other_word AdoptionOf = refl
+other_word (ReplacementOf number) = refl
+other_word (CreditOf number) = refl
+
 no_import : (place : Place) → place_word place ≡ import_word → ⊥
-no_import (TariffOf day) is = cc
-no_import (CloseOf period) is = cc
-no_import (ChoiceOf number) is = cc
-no_import AdoptionOf is = cc
-no_import (ReplacementOf number) is = cc
-no_import (CreditOf number) is = cc
+no_import place is =
+    true≢false (sym (ap (λ word. same_bytes word import_word) is) ∙ other_word place)
 
 -- ---- what is read of a row is what it is made of
 

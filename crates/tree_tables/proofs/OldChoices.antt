@@ -43,7 +43,7 @@ use Rattle.tree_tables.proofs.RowsRead.{all_entries, same_blob, same_count, told
 abbrev part_layout : Layout ℕ ChoiceRow nat_cmp
 part_layout = record {
   key = λ number. Int (pos number) ∷ [];
-  rest = λ choice.
+  rest = λ number choice.
       Blob choice.name ∷ Int (pos choice.period) ∷ mark_of_choice choice.counts;
   total = nat_cmp_total;
   exact = nat_cmp-IsAntisymmetric;

@@ -1,7 +1,7 @@
 -- The rows of the journal: the columns in which entries are kept, those of the key first. The row of
 -- a ruling ends after its place.
 use Rattle.std.specs.Prelude.{ℕ, ℤ, pos, List, [], ◌∷◌, ◌++◌, Option, None, Some}
-use Rattle.std.specs.Prelude.{if◌then◌else◌, option_map, string_bytes}
+use Rattle.std.specs.Prelude.{if◌then◌else◌, codes, option_map}
 use Rattle.sqlite_value.specs.Order.{Row}
 use Rattle.sqlite_value.specs.declared.value.Value.TheVariants.{Blob, Int, Null, Text}
 use Rattle.book_model.specs.Journal.{AdoptionOf, AtEnd, AtFrame, AtLedger, AtRead, AtReadLimit}
@@ -15,12 +15,12 @@ use Rattle.tree_tables.specs.declared.entry_rows.StoredEntry.{StoredEntry}
 
 -- the word for a ruling
 abbrev pub place_word : Place → List ℕ
-place_word (TariffOf day) = string_bytes "TARIFF"
-place_word (CloseOf period) = string_bytes "CLOSE"
-place_word (ChoiceOf number) = string_bytes "CHOICE"
-place_word AdoptionOf = string_bytes "ADOPTION"
-place_word (ReplacementOf number) = string_bytes "REPLACEMENT"
-place_word (CreditOf number) = string_bytes "CREDIT"
+place_word (TariffOf day) = codes "TARIFF"
+place_word (CloseOf period) = codes "CLOSE"
+place_word (ChoiceOf number) = codes "CHOICE"
+place_word AdoptionOf = codes "ADOPTION"
+place_word (ReplacementOf number) = codes "REPLACEMENT"
+place_word (CreditOf number) = codes "CREDIT"
 
 -- the number under which it stands, which the adoption has none of
 abbrev pub place_number : Place → ℤ
@@ -33,16 +33,16 @@ place_number (CreditOf number) = pos number
 
 -- the word for an import
 abbrev pub import_word : List ℕ
-import_word = string_bytes "IMPORT"
+import_word = codes "IMPORT"
 
 -- why an import ended, in a word, which is empty where it goes on or was cut off
 abbrev pub ending_word : Option Ending → List ℕ
 ending_word None = []
-ending_word (Some AtEnd) = string_bytes "END"
-ending_word (Some (AtFrame number)) = string_bytes "FRAME"
-ending_word (Some AtRead) = string_bytes "READ"
-ending_word (Some AtReadLimit) = string_bytes "READLIMIT"
-ending_word (Some (AtLedger number)) = string_bytes "LEDGER"
+ending_word (Some AtEnd) = codes "END"
+ending_word (Some (AtFrame number)) = codes "FRAME"
+ending_word (Some AtRead) = codes "READ"
+ending_word (Some AtReadLimit) = codes "READLIMIT"
+ending_word (Some (AtLedger number)) = codes "LEDGER"
 
 -- the number of the fault that ended it, or 0
 abbrev pub ending_number : Option Ending → ℕ
@@ -58,21 +58,21 @@ count_of n = 0
 -- the place that a word and a number stand for
 abbrev pub place_in : List ℕ → ℤ → Place
 place_in word number =
-    if same_bytes word (string_bytes "TARIFF") then TariffOf number
-    else if same_bytes word (string_bytes "CLOSE") then CloseOf (count_of number)
-    else if same_bytes word (string_bytes "CHOICE") then ChoiceOf (count_of number)
-    else if same_bytes word (string_bytes "REPLACEMENT") then ReplacementOf (count_of number)
-    else if same_bytes word (string_bytes "CREDIT") then CreditOf (count_of number)
+    if same_bytes word (codes "TARIFF") then TariffOf number
+    else if same_bytes word (codes "CLOSE") then CloseOf (count_of number)
+    else if same_bytes word (codes "CHOICE") then ChoiceOf (count_of number)
+    else if same_bytes word (codes "REPLACEMENT") then ReplacementOf (count_of number)
+    else if same_bytes word (codes "CREDIT") then CreditOf (count_of number)
     else AdoptionOf
 
 -- the end of an import that they stand for
 abbrev pub ending_in : List ℕ → ℕ → Option Ending
 ending_in word number =
-    if same_bytes word (string_bytes "END") then Some AtEnd
-    else if same_bytes word (string_bytes "FRAME") then Some (AtFrame number)
-    else if same_bytes word (string_bytes "READ") then Some AtRead
-    else if same_bytes word (string_bytes "READLIMIT") then Some AtReadLimit
-    else if same_bytes word (string_bytes "LEDGER") then Some (AtLedger number)
+    if same_bytes word (codes "END") then Some AtEnd
+    else if same_bytes word (codes "FRAME") then Some (AtFrame number)
+    else if same_bytes word (codes "READ") then Some AtRead
+    else if same_bytes word (codes "READLIMIT") then Some AtReadLimit
+    else if same_bytes word (codes "LEDGER") then Some (AtLedger number)
     else None
 
 -- the columns of a note
@@ -92,12 +92,15 @@ reading_columns reading kept =
     Blob reading.digest ∷ Int (pos reading.length) ∷ Int (pos kept) ∷ Int (pos reading.known)
     ∷ Int (pos reading.unpriced) ∷ other_columns reading
 
+-- those of why it ended
+abbrev pub ending_columns : Option Ending → Row
+ending_columns ending = Text (ending_word ending) ∷ Int (pos (ending_number ending)) ∷ []
+
 -- those of what an entry is about
 abbrev pub act_columns : RowAct → Row
 act_columns (RulingRow place) = Text (place_word place) ∷ Int (place_number place) ∷ []
 act_columns (ImportRow reading ending kept) =
-    Text import_word ∷ Null ∷ reading_columns reading kept
-    ++ Text (ending_word ending) ∷ Int (pos (ending_number ending)) ∷ []
+    Text import_word ∷ Null ∷ reading_columns reading kept ++ ending_columns ending
 
 -- an entry under its number
 abbrev pub journal_columns : ℕ × JournalRow → Row

@@ -6,7 +6,8 @@ ghost use Rattle.sqlite_value.specs.declared.value.Value.TheVariants.{Int, Text}
 ghost use Rattle.book_model.specs.Words.{ending_shown, note_shown, place_shown, reading_shown};
 ghost use Rattle.tree_tables.specs.EntriesRead.{SaysAct, SaysEntry, SaysNote, SaysReading};
 ghost use Rattle.tree_tables.specs.JournalColumns as spec;
-ghost use Rattle.tree_tables.specs.JournalColumns.{act_columns, act_stored, entry_given};
+ghost use Rattle.tree_tables.specs.JournalColumns.{act_columns, act_stored, ending_columns};
+ghost use Rattle.tree_tables.specs.JournalColumns.{entry_given};
 ghost use Rattle.tree_tables.specs.JournalColumns.{journal_columns, note_columns};
 ghost use Rattle.tree_tables.specs.JournalColumns.{reading_columns};
 
@@ -144,6 +145,14 @@ fn push_ruling(row: &mut Row, place: Place) -> Result<(), StoreError>
     Ok(())
 }
 
+/// Why an import ended joins the row of its entry.
+fn push_ending(row: &mut Row, ending: Option<Ending>) -> Result<(), StoreError>
+    ensures { OnOk result (row.new ≡ row.old ++ ending_columns (option_map ending_shown ending)) }
+{
+    row.push(ValueRef::Text(ending_word(ending).as_bytes()))?;
+    push_number(row, u64::from(ending_number(ending)))
+}
+
 /// An import joins the row of its entry.
 fn push_import(
     row: &mut Row,
@@ -157,9 +166,7 @@ fn push_import(
     row.push(ValueRef::Text(IMPORT.as_bytes()))?;
     row.push(ValueRef::Null)?;
     push_reading(row, reading, kept)?;
-    row.push(ValueRef::Text(ending_word(ending).as_bytes()))?;
-    row.push(ValueRef::Int(i64::from(ending_number(ending))))?;
-    Ok(())
+    push_ending(row, ending)
 }
 
 /// What an entry is about joins its row.

@@ -11,7 +11,7 @@ use crate::arrivals::arrival_among;
 use crate::made_entries::{MadeAct, MadeEntry, count_kept};
 use crate::replaced::ReplacedTariff;
 use book_core::Rulings;
-use book_model::{Arrival, LedgerFault, ListedAct, ListedRuling, Naming, Place};
+use book_model::{Arrival, ListedAct, ListedRuling, Naming, Place};
 use std::alloc::{AllocError, Global};
 
 /// It begins on the day.
@@ -43,12 +43,12 @@ fn listed_behind(
 }
 
 /// The place of a number from 1 among so many, from 0. A ruling that an entry is about has one.
-fn place_among(number: u32, count: u32) -> Result<u32, LedgerFault>
+fn place_among(number: u32, count: u32) -> Result<u32, AllocError>
     ensures its { IfOk result (λ place. number ≡ place + 1) }
     ensures there { IfOk result (λ place. place < count) }
 {
     if number == 0 || number > count {
-        return Err(LedgerFault::Memory);
+        return Err(AllocError);
     }
     Ok(number - 1)
 }
@@ -85,7 +85,7 @@ impl<N: Naming + Drop> PlainBooks<N> {
     }
 
     /// The tariff that came in the place of the one that was replaced under a number.
-    fn listed_replacement(&self, number: u32) -> Result<Option<ListedRuling>, LedgerFault>
+    fn listed_replacement(&self, number: u32) -> Result<Option<ListedRuling>, AllocError>
         ensures shown { IfOk result (λ found. option_map ruling_shown found
             ≡ ruling_at (N.name_of (naming_in self.now)) (book_in self.now).rulings
             (ReplacementOf number)) }
@@ -99,7 +99,7 @@ impl<N: Naming + Drop> PlainBooks<N> {
     }
 
     /// The choice of a number.
-    fn listed_choice(&self, number: u32) -> Result<Option<ListedRuling>, LedgerFault>
+    fn listed_choice(&self, number: u32) -> Result<Option<ListedRuling>, AllocError>
         ensures shown { IfOk result (λ found. option_map ruling_shown found
             ≡ ruling_at (N.name_of (naming_in self.now)) (book_in self.now).rulings
             (ChoiceOf number)) }
@@ -112,7 +112,7 @@ impl<N: Naming + Drop> PlainBooks<N> {
     }
 
     /// The credit of a number.
-    fn listed_credit(&self, number: u32) -> Result<Option<ListedRuling>, LedgerFault>
+    fn listed_credit(&self, number: u32) -> Result<Option<ListedRuling>, AllocError>
         ensures shown { IfOk result (λ found. option_map ruling_shown found
             ≡ ruling_at (N.name_of (naming_in self.now)) (book_in self.now).rulings
             (CreditOf number)) }
@@ -125,7 +125,7 @@ impl<N: Naming + Drop> PlainBooks<N> {
     }
 
     /// The ruling that stands at a place.
-    fn listed_at_place(&self, place: Place) -> Result<Option<ListedRuling>, LedgerFault>
+    fn listed_at_place(&self, place: Place) -> Result<Option<ListedRuling>, AllocError>
         ensures shown { IfOk result (λ found. option_map ruling_shown found
             ≡ ruling_at (N.name_of (naming_in self.now)) (book_in self.now).rulings
             (place_shown place)) }
@@ -142,7 +142,7 @@ impl<N: Naming + Drop> PlainBooks<N> {
     }
 
     /// What an entry is about, as a list shows it.
-    pub(crate) fn listed_act(&self, act: MadeAct) -> Result<ListedAct, LedgerFault>
+    pub(crate) fn listed_act(&self, act: MadeAct) -> Result<ListedAct, AllocError>
         ensures shown { IfOk result (λ listed. act_listed listed
             ≡ act_seen (N.name_of (naming_in self.now)) (book_in self.now).rulings
             (count_made act) (act_of act)) }

@@ -12,18 +12,18 @@ use Rattle.book_audit.proofs.journal.is_there.Goals as goal
 
 -- the adoption is there if there was one
 pub returns-in_default-clause-there : goal.returns-in_default-clause-there
-returns-in_default-clause-there g c clean yes =
+returns-in_default-clause-there g c clean so =
     let place = place_shown c.args.place in
     let none : tree_of place ≡ None = sym c.tree_of.ensures ∙ c.in_default.is in
     subst (IsIn (g.S.Store.view c.args.trees.now.store).trees c.args.rule place) (sym none)
-    (sym c.is_adopted.ensures ∙ yes)
+    (sym c.is_adopted.ensures ∙ so)
 
 pub returns-in_default-clause-looks : goal.returns-in_default-clause-looks
 returns-in_default-clause-looks g c = nothing g.S.Store c.args.trees.now.store
 
 -- another ruling is there if its tree has its number
 pub returns-clause-there : goal.returns-clause-there
-returns-clause-there g c clean yes =
+returns-clause-there g c clean so =
     let trees : Trees = (g.S.Store.view c.args.trees.now.store).trees in
     let place = place_shown c.args.place in
     let tree = c.in-Some.tree in
@@ -33,7 +33,7 @@ returns-clause-there g c clean yes =
     let number : ℤ = c.place_number.result in
     let finds : Finds (Int (place_number place) ∷ []) rows row true =
     subst (λ (n : ℤ). Finds (Int n ∷ []) rows row true) c.place_number.ensures
-    (subst (Finds (Int number ∷ []) rows row) yes (c.in_ok-has.ensures.found clean)) in
+    (subst (Finds (Int number ∷ []) rows row) so (c.in_ok-has.ensures.found clean)) in
     subst (IsIn trees c.args.rule place) (sym some) (record { row = row; finds = finds })
 
 pub returns-in_err-has-clause-looks : goal.returns-in_err-has-clause-looks

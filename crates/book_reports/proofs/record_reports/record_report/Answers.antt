@@ -1,4 +1,4 @@
-use Rattle.std.proofs.Common.{◌∙◌, Global, Vec, ap, refl, sym, ℕ}
+use Rattle.std.proofs.Common.{◌∙◌, Global, Vec, ap, refl, ℕ}
 use Rattle.book_reports.proofs.Words.{call_failed, passed_on}
 use Rattle.book_reports.proofs.RecordReportLemmas.{text_lost, text_made, trail_refused}
 use Rattle.book_reports.proofs.record_reports.record_report.Goals as goal
@@ -27,4 +27,4 @@ returns-in_err-text g c =
 pub returns : goal.returns
 returns g c =
     text_made c.args.name c.in_ok-entry.ensures c.in_ok-trail.ensures.trail c.into_bytes.result
-    (ap (λ (vec : Vec ℕ Global). vec.items) (sym c.into_bytes.ensures.value) ∙ c.in_ok-text.ensures)
+    (ap (λ (vec : Vec ℕ Global). vec.items) c.into_bytes.ensures.value ∙ c.in_ok-text.ensures)

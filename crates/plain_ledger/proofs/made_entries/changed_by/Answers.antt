@@ -7,10 +7,10 @@ use Rattle.plain_ledger.proofs.made_entries.changed_by.Goals as goal
 -- an import keeps the record, and has read what is told
 pub returns-in_ok-more-in-Import : goal.returns-in_ok-more-in-Import
 returns-in_ok-more-in-Import c =
-    let share = c.in-Import.share.now in
+    let share = c.in-Import.share in
     rw c.in-Import.is
     (c.ended_where.ensures
-    ∙ ap (end_where share.ending c.in-Import.whole.now)
+    ∙ ap (end_where share.ending c.in-Import.whole)
     (c.read_in-read.ensures
     ∙ ap (read_on (reading_shown share.reading))
-    (rw c.deref.ensures.value at c.in_ok-more-in-Import.ensures)))
+    (rw c.deref-in-Import.ensures.value at c.in_ok-more-in-Import.ensures)))

@@ -1,8 +1,13 @@
 use Rattle.std.proofs.Common.{◌∙◌, ap, arith, length, sym, take_all}
-use Rattle.book_model.specs.Words.{members}
+use Rattle.book_model.specs.Words.{by_bytes, members}
+use Rattle.book_model.proofs.Lemmas.{members-empty}
 use Rattle.plain_ledger.specs.MadeEntries.{kept_of}
 use Rattle.plain_ledger.proofs.MadeLemmas.{few_more, next_counted}
 use Rattle.plain_ledger.proofs.made_entries.count_kept.Goals as goal
+
+-- none yet
+pub loop-at-init : goal.loop-at-init
+loop-at-init c = record { counted = sym (ap length (members-empty by_bytes)); few = omega arith }
 
 -- one more
 pub loop-at-preserved : goal.loop-at-preserved

@@ -11,4 +11,4 @@ pub returns-in-Going : goal.returns-in-Going
 returns-in-Going c = rw c.in-Going.is (rw c.deref.ensures.value at c.has_bytes.ensures)
 
 pub returns-in-Ended : goal.returns-in-Ended
-returns-in-Ended c = rw c.in-Ended.is (rw c.deref-2.ensures.value at c.has_bytes-2.ensures)
+returns-in-Ended c = rw c.in-Ended.is (rw c.deref-in-Ended.ensures.value at c.has_bytes-in-Ended.ensures)

@@ -17,19 +17,19 @@ returns-in_err-newest-clause-stages g c =
 -- the store refused
 pub returns-in_err-told-clause-stages : goal.returns-in_err-told-clause-stages
 returns-in_err-told-clause-stages g c =
-    group_failed c.joined_of-joined.result (saw_found c.in_ok-newest.ensures) c.joined_of-joined.ensures
+    group_failed _ _ _ _ _ _ _ _ _ _ c.joined_of-joined.result (saw_found c.in_ok-newest.ensures) c.joined_of-joined.ensures
     c.from_residual-in_err-told.result c.from_residual-in_err-told.ensures.0
     c.in_err-told.ensures.stages
 
 pub returns-in_default-clause-stages : goal.returns-in_default-clause-stages
 returns-in_default-clause-stages g c =
-    group_as_one c.joined_of-joined.result (saw_found c.in_ok-newest.ensures) c.joined_of-joined.ensures
+    group_as_one _ _ _ _ _ _ _ _ _ _ c.joined_of-joined.result (saw_found c.in_ok-newest.ensures) c.joined_of-joined.ensures
     c.stage_joined.new.answers c.in_ok-told.ensures.stages
 
 pub returns-then-is_empty-clause-stages : goal.returns-then-is_empty-clause-stages
 returns-then-is_empty-clause-stages g c =
     let answers = c.stage_joined.new.answers in
-    none_as_one c.joined_of-joined.result (saw_found c.in_ok-newest.ensures)
+    none_as_one _ _ _ _ _ _ _ _ _ _ c.joined_of-joined.result (saw_found c.in_ok-newest.ensures)
     c.joined_of-joined.ensures c.in-Err.fault
     (none_left answers.items answers.len answers.ok.0 (sym c.is_empty.ensures ∙ c.if-is_empty.true))
     (some_in c.args.records.now c.requires.some)
@@ -41,5 +41,5 @@ returns-then-is_empty-clause-stages g c =
 
 pub returns-clause-stages : goal.returns-clause-stages
 returns-clause-stages g c =
-    group_as_one c.joined_of-joined.result (saw_found c.in_ok-newest.ensures) c.joined_of-joined.ensures
+    group_as_one _ _ _ _ _ _ _ _ _ _ c.joined_of-joined.result (saw_found c.in_ok-newest.ensures) c.joined_of-joined.ensures
     c.stage_joined.new.answers c.in_ok-told.ensures.stages

@@ -11,11 +11,12 @@ pub returns-in_err-commit_written : goal.returns-in_err-commit_written
 returns-in_err-commit_written g c = record {
   tries =
       λ naming.
+      let noted = note_given c.args.note.now in
       let done = sym c.adopt_answer-answer.ensures
       ∙ c.is_done.ensures.done c.if-not-is_done.false in
       uncommitted g.S.Store _ _ c.from_residual.ensures.0
       (stage_steps _ saw_none c.write_adoption-written.ensures
-      (λ book at known. adopt_is_event (note_given c.args.note.now) c.args.summary.now c.args.rule done
+      (λ book at known. adopt_is_event noted c.args.summary.now c.args.rule done
       c.open_number-period.result c.last_close.result c.open_number-period.ensures.number
       c.last_close.ensures book at))
       c.in_err-commit_written.ensures (λ book same. same);
@@ -26,11 +27,12 @@ pub returns : goal.returns
 returns g c = record {
   tries =
       λ naming.
+      let noted = note_given c.args.note.now in
       let done = sym c.adopt_answer-answer.ensures
       ∙ c.is_done.ensures.done c.if-not-is_done.false in
       committed g.S.Store
       (stage_steps _ saw_none c.write_adoption-written.ensures
-      (λ book at known. adopt_is_event (note_given c.args.note.now) c.args.summary.now c.args.rule done
+      (λ book at known. adopt_is_event noted c.args.summary.now c.args.rule done
       c.open_number-period.result c.last_close.result c.open_number-period.ensures.number
       c.last_close.ensures book at))
       c.in_ok-commit_written.ensures

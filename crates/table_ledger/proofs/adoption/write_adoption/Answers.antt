@@ -11,7 +11,7 @@ use Rattle.table_ledger.proofs.adoption.write_adoption.Goals as goal
 pub returns : goal.returns
 returns g c =
     does_ruling {When = Always} {change = adopted_at c.args.period c.args.through}
-    {noted = note_given c.args.note.now} {place = AdoptionOf} c.enter.result
+    (note_given c.args.note.now) {place = AdoptionOf} c.enter.result
     (does_both {result = Ok tt} c.in_ok-rename_records.ensures.does
     (does_both {result = Ok tt} c.in_ok-charge_due.ensures.does c.in_ok-set_rule.ensures.does))
     refl c.enter.ensures

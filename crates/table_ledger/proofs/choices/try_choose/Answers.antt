@@ -15,12 +15,13 @@ pub returns-in_default : goal.returns-in_default
 returns-in_default g c = record {
   tries =
       λ naming.
+      let noted = note_given c.args.note.now in
       let name = c.args.name in
       ruled_other _ refl (opens refl refl) (λ is. cc)
       (saw_as name c.in_default.is c.in_ok-stored.ensures.looks)
       (λ book at known. choose_none naming c.args.summary.now name _ book at known)
-      (λ book already. ap (if_done (meant_by (note_given c.args.note.now) (record_named naming book.held name)))
-      already);
+      (λ book already.
+      ap (if_done (meant_by noted (record_named naming book.held name))) already);
 }
 
 -- the answer is not Done
@@ -28,6 +29,7 @@ pub returns-then-not-is_done : goal.returns-then-not-is_done
 returns-then-not-is_done g c = record {
   tries =
       λ naming.
+      let noted = note_given c.args.note.now in
       let summary = c.args.summary.now in
       let name = c.args.name in
       let stored = c.in-Some.stored in
@@ -39,8 +41,8 @@ returns-then-not-is_done g c = record {
       c.in_ok-stored.ensures.looks c.in_ok-sharing.ensures.looks c.in_ok-ever.ensures.looks)
       (λ book at known. choose_told naming summary name _ book at stored known.0.0 known.0.1
       known.1)
-      (λ book already. ap (if_done (meant_by (note_given c.args.note.now) (record_named naming book.held name)))
-      already);
+      (λ book already.
+      ap (if_done (meant_by noted (record_named naming book.held name))) already);
 }
 
 -- the commit is refused
@@ -48,11 +50,12 @@ pub returns-in_err-commit_written : goal.returns-in_err-commit_written
 returns-in_err-commit_written g c = record {
   tries =
       λ naming.
+      let noted = note_given c.args.note.now in
       let tests = sym c.choice_answer-answer.ensures.answer
       ∙ c.is_done.ensures.done c.if-not-is_done.false in
       uncommitted g.S.Store _ _ c.from_residual-in_err-commit_written.ensures.0
-      (choose_staged naming (note_given c.args.note.now) c.args.summary.now c.args.name c.in-Some.stored c.open_number.result
-      c.last_close.result c.in-Some.is c.deref.ensures.value c.deref-2.ensures.value
+      (choose_staged naming noted c.args.summary.now c.args.name c.in-Some.stored
+      c.open_number.result c.last_close.result c.in-Some.is c.deref.ensures.value c.deref-2.ensures.value
       c.in_ok-stored.ensures.looks c.in_ok-sharing.ensures.looks c.in_ok-ever.ensures.looks
       c.in_ok-effects.ensures.looks c.write_choice-written.ensures tests
       c.open_number.ensures.number c.last_close.ensures)
@@ -64,11 +67,12 @@ pub returns : goal.returns
 returns g c = record {
   tries =
       λ naming.
+      let noted = note_given c.args.note.now in
       let tests = sym c.choice_answer-answer.ensures.answer
       ∙ c.is_done.ensures.done c.if-not-is_done.false in
       committed g.S.Store
-      (choose_staged naming (note_given c.args.note.now) c.args.summary.now c.args.name c.in-Some.stored c.open_number.result
-      c.last_close.result c.in-Some.is c.deref.ensures.value c.deref-2.ensures.value
+      (choose_staged naming noted c.args.summary.now c.args.name c.in-Some.stored
+      c.open_number.result c.last_close.result c.in-Some.is c.deref.ensures.value c.deref-2.ensures.value
       c.in_ok-stored.ensures.looks c.in_ok-sharing.ensures.looks c.in_ok-ever.ensures.looks
       c.in_ok-effects.ensures.looks c.write_choice-written.ensures tests
       c.open_number.ensures.number c.last_close.ensures)

@@ -24,7 +24,7 @@ returns g c =
     (λ tables next. (tt, next)) in
     does_ruling {When = IsNext choice.number}
     {change = put_choice choice.number choice.period choice.name choice.effects}
-    {noted = note_given c.args.note.now} {place = ChoiceOf choice.number} c.enter.result
+    (note_given c.args.note.now) {place = ChoiceOf choice.number} c.enter.result
     (does_then {When = IsNext choice.number} put c.in_ok-withdraw.ensures.does rest
     (λ tables next. (
       tt,

@@ -15,7 +15,7 @@ returns g c =
     let close = c.args.close.now in
     let last = c.args.last in
     does_ruling {When = CanClose close.period last} {change = closed_at close.period close.through}
-    {noted = note_given c.args.note.now} {place = CloseOf close.period} c.enter.result
+    (note_given c.args.note.now) {place = CloseOf close.period} c.enter.result
     (does_then {When = CanClose close.period last} (Ok tt) c.in_ok-put_close.ensures.does
     (does_then {When = λ tables. NoneNext close.period tables × PostsTouched close.period last tables}
     (Ok tt) c.in_ok-post_charged.ensures c.in_ok-move_days.ensures.does

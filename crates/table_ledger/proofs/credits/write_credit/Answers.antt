@@ -12,5 +12,5 @@ pub returns : goal.returns
 returns g c =
     does_ruling {When = Always}
     {change = put_credit_row c.args.number (credit_given c.args.credit.now)}
-    {noted = note_given c.args.note.now} {place = CreditOf c.args.number} c.enter.result
+    (note_given c.args.note.now) {place = CreditOf c.args.number} c.enter.result
     c.in_ok-put_credit.ensures.does refl c.enter.ensures

@@ -8,15 +8,16 @@ use Rattle.table_ledger.proofs.listed_entries.look_for_text.Goals as goal
 -- none is passed at first
 pub rows-init : goal.rows-init
 rows-init g c =
-    saw_so saw_none
-    (λ tables nothing. passed_none c.args.day c.args.number c.args.count tables)
+    rw (to_z-of_z w32 c.args.day c.ranges.day) (saw_so saw_none
+    (λ tables nothing. passed_none c.args.day c.args.number c.args.count tables))
 
 -- it begins on the day
 pub returns-then-began_on : goal.returns-then-began_on
 returns-then-began_on g c = record {
   looks =
-      let begins = rw (to_z-of_z w32 c.args.day c.ranges.day) at c.began_on.ensures in
-      looks_known (saw_then c.rows.invariant
+      let day = to_z-of_z w32 c.args.day c.ranges.day in
+      let begins = rw day at c.began_on.ensures in
+      looks_known (saw_then (rw day at c.rows.invariant)
       (saw_found (rw c.in-Some.is at c.in_ok-tariff.ensures.looks)))
       (λ tables known. text_found c.args.day c.args.number c.args.count c.rows.passed tables known.0
       c.in-Some.tariff known.1 (sym begins ∙ c.if-began_on.true));
@@ -25,17 +26,18 @@ returns-then-began_on g c = record {
 -- it is passed
 pub rows-preserved : goal.rows-preserved
 rows-preserved g c =
-    let begins = rw (to_z-of_z w32 c.args.day c.ranges.day) at c.began_on.ensures in
-    saw_so (saw_then c.rows.invariant
+    let day = to_z-of_z w32 c.args.day c.ranges.day in
+    let begins = rw day at c.began_on.ensures in
+    rw day (saw_so (saw_then (rw day at c.rows.invariant)
     (saw_found (rw c.in-Some.is at c.in_ok-tariff.ensures.looks)))
     (λ tables known. passed_on c.args.day c.args.number c.args.count c.rows.passed tables known.0
-    c.in-Some.tariff known.1 (sym begins ∙ c.if-began_on.false))
+    c.in-Some.tariff known.1 (sym begins ∙ c.if-began_on.false)))
 
 -- no more are left
 pub returns : goal.returns
 returns g c = record {
-  looks = looks_known c.rows.invariant (λ tables known.
-      text_none c.args.day c.args.number c.args.count c.rows.passed tables known
+  looks = looks_known (rw (to_z-of_z w32 c.args.day c.ranges.day) at c.rows.invariant)
+      (λ tables known. text_none c.args.day c.args.number c.args.count c.rows.passed tables known
       (omega (arith, c.rows-test.false)));
 }
 

@@ -31,7 +31,8 @@ returns c = record {
       let price : c.price.result ≡ price_by terms (row_record entry.1) =
       c.price.ensures.value
       ∙ ap (price_by terms) (c.in_ok-usage_in.ensures.value ∙ c.deref.ensures.value
-      ∙ c.in_ok-put_data.ensures.bytes ∙ ap record_with (c.in_ok-data_of.ensures.read came entry is)) in
+      ∙ c.in_ok-put_data.ensures.bytes
+      ∙ ap record_with (c.in_ok-data_of.ensures.read came entry is)) in
       subst (λ costs. SumsUp more costs room)
       (ap (λ (one : Priced). costs_of terms test passed ++ one ∷ []) price
       ∙ sym (costs_more terms test passed entry counted))

@@ -25,10 +25,12 @@ pub returns-then-has_most : goal.returns-then-has_most
 returns-then-has_most g c = record {
   tries =
       λ naming.
+      let noted = note_given c.args.note.now in
       let text = c.args.text.now in
       try_answered _ saw_none (record { stored = refl; served = refl })
-      (λ book at known. makes_refused (λ (ruled : Ruled). ruled) (replace_outcome (note_given c.args.note.now) text book) Full
-      (replace_most (note_given c.args.note.now) c.args.summary.now text c.args.tariff c.requires.said naming _ book at
+      (λ book at known.
+      makes_refused (λ (ruled : Ruled). ruled) (replace_outcome noted text book) Full
+      (replace_most noted c.args.summary.now text c.args.tariff c.requires.said naming _ book at
       c.requires.done (sym c.has_most.ensures.full ∙ c.if-has_most.true)));
 }
 
@@ -37,11 +39,13 @@ pub returns-in_default : goal.returns-in_default
 returns-in_default g c = record {
   tries =
       λ naming.
+      let noted = note_given c.args.note.now in
       let text = c.args.text.now in
       try_answered _ (saw_found (rw c.in_default.is at c.in_ok-amount.ensures.looks))
       (record { stored = refl; served = refl })
-      (λ book at known. makes_refused (λ (ruled : Ruled). ruled) (replace_outcome (note_given c.args.note.now) text book) Full
-      (replace_full (note_given c.args.note.now) c.args.summary.now text c.args.tariff c.requires.said naming _ book at
+      (λ book at known.
+      makes_refused (λ (ruled : Ruled). ruled) (replace_outcome noted text book) Full
+      (replace_full noted c.args.summary.now text c.args.tariff c.requires.said naming _ book at
       c.requires.done c.tariffs.result.now c.tariffs.ensures known));
 }
 
@@ -50,6 +54,7 @@ pub returns-in_err-commit_written : goal.returns-in_err-commit_written
 returns-in_err-commit_written g c = record {
   tries =
       λ naming.
+      let noted = note_given c.args.note.now in
       let day = dated c.tariff.view_is c.tariff.invariant in
       let same = c.in_ok-own.ensures.same in
       let again = c.tariffs-tariffs.ensures
@@ -61,7 +66,7 @@ returns-in_err-commit_written g c = record {
       uncommitted g.S.Store _ _ c.from_residual-in_err-commit_written.ensures.0
       (stage_steps _ (saw_found (rw c.in-Some.is at c.in_ok-amount.ensures.looks))
       (rw again at c.write_replacement-written.ensures)
-      (λ book at known. replace_is_event (note_given c.args.note.now) c.args.summary.now c.args.text.now c.args.tariff
+      (λ book at known. replace_is_event noted c.args.summary.now c.args.text.now c.args.tariff
       c.requires.said naming _ book at c.requires.done c.tariffs.result.now c.tariffs.ensures
       (sym c.has_most.ensures.full ∙ c.if-has_most.false) c.in-Some.amount known c.utf8.text day
       c.open_number.result (c.open_number.ensures.number ∙ ap open_by same)
@@ -74,6 +79,7 @@ pub returns : goal.returns
 returns g c = record {
   tries =
       λ naming.
+      let noted = note_given c.args.note.now in
       let terms = c.args.tariff in
       let day = dated c.tariff.view_is c.tariff.invariant in
       let same = c.in_ok-own.ensures.same in
@@ -86,7 +92,7 @@ returns g c = record {
       committed g.S.Store
       (stage_steps _ (saw_found (rw c.in-Some.is at c.in_ok-amount.ensures.looks))
       (rw again at c.write_replacement-written.ensures)
-      (λ book at known. replace_is_event (note_given c.args.note.now) c.args.summary.now c.args.text.now terms
+      (λ book at known. replace_is_event noted c.args.summary.now c.args.text.now terms
       c.requires.said naming _ book at c.requires.done c.tariffs.result.now c.tariffs.ensures
       (sym c.has_most.ensures.full ∙ c.if-has_most.false) c.in-Some.amount known c.utf8.text day
       c.open_number.result (c.open_number.ensures.number ∙ ap open_by same)

@@ -12,7 +12,9 @@ use Rattle.table_ledger.proofs.replacing.try_replace.Goals as goal
 -- the text is no tariff
 pub returns-in-Err : goal.returns-in-Err
 returns-in-Err g c = record {
-  tries = λ naming. no_replacement (note_given c.args.note.now) c.args.text.now c.in-Err.fault c.in-Err.ensures.refused;
+  tries = λ naming.
+      no_replacement (note_given c.args.note.now) c.args.text.now c.in-Err.fault
+      c.in-Err.ensures.refused;
 }
 
 -- the answer is not Done
@@ -20,6 +22,7 @@ pub returns-then-not-is_done : goal.returns-then-not-is_done
 returns-then-not-is_done g c = record {
   tries =
       λ naming.
+      let noted = note_given c.args.note.now in
       let summary = c.args.summary.now in
       let text = c.args.text.now in
       let terms = c.in-Ok.tariff in
@@ -29,6 +32,6 @@ returns-then-not-is_done g c = record {
       c.is_done.ensures.other c.if-not-is_done.true in
       ruled_other _ is (replaced_open (ruled_in summary.rulings) false text terms) other saw_none
       (λ book at known.
-      replace_other (note_given c.args.note.now) summary text terms said naming _ book at (λ done. other (is ∙ done)))
-      (λ book already. ap (if_done (replaced_by (note_given c.args.note.now) text (terms_in text))) already);
+      replace_other noted summary text terms said naming _ book at (λ done. other (is ∙ done)))
+      (λ book already. ap (if_done (replaced_by noted text (terms_in text))) already);
 }

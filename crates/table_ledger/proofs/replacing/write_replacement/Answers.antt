@@ -21,8 +21,9 @@ returns g c =
     ∙ c.effective-day.ensures.value in
     let sums = c.args.sums.now in
     does_ruling {When = HasTextAndCounts terms given.was.now sums.held}
-    {change = replaced_at given.number given.period c.args.tariffs.now given.text.now terms sums.amount}
-    {noted = note_given c.args.note.now} {place = ReplacementOf given.number} c.enter.result
+    {change = replaced_at given.number given.period c.args.tariffs.now given.text.now terms
+    sums.amount}
+    (note_given c.args.note.now) {place = ReplacementOf given.number} c.enter.result
     (does_so (Ok tt)
     (does_then (Ok tt)
     (does_then (Ok tt)

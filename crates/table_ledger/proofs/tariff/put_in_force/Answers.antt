@@ -21,12 +21,14 @@ pub returns-in_default : goal.returns-in_default
 returns-in_default g c = record {
   tries =
       λ naming.
+      let noted = note_given c.args.note.now in
       let text = c.args.text.now in
       try_answered _ (saw_then (saw_found c.in_ok-many.ensures)
       (saw_found (rw c.in_default.is at c.in_ok-amount.ensures.looks)))
       (record { stored = refl; served = refl })
-      (λ book at known. makes_refused (λ (ruled : Ruled). ruled) (tariff_outcome (note_given c.args.note.now) text book) Full
-      (tariff_full (note_given c.args.note.now) c.args.summary.now text c.args.tariff c.requires.said naming _ book at
+      (λ book at known.
+      makes_refused (λ (ruled : Ruled). ruled) (tariff_outcome noted text book) Full
+      (tariff_full noted c.args.summary.now text c.args.tariff c.requires.said naming _ book at
       c.requires.done known.1));
 }
 
@@ -35,12 +37,13 @@ pub returns-in_err-commit_written : goal.returns-in_err-commit_written
 returns-in_err-commit_written g c = record {
   tries =
       λ naming.
+      let noted = note_given c.args.note.now in
       let day = dated c.tariff.view_is c.tariff.invariant in
       uncommitted g.S.Store _ _ c.from_residual-in_err-commit_written.ensures.0
       (stage_steps _ (saw_then (saw_found c.in_ok-many.ensures)
       (saw_found (rw c.in-Some.is at c.in_ok-amount.ensures.looks)))
       c.write_tariff-written.ensures
-      (λ book at known. tariff_is_event (note_given c.args.note.now) c.args.summary.now c.args.text.now c.args.tariff
+      (λ book at known. tariff_is_event noted c.args.summary.now c.args.text.now c.args.tariff
       c.requires.said naming _ book at c.requires.done c.in-Some.amount known.1 c.utf8.text day
       c.open_number-period.result c.open_number-period.ensures.number))
       c.in_err-commit_written.ensures
@@ -52,13 +55,14 @@ pub returns : goal.returns
 returns g c = record {
   tries =
       λ naming.
+      let noted = note_given c.args.note.now in
       let terms = c.args.tariff in
       let day = dated c.tariff.view_is c.tariff.invariant in
       committed g.S.Store
       (stage_steps _ (saw_then (saw_found c.in_ok-many.ensures)
       (saw_found (rw c.in-Some.is at c.in_ok-amount.ensures.looks)))
       c.write_tariff-written.ensures
-      (λ book at known. tariff_is_event (note_given c.args.note.now) c.args.summary.now c.args.text.now terms
+      (λ book at known. tariff_is_event noted c.args.summary.now c.args.text.now terms
       c.requires.said naming _ book at c.requires.done c.in-Some.amount known.1 c.utf8.text day
       c.open_number-period.result c.open_number-period.ensures.number))
       c.in_ok-commit_written.ensures (record {

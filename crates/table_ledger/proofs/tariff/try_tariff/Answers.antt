@@ -13,6 +13,7 @@ pub returns-then-not-is_done : goal.returns-then-not-is_done
 returns-then-not-is_done g c = record {
   tries =
       λ naming.
+      let noted = note_given c.args.note.now in
       let summary = c.args.summary.now in
       let text = c.args.text.now in
       let terms = c.in-Ok.tariff in
@@ -22,6 +23,6 @@ returns-then-not-is_done g c = record {
       c.is_done.ensures.other c.if-not-is_done.true in
       ruled_other _ is (terms_open (ruled_in summary.rulings) false text terms) other saw_none
       (λ book at known.
-      tariff_other (note_given c.args.note.now) summary text terms said naming _ book at (λ done. other (is ∙ done)))
-      (λ book already. ap (if_done (said_by (note_given c.args.note.now) text (terms_in text))) already);
+      tariff_other noted summary text terms said naming _ book at (λ done. other (is ∙ done)))
+      (λ book already. ap (if_done (said_by noted text (terms_in text))) already);
 }

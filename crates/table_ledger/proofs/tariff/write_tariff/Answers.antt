@@ -18,7 +18,7 @@ returns g c =
     ∙ c.effective-day.ensures.value in
     does_ruling {When = TakesAndCounts c.args.period terms sums.held}
     {change = tariff_at c.args.period (Some c.args.text.now) terms sums.amount}
-    {noted = note_given c.args.note.now} {place = TariffOf terms.effective} c.enter.result
+    (note_given c.args.note.now) {place = TariffOf terms.effective} c.enter.result
     (does_so (Ok tt)
     (does_then (Ok tt)
     (does_then (Ok tt) c.in_ok-reprice_all.ensures.does c.in_ok-put_tariff.ensures.does

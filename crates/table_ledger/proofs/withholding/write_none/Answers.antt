@@ -15,7 +15,7 @@ returns g c =
     let choice = c.args.choice.now in
     does_ruling {When = IsNext choice.number}
     {change = put_withheld choice.number choice.period choice.name choice.withdrawn}
-    {noted = note_given c.args.note.now} {place = ChoiceOf choice.number} c.enter.result
+    (note_given c.args.note.now) {place = ChoiceOf choice.number} c.enter.result
     (does_then {When = IsNext choice.number} (Ok tt) c.in_ok-withdraw.ensures.does
     c.in_ok-put_choice.ensures.does
     (λ tables next. (

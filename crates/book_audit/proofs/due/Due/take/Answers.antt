@@ -4,11 +4,11 @@ use Rattle.book_audit.proofs.due.Due.take.Goals as goal
 
 -- a record that came by no entry is due by none
 pub returns-in_default : goal.returns-in_default
-returns-in_default c yes =
+returns-in_default c so =
     let due = c.args.self.now.left.items in
     subst (λ (came : Option ℕ). TakesOne due due came) (sym c.in_default.is) (λ number. refl)
 
 pub returns : goal.returns
-returns c yes =
+returns c so =
     subst (λ (came : Option ℕ). TakesOne c.args.self.now.left.items c.take_one.new.self.left.items came)
-    (sym c.in-Some.is) (c.take_one.ensures yes)
+    (sym c.in-Some.is) (c.take_one.ensures so)

@@ -6,7 +6,7 @@ use Rattle.book_audit.proofs.due.Due.take_one.Goals as goal
 
 -- one was due, and is so no more
 pub returns : goal.returns
-returns c yes =
+returns c so =
     let old : List ℕ = c.args.self.now.left.items in
     let at : ℕ = c.in-Some.at in
     let left : ℕ = slice_index_or old at 0 - 1 in

@@ -19,4 +19,4 @@ pub returns-in-Ended-clause-shown : goal.returns-in-Ended-clause-shown
 returns-in-Ended-clause-shown g c =
     rw c.in-Ended.is
     (ap (ImportDone (reading_shown c.in-Ended.reading) (Some (ending_shown c.in-Ended.ending)))
-    (rw c.deref-2.ensures.value at c.count_kept-2.ensures))
+    (rw c.deref-in-Ended.ensures.value at c.count_kept-in-Ended.ensures))

@@ -49,7 +49,8 @@ returns-in_err-answers g c =
     (subst (λ records. IsTransition old new (Takes old.naming records (Err fault))) is
     (work_as old new (TakesOf old.naming None (records_in c.deref.result.now) (Err fault))
     (Takes old.naming (records_in c.deref.result.now) (Err fault))
-    (of_no_import old.naming (records_in c.deref.result.now) (Err fault)) c.in_err-answers.ensures.takes))
+    (of_no_import old.naming (records_in c.deref.result.now) (Err fault))
+    c.in_err-answers.ensures.takes))
     c.in_err-answers.ensures.reopens)
 
 pub returns : goal.returns
@@ -64,5 +65,6 @@ returns g c =
     (subst (λ records. IsTransition old new (Takes old.naming records (Ok answers))) is
     (work_as old new (TakesOf old.naming None (records_in c.deref.result.now) (Ok answers))
     (Takes old.naming (records_in c.deref.result.now) (Ok answers))
-    (of_no_import old.naming (records_in c.deref.result.now) (Ok answers)) c.in_ok-answers.ensures.takes))
+    (of_no_import old.naming (records_in c.deref.result.now) (Ok answers))
+    c.in_ok-answers.ensures.takes))
     c.in_ok-answers.ensures.reopens

@@ -25,7 +25,8 @@ returns g c =
     let names = name_of old.naming in
     let tried = c.match-ruling.tried in
     let has : HasTried name_of old new noted ruling tried = elim c.match-ruling.branch [
-      | in-Tariff w ↦ has_tried name_of old new noted ruling tried _ _ _ w.self-is w.in-Tariff.is w.tried-is
+      | in-Tariff w ↦ has_tried name_of old new noted ruling tried _ _ _ w.self-is w.in-Tariff.is
+          w.tried-is
           (record { naming = refl; reopen = refl; tries = w.try_tariff-tried.ensures.tries names })
       | in-Close w ↦
           let is_day = subst (λ (ruling : Ruling). MayBeAsked (ruling_asked ruling)) w.in-Close.is
@@ -37,15 +38,17 @@ returns g c =
             reopen = refl;
             tries = rw kept at w.try_close-tried.ensures.tries names;
           })
-      | in-Choose w ↦ has_tried name_of old new noted ruling tried _ _ _ w.self-is w.in-Choose.is w.tried-is
+      | in-Choose w ↦ has_tried name_of old new noted ruling tried _ _ _ w.self-is w.in-Choose.is
+          w.tried-is
           (record { naming = refl; reopen = refl; tries = w.try_choose-tried.ensures.tries names })
-      | in-Adopt w ↦ has_tried name_of old new noted ruling tried _ _ _ w.self-is w.in-Adopt.is w.tried-is
+      | in-Adopt w ↦ has_tried name_of old new noted ruling tried _ _ _ w.self-is w.in-Adopt.is
+          w.tried-is
           (record { naming = refl; reopen = refl; tries = w.try_adopt-tried.ensures.tries names })
       | in-Replace w ↦ has_tried name_of old new noted ruling tried _ _ _ w.self-is w.in-Replace.is
           w.tried-is
           (record { naming = refl; reopen = refl; tries = w.try_replace-tried.ensures.tries names })
-      | in-Withhold w ↦ has_tried name_of old new noted ruling tried _ _ _ w.self-is w.in-Withhold.is
-          w.tried-is
+      | in-Withhold w ↦ has_tried name_of old new noted ruling tried _ _ _ w.self-is
+          w.in-Withhold.is w.tried-is
           (record { naming = refl; reopen = refl; tries = w.try_withhold-tried.ensures.tries names })
       | in-Credit w ↦
           let amount = w.in-Credit.amount in

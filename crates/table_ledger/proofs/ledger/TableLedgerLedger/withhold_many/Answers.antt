@@ -24,11 +24,13 @@ returns-clause-takes g c =
     let noted = note_given c.args.note.now in
     let part = c.first_names-first.result.now in
     let result = c.finish.result in
-    work_as _ _ (TakesWorks names noted part result) (TakesWorks names noted c.args.names.now result)
-    (works_part names noted c.args.names.now most_in_commit part result c.first_names-first.ensures.first
+    work_as _ _ (TakesWorks names noted part result)
+    (TakesWorks names noted c.args.names.now result)
+    (works_part names noted c.args.names.now most_in_commit part result
+    c.first_names-first.ensures.first
     (c.first_names-first.ensures.some c.requires))
-    (work_settled (works_come names noted part) g.S.Store c.args.self.now.tables.store c.if-self.false
-    g.met.S.Store.settled c.finish.ensures.settles
+    (work_settled (works_come names noted part) g.S.Store c.args.self.now.tables.store
+    c.if-self.false g.met.S.Store.settled c.finish.ensures.settles
     (c.try_withhold_many-tried.ensures.tries names)).0
 
 pub returns-clause-few : goal.returns-clause-few
