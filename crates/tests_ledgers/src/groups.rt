@@ -1,6 +1,6 @@
 //! Groups of the records of an import, each one call of books, and the end of the import.
 
-ghost use Rattle.std.specs.Prelude.{All, IfOk};
+ghost use Rattle.std.specs.Prelude.{All};
 ghost use Rattle.book_model.specs.Words.{IsUsageRecord};
 
 use crate::asked::note_of;
@@ -9,21 +9,42 @@ use book_core::{Accepted, Ledger, LedgerFault, Reading, Share};
 use book_import::Stop;
 use smf_frames::{Layout, split};
 use smf_type30::{Class, class};
-use std::alloc::Global;
+use std::alloc::{AllocError, Global};
 use tests_scripts::{Ask, LineFault, LineResult, Named};
 
-/// The usage records of a dump.
-fn usage_records(alloc: Global, dump: &[u8]) -> LineResult<Vec<Vec<u8>>>
-    ensures { IfOk result (λ records. All (λ one. IsUsageRecord one.items) records.items) }
-{
-    let dump = split(alloc, Layout::Rdw, dump)?;
-    let mut records = Vec::new(alloc);
-    for bytes in &dump.records {
-        if let Class::Usage = class(bytes) {
-            records.push(Vec::from_slice(alloc, bytes)?)?;
-        }
+/// Usage records.
+#[derive(Drop)]
+struct UsageRecords {
+    records: Vec<Vec<u8>>,
+    ghost usable: { All (λ one. IsUsageRecord one.items) records.items },
+}
+
+impl UsageRecords {
+    ghost use Rattle.book_model.specs.Words.{IsFramed};
+
+    /// One record more, where it is one of usage.
+    fn add(&mut self, alloc: Global, bytes: &[u8]) -> Result<(), AllocError>
+        requires { IsFramed bytes.now }
+    {
+        let Class::Usage = class(bytes) else {
+            return Ok(());
+        };
+        let own = Vec::from_slice(alloc, bytes)?;
+        self.records.push(own)?;
+        Ok(())
     }
-    Ok(records)
+}
+
+/// The usage records of a dump.
+fn usage_records(alloc: Global, dump: &[u8]) -> LineResult<UsageRecords> {
+    let dump = split(alloc, Layout::Rdw, dump)?;
+    let mut usage = UsageRecords {
+        records: Vec::new(alloc),
+    };
+    for bytes in &dump.records {
+        usage.add(alloc, bytes)?;
+    }
+    Ok(usage)
 }
 
 /// What an import says of itself that has read so many bytes. Of what it counted it says nothing.
@@ -55,12 +76,12 @@ fn accept_group<L: Ledger>(
     parts: &[&str],
 ) -> LineResult<Result<Vec<Accepted>, LedgerFault>> {
     let dump = named.read_dump(parts)?;
-    let records = usage_records(named.alloc(), &dump)?;
-    if records.is_empty() {
+    let usage = usage_records(named.alloc(), &dump)?;
+    if usage.records.is_empty() {
         return Err(LineFault::NotUnderstood);
     }
     let share = share_of(named.alloc(), begun, dump.len())?;
-    Ok(ledger.accept_many(&records, &Some(share)))
+    Ok(ledger.accept_many(&usage.records, &Some(share)))
 }
 
 /// What an answer reports: it is one change, or none.
