@@ -1,4 +1,4 @@
-use Rattle.std.proofs.Common.{◌∙◌, Global, Vec, ap, refl, ℕ}
+use Rattle.std.proofs.Common.{◌∙◌, Global, Vec, ap, refl, sym, ℕ}
 use Rattle.book_reports.proofs.Words.{call_failed, passed_on}
 use Rattle.book_reports.proofs.RecordReportLemmas.{text_lost, text_made, trail_refused}
 use Rattle.book_reports.proofs.record_reports.record_report.Goals as goal
