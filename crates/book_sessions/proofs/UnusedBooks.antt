@@ -1,11 +1,12 @@
 -- Books to which nothing was submitted are new ones.
 use Rattle.std.proofs.Common.{◌≡◌, ◌∙◌, ℕ, ℤ, suc, true, List, [], ◌∷◌, ◌++◌, ◌||◌, Option, Some}
-use Rattle.std.proofs.Common.{Result, Ok, Err, Bool, false, length, ap, arith, refl, subst, sym}
-use Rattle.std.proofs.Common.{true≢false}
+use Rattle.std.proofs.Common.{Result, Ok, Err, Bool, false, length, ap, arith, map, refl, subst, sym}
+use Rattle.std.proofs.Common.{◌+◌, None, true≢false}
 use Rattle.std.proofs.Common.{unwrap_or, length-append, ◌&&◌, ◌==◌, IfOk, int_cmp, nat_cmp, eq-eqb}
 use Rattle.std.proofs.Common.{eqb-true}
 use Rattle.std.proofs.lemmas.List.Elements.{All-pop}
-use Rattle.book_model.proofs.Std.{entries, len-empty, len-entries, length-map, list_any}
+use Rattle.book_model.proofs.Std.{entries, from_entries, last_or, len-empty, len-entries, length-map}
+use Rattle.book_model.proofs.Std.{list_any}
 use Rattle.book_model.proofs.Lemmas.{no_length, first_of, has_with, is, is_itself, second_of}
 use Rattle.book_model.specs.Words.{AcceptedTerms, Book, Choice, Event, Naming, Records}
 use Rattle.book_model.specs.Words.{PeriodClosed, RecordChosen, RecordKept, RulingGiven}
@@ -18,12 +19,14 @@ use Rattle.table_model.specs.TablesOf.{under_numbers}
 use Rattle.book_model.specs.Words.{SecondRuleAdopted, TariffAccepted, book_after, has, members}
 use Rattle.book_model.specs.Words.{new_book, open_by, IsChoiceOf}
 use Rattle.table_model.proofs.RulingsReading.{tariffs_kept}
-use Rattle.table_model.proofs.UnderNumbers.{entries-numbers}
+use Rattle.table_model.specs.JournalRows.{journal_rows}
+use Rattle.table_model.specs.Tables.{JournalRow}
+use Rattle.table_model.proofs.JournalChanges.{rows-length}
+use Rattle.table_model.proofs.UnderNumbers.{entries-numbers, last_number as last_of}
 use Rattle.table_model.specs.Words.{IsReadable, Tables, new_tables, close_entries, tables_of}
 use Rattle.table_model.specs.Words.{tariff_entries}
 use Rattle.book_restarts.specs.FileBooks.{HoldsHistory}
 use Rattle.tree_tables.specs.Answers.{last_number}
-use Rattle.table_ledger.proofs.LastNumbers.{last_entered}
 use Rattle.book_sessions.proofs.Words.{∥∥₁_map, Image, HoldsBooks, trees_held, IsStoredIn}
 use Rattle.book_sessions.proofs.Words.{are_unused}
 use Rattle.book_sessions.specs.Unused.{unused_by}
@@ -45,6 +48,19 @@ credits_many : (number : ℕ) (credits : List Credit)
     → length (under_numbers number credits) ≡ length credits
 credits_many number [] = refl
 credits_many number (credit ∷ credits) = ap suc (credits_many (suc number) credits)
+
+-- and the newest entry has the number of all
+last_row : (rows : List JournalRow)
+    → last_number (from_entries {R = nat_cmp} (under_numbers 1 rows)) ≡ length rows
+last_row rows =
+    let none_before : 0 + length rows ≡ length rows = omega arith in
+    ap (λ es. unwrap_or (last_or None (map (λ (e : ℕ × JournalRow). e.0) es)) 0)
+    (entries-numbers rows)
+    ∙ last_of 0 None rows refl ∙ none_before
+
+last_entered : (naming : Naming) (book : Book)
+    → last_number (tables_of naming book).journal ≡ length book.journal
+last_entered naming book = last_row (journal_rows book.journal) ∙ rows-length book.journal
 
 -- what six tests say
 record AreNone (tariffs closes credits entered held adopted : ℕ) : Type 0 where
@@ -104,7 +120,7 @@ module _ (naming : Naming) (book : Book) (whole : IsReadable naming book)
   no_tariffs : length book.rulings.tariffs ≡ 0
   no_tariffs =
       sym (tariffs_many book.rulings.tariffs)
-      ∙ sym (ap length (tariffs_kept naming book whole)) ∙ none.tariffs_none
+      ∙ sym (ap length (tariffs_kept book.rulings.tariffs whole.rising)) ∙ none.tariffs_none
 
   no_closes : length book.rulings.closes ≡ 0
   no_closes =
