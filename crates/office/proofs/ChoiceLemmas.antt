@@ -94,7 +94,7 @@ pub choice_kept : (said : Option Note) (withheld : Bool) (old now new : Seen)
     (answers told : List Ruled) (i : ℕ)
     (d : List ℕ) (ruled : Ruled) → i < length names → told ≡ answers ++ ruled ∷ []
     → IsTransition old now (ChoosesEach said withheld old.naming (take i names) answers None)
-    → IsTransition now new (Chooses withheld now.naming (get_or names i d) (Ok ruled))
+    → IsTransition now new (Chooses said withheld now.naming (get_or names i d) (Ok ruled))
     → IsTransition old new (ChoosesEach said withheld old.naming (take (i + 1) names) told None)
 choice_kept said withheld old now new names answers told i d ruled small so before made =
     let name : List ℕ = get_or names i d in
@@ -115,7 +115,7 @@ pub choice_refused : (said : Option Note) (withheld : Bool) (old now new : Seen)
     (names : List (List ℕ))
     (answers : List Ruled) (i : ℕ) (d : List ℕ) (refusal : LedgerFault) → i < length names
     → IsTransition old now (ChoosesEach said withheld old.naming (take i names) answers None)
-    → IsTransition now new (Chooses withheld now.naming (get_or names i d) (Err refusal))
+    → IsTransition now new (Chooses said withheld now.naming (get_or names i d) (Err refusal))
     → IsTransition old new (ChoosesEach said withheld old.naming names answers (Some refusal))
 choice_refused said withheld old now new names answers i d refusal small before made =
     let name : List ℕ = get_or names i d in

@@ -1,16 +1,18 @@
 -- Works that are withheld by the import by which their records came.
 use Rattle.std.proofs.Common.{◌≡◌, ◌∙◌, ℕ, List, [], ◌∷◌, ◌++◌, Option, Result, Ok, Err, refl, sym}
 use Rattle.std.proofs.Common.{ap, subst, append-nil, append_assoc, Bool, true, false}
-use Rattle.std.specs.Prelude.{◌==◌, if◌then◌else◌}
+use Rattle.std.specs.Prelude.{◌==◌, if◌then◌else◌, Vec}
+use Rattle.std.specs.Global.{Global}
 use Rattle.book_model.specs.declared.entry.Arrival.{Arrival}
 use Rattle.book_model.specs.declared.fault.LedgerFault.{LedgerFault}
-use Rattle.book_model.specs.Words.{Naming, Note}
+use Rattle.book_model.specs.declared.fault.LedgerFault.TheVariants.{Memory, Reopen, Store}
+use Rattle.book_model.specs.Words.{Book, Naming, Note, Outcome}
 use Rattle.book_core.specs.Calls.{Calls}
 use Rattle.book_core.specs.Follow.{MakesAnswered}
 use Rattle.book_core.specs.Ledgers.{Seen}
 use Rattle.book_core.specs.Transition.{IsTransition, Then}
 use Rattle.book_core.proofs.FollowLemmas.{calls_answered, then_answered}
-use Rattle.book_core.proofs.TransitionLemmas.{work_as, work_then}
+use Rattle.book_core.proofs.TransitionLemmas.{Implies, work_as, work_then}
 use Rattle.office.specs.ImportWorks.{WithholdsImport, name_if, names_by, names_outcome}
 use Rattle.office.specs.ImportWorks.{names_with}
 use Rattle.office.specs.Withholdings.{WithholdsSo}
@@ -35,6 +37,48 @@ pub with_more : (names : List (List ℕ)) (entry : ℕ) (arrival : Arrival)
     → names_with names entry arrival ≡ names ++ name_if entry arrival
 with_more names entry arrival = with_if (arrival.entry == entry) names arrival.name
 
+-- a call that answered by a view answered with what that shows
+abbrev seen_by : {V A : Type 0} → (V → A) → Result V LedgerFault → Result A LedgerFault
+seen_by view (Ok value) = Ok (view value)
+seen_by view (Err fault) = Err fault
+
+seen_calls : {V A : Type 0} (view : V → A) (outcome : Book → Outcome A)
+    (result : Result V LedgerFault)
+    → Implies (Calls view outcome result) (Calls (λ (seen : A). seen) outcome (seen_by view result))
+seen_calls view outcome (Ok value) was before events is called = record {
+  makes = called.makes;
+  reopens = record { reopen = called.reopens.reopen; store = called.reopens.store };
+}
+seen_calls view outcome (Err Memory) was before events is called = record {
+  makes = called.makes;
+  reopens = record { reopen = called.reopens.reopen; store = called.reopens.store };
+}
+seen_calls view outcome (Err Store) was before events is called = record {
+  makes = called.makes;
+  reopens = record { reopen = called.reopens.reopen; store = called.reopens.store };
+}
+seen_calls view outcome (Err Reopen) was before events is called = record {
+  makes = called.makes;
+  reopens = record { reopen = called.reopens.reopen; store = called.reopens.store };
+}
+seen_calls view outcome (Err fault) was before events is called = record {
+  makes = called.makes;
+  reopens = record { reopen = called.reopens.reopen; store = called.reopens.store };
+}
+
+pub found_names : {old new : Seen} (entry : ℕ) (result : Result (Vec (List ℕ) Global) LedgerFault)
+    → IsTransition old new
+    (Calls (λ (names : Vec (List ℕ) Global). names.items) (names_outcome entry old.naming) result)
+    → IsTransition old new
+    (Calls (λ (names : List (List ℕ)). names) (names_outcome entry old.naming)
+    (seen_by (λ (names : Vec (List ℕ) Global). names.items) result))
+found_names {old} {new} entry result work =
+    let view : Vec (List ℕ) Global → List (List ℕ) = λ names. names.items in
+    let outcome = names_outcome entry old.naming in
+    work_as old new (Calls view outcome result)
+    (Calls (λ (names : List (List ℕ)). names) outcome (seen_by view result))
+    (seen_calls view outcome result) work
+
 -- records were found, and their works withheld
 pub import_withheld : {old mid new : Seen} (said : Option Note) (entry : ℕ) (names : List (List ℕ))
     (told : WorksTold)
@@ -56,7 +100,7 @@ import_withheld {old} {mid} {new} said entry names told found made =
 pub import_answered : (said : Option Note) (naming : Naming) (entry : ℕ)
     (told : Result WorksTold LedgerFault)
     → MakesAnswered naming (WithholdsImport said naming entry told)
-import_answered said naming entry (Ok told) book was events is found =
+import_answered said naming entry (Ok told) = λ book was events is found.
     then_answered naming
     (Calls (λ (names : List (List ℕ)). names) (names_outcome entry naming) (Ok found.names))
     (WithholdsSo said naming found.names told.counts told.refusal)

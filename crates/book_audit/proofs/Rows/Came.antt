@@ -1,6 +1,6 @@
 -- By which entries records came, as a list: the numbers of the entries by the records' names.
 use Rattle.std.proofs.Common.{◌≡◌, ◌∙◌, ◌+◌, ◌==◌, ◌++◌, ◌∷◌, [], ℕ, List, Bool, true, false, Option}
-use Rattle.std.proofs.Common.{None, Some, ap, cond, filter, is_eq, length, map, refl, subst, sym}
+use Rattle.std.proofs.Common.{None, Some, ap, arith, cond, filter, is_eq, length, map, refl, subst, sym}
 use Rattle.std.proofs.Common.{Ordering, Less, Equal, Greater}
 use Rattle.std.specs.FinMap.{find}
 use Rattle.sqlite_trees.specs.Tree.{IsAscending}
@@ -142,13 +142,13 @@ is_of number one = one.1 == number
 one_counted : (number : ℕ) (name : List ℕ) (came : Option ℕ) (more : List (List ℕ × ℕ))
     → length (filter (is_of number) (came_pair name came ++ more))
     ≡ length (filter (is_of number) more) + came_one number came
-one_counted number name None more = refl
+one_counted number name None more = omega arith
 one_counted number name (Some own) more =
     let others : List (List ℕ × ℕ) = filter (is_of number) more in
     elim (own == number) as (λ b. length (cond b ((name, own) ∷ others) others)
     ≡ length others + cond b 1 0) [
-      | true ↦ refl
-      | false ↦ refl
+      | true ↦ omega arith
+      | false ↦ omega arith
     ]
 
 pub pairs_counted : (number : ℕ) (told : List Told)

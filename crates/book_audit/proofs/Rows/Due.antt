@@ -18,7 +18,7 @@ stays_due : (old : List ℕ) (at left n : ℕ) → (n ≡ at + 1 → ⊥)
     → due_by old n ≡ due_by (slice_set old at left) n
 stays_due old at left zero other = refl
 stays_due old at left (suc m) other =
-    sym (get_or-set_other old at m left 0 (λ same. other (ap suc same)))
+    sym (get_or-set_other old at m left 0 (λ same. other (omega (arith, same))))
 
 -- and one fewer by the entry that a record came by
 pub one_fewer : (old : List ℕ) (number at left : ℕ) → number ≡ at + 1 → at < length old
@@ -27,7 +27,8 @@ one_fewer old number at left is inside stood n =
     let new : List ℕ = slice_set old at left in
     elim (cases_Bool (number == n)) [
       | inl tied ↦
-          let same : n ≡ at + 1 = sym (eqb-true number n tied) ∙ is in
+          let equal : number ≡ n = eqb-true number n tied in
+          let same : n ≡ suc at = omega (arith, equal, is) in
           let here : due_by new n ≡ left =
           ap (due_by new) same ∙ get_or-set_same old at left 0 inside in
           ap (due_by old) same ∙ stood ∙ ap (λ m. m + 1) (sym here)
@@ -35,7 +36,9 @@ one_fewer old number at left is inside stood n =
       | inr apart ↦
           let other : n ≡ at + 1 → ⊥ =
           λ same. true≢false (sym (eq-eqb number n (is ∙ sym same)) ∙ apart) in
-          stays_due old at left n other ∙ ap (λ b. due_by new n + cond b 1 0) (sym apart)
+          let stays : due_by old n ≡ due_by new n = stays_due old at left n other in
+          let none : cond (number == n) 1 0 ≡ 0 = ap {B = ℕ} (λ b. cond b 1 0) apart in
+          omega (arith, stays, none)
     ]
 
 -- where none is due, none is by any number
@@ -75,7 +78,8 @@ each_due : (all front : List ℕ) (entries : List JournalRow) → all ≡ front 
 each_due all front [] is = tt
 each_due all front (entry ∷ entries) is =
     let kept : ℕ = kept_in entry.act in
-    let long : length (front ++ kept ∷ []) ≡ suc (length front) = length-append front (kept ∷ []) in (
+    let more = length-append front (kept ∷ []) in
+    let long : length (front ++ kept ∷ []) ≡ suc (length front) = omega (arith, more) in (
       ap (λ (numbers : List ℕ). slice_index_or numbers (length front) 0) is
           ∙ at_front front kept (kept_by_each entries),
       subst (λ n. AllByRecursion (λ (one : ℕ × JournalRow). due_by all one.0 ≡ kept_in one.1.act)

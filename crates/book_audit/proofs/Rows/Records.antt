@@ -62,7 +62,7 @@ came_pushed number (first ∷ entries) told =
 
 -- before any record all are due,
 pub takes_none : (due : List ℕ) → Takes due due []
-takes_none due number = refl
+takes_none due number = omega arith
 
 -- and with one more record those of that are due no more
 pub takes_on : (old mid new : List ℕ) (entries : List Told) (told : Told) → Takes old mid entries

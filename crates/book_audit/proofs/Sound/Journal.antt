@@ -2,7 +2,7 @@
 -- each.
 use Rattle.std.proofs.Common.{◌≡◌, ◌∙◌, ◌+◌, ◌≤◌, ◌∷◌, [], ℕ, List, Bool, true, false, Option, Some}
 use Rattle.std.proofs.Common.{ap, arith, cond, eq-eqb, filter, filter_map, length, option_map, refl}
-use Rattle.std.proofs.Common.{subst, sym, ◌||◌, Less}
+use Rattle.std.proofs.Common.{subst, suc, sym, ◌||◌, Less}
 use Rattle.std.specs.Cmp.{nat_cmp_total}
 use Rattle.std.specs.FinMap.{nat_cmp-IsAntisymmetric}
 use Rattle.std.specs.FinMap as fin
@@ -69,7 +69,7 @@ module _ (naming : Naming) (give : List ℕ × ℕ → Option (List ℕ)) where
   all_given [] each = refl
   all_given (one ∷ names) each =
       let rest = all_given names each.1 in
-      let first : length (filter_map give (one ∷ names)) ≡ length (filter_map give names) + 1 =
+      let first : length (filter_map give (one ∷ names)) ≡ suc (length (filter_map give names)) =
       ap (λ (found : Option (List ℕ)). length (cons_option found (filter_map give names))) each.0.1 in
       omega (arith, first, rest)
 

@@ -1,4 +1,4 @@
-use Rattle.std.proofs.Common.{Option, ℕ, refl, subst, sym}
+use Rattle.std.proofs.Common.{Option, ℕ, arith, subst, sym}
 use Rattle.book_audit.specs.Came.{TakesOne}
 use Rattle.book_audit.proofs.due.Due.take.Goals as goal
 
@@ -6,7 +6,8 @@ use Rattle.book_audit.proofs.due.Due.take.Goals as goal
 pub returns-in_default : goal.returns-in_default
 returns-in_default c so =
     let due = c.args.self.now.left.items in
-    subst (λ (came : Option ℕ). TakesOne due due came) (sym c.in_default.is) (λ number. refl)
+    subst (λ (came : Option ℕ). TakesOne due due came) (sym c.in_default.is)
+    (λ number. omega arith)
 
 pub returns : goal.returns
 returns c so =

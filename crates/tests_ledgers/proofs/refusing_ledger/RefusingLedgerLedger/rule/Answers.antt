@@ -3,7 +3,8 @@ use Rattle.smf_text.specs.Day.{IsDay}
 use Rattle.book_model.proofs.Std.{to_z-of_z}
 use Rattle.book_model.specs.declared.answer.Ruled.{Ruled}
 use Rattle.book_model.specs.declared.ruling.Ruling.{Ruling}
-use Rattle.book_model.specs.Words.{IsCreditOf, MayBeAsked, close_outcome, credit_outcome, ruling_asked}
+use Rattle.book_model.specs.Words.{IsCreditOf, MayBeAsked, close_outcome, credit_outcome, note_given}
+use Rattle.book_model.specs.Words.{ruling_asked}
 use Rattle.book_model.proofs.Lemmas.{day_kept}
 use Rattle.book_core.specs.Calls.{IsCall}
 use Rattle.tests_ledgers.proofs.RefusalLemmas.{refused_as}
@@ -38,7 +39,8 @@ returns-in-Close g c =
     in
     rw c.in-Close.is
     (subst (λ day. IsCall (λ (ruled : Ruled). ruled) (seen c.args.self.now.inner.now)
-    (seen c.close.new.self) c.close.result (close_outcome c.in-Close.period day))
+    (seen c.close.new.self) c.close.result
+    (close_outcome (note_given c.args.note.now) c.in-Close.period day))
     (day_kept c.in-Close.through is_day) c.close.ensures)
 
 pub returns-in-Choose : goal.returns-in-Choose
@@ -61,5 +63,5 @@ returns-in-Credit g c =
     rw credit.is
     (subst (λ (amount : ℤ). IsCall (λ (ruled : Ruled). ruled) (seen c.args.self.now.inner.now)
     (seen c.credit.new.self) c.credit.result
-    (credit_outcome credit.period credit.centre amount credit.reason.now))
+    (credit_outcome (note_given c.args.note.now) credit.period credit.centre amount credit.reason.now))
     (to_z-of_z w64 credit.amount fits) c.credit.ensures)
