@@ -1,4 +1,6 @@
-use Rattle.std.proofs.Common.{◌≡◌, ◌∙◌, ◌∷◌, [], ℤ, List, None, Some, sym, subst, true}
+use Rattle.std.proofs.Common.{◌≡◌, ◌∙◌, ◌∷◌, [], ℤ, List, None, Some, of_z, sym, subst, to_z, true}
+use Rattle.std.proofs.Common.{w64}
+use Rattle.std.proofs.lemmas.Int.{to_z-of_z}
 use Rattle.sqlite_trees.specs.Tree.{Trees}
 use Rattle.sqlite_value.specs.Order.{Row}
 use Rattle.sqlite_value.specs.declared.value.Value.TheVariants.{Int}
@@ -31,9 +33,11 @@ returns-clause-there g c clean so =
     let some : tree_of place ≡ Some tree = sym c.tree_of.ensures ∙ c.in-Some.is in
     let rows : List Row = trees (tree_number tree) in
     let number : ℤ = c.place_number.result in
+    let kept = to_z-of_z w64 number (record { sfits = c.place_number.type_inv }) in
     let finds : Finds (Int (place_number place) ∷ []) rows row true =
-    subst (λ (n : ℤ). Finds (Int n ∷ []) rows row true) c.place_number.ensures
-    (subst (Finds (Int number ∷ []) rows row) so (c.in_ok-has.ensures.found clean)) in
+    subst (λ (n : ℤ). Finds (Int n ∷ []) rows row true) (kept ∙ c.place_number.ensures)
+    (subst (Finds (Int (to_z w64 (of_z w64 number)) ∷ []) rows row) so
+    (c.in_ok-has.ensures.found clean)) in
     subst (IsIn trees c.args.rule place) (sym some) (record { row = row; finds = finds })
 
 pub returns-in_err-has-clause-looks : goal.returns-in_err-has-clause-looks
