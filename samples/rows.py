@@ -457,7 +457,9 @@ class Rows:
         books = self.books
         before = list(books.rulings()), set(books.held)
         lines = self.command(verb, words, body)
-        time = datetime.datetime.fromtimestamp(int(seconds), datetime.timezone.utc).strftime("%Y-%m-%d %H:%M:%SZ")
+        moment = datetime.datetime.fromtimestamp(int(seconds), datetime.timezone.utc)
+        # After 2099 no day is shown.
+        time = moment.strftime("%Y-%m-%d %H:%M:%SZ") if moment.year < 2100 else seconds
         note = [text if text != "-" else "" for text in (person, remark, file)]
         dump = dump_of(self.dumps, words) if verb == "import" else None
         books.journal.after(before, books, lines, (*note, time), dump)

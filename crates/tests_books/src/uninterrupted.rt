@@ -167,6 +167,9 @@ impl Uninterrupted {
         } else {
             ask.words.len().max(1)
         };
+        if ask.words.is_empty() {
+            trees = self.take(named, trees, Some(ask));
+        }
         for words in ask.words.chunks(size) {
             trees = self.take(named, trees, Some(Ask { words, ..ask }));
         }
