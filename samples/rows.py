@@ -283,7 +283,7 @@ class Rows:
         if kind not in (["new"], ["commands"]):
             raise NotKnown
         self.books, self.shown, self.files, self.input = office.Books(), {}, {}, b""
-        self.is_counted = False
+        self.is_counted, self.user = False, "player"
 
     def is_refused(self):
         """Counts a call of the books, and says whether it is the one that is refused."""
@@ -635,6 +635,10 @@ class Rows:
         if verb == "input":
             self.input = dump_of(self.dumps, words)
             return []
+        if verb == "user":
+            # What is no text is none.
+            self.user = next((word for word in words if word != "-" and "\\x" not in word), "")
+            return []
         if verb == "copy":
             self.files[words[1]] = self.file(words[0])
             return []
@@ -644,7 +648,9 @@ class Rows:
             raise NotKnown
         at = words.index("chargectl") if verb != "chargectl" else -1
         self.notices = []
-        output = self.noted(words[at + 1:])
+        # A word that is no text is refused before all else.
+        is_text = not any("\\x" in word for word in words)
+        output = self.noted(words[at + 1:]) if is_text else ["error: a word is not UTF-8"]
         errors = []
         if not isinstance(output, bytes):
             errors = [line for line in output if line.startswith(("chargectl", "error: "))]
@@ -660,7 +666,8 @@ class Rows:
         before = list(books.rulings()), set(books.held)
         output = self.output(words)
         of_file = words[2] if words[0] in ("tariff", "import") else given.get("--from") or given.get("--dump") or ""
-        note = given.get("--by", "player"), given.get("--note", ""), of_file, "NOW"
+        person, name = (re.sub(b"[^ -~]", b"?", text.encode()).decode() for text in (given.get("--by", self.user), of_file))
+        note = person[:40], given.get("--note", ""), name[-255:], "NOW"
         books.journal.after(before, books, output, note, self.file(of_file) if words[0] == "import" else None)
         return output
 

@@ -41,12 +41,13 @@ def limit_files():
 @dataclasses.dataclass
 class Streams:
     """What standard input gives: bytes, after which it fails or ends, or a file; how many bytes standard output takes, if not
-    all; and the folder of the files that stand for them."""
+    all; the folder of the files that stand for them; and who the environment says is there."""
     folder: pathlib.Path
     data: bytes = b""
     fails: bool = False
     file: str = None
     room: int = None
+    users: dict = dataclasses.field(default_factory=lambda: {"USER": USER})
 
     def scratch(self):
         """A file without a name."""
@@ -104,9 +105,10 @@ class Left:
     memory: int
 
 
-def begun(words, **streams):
-    """The program, with these words, run by a user of this name."""
-    return subprocess.Popen(["chargectl", *words], executable=PROGRAM, cwd=DATA, env=os.environ | {"USER": USER}, **streams)
+def begun(words, users={"USER": USER}, **streams):
+    """The program, with these words, where the environment says so of its user."""
+    others = {name: word for name, word in os.environ.items() if name not in ("USER", "LOGNAME")}
+    return subprocess.Popen(["chargectl", *words], executable=PROGRAM, cwd=DATA, env=others | users, **streams)
 
 
 def ended(process):
@@ -133,7 +135,7 @@ def ran(words, streams, most=None, is_measured=False):
     """Gives the program its words, and tells what it left; of its output no more than a number of bytes."""
     with streams.input() as given, streams.output() as taken:
         # A program is told that a file can't grow, and not ended, where the signal for that is ignored as it is here.
-        process = begun(words, stdin=given, stdout=taken, stderr=subprocess.PIPE, restore_signals=streams.room is None)
+        process = begun(words, streams.users, stdin=given, stdout=taken, stderr=subprocess.PIPE, restore_signals=streams.room is None)
         memory = watched(process) if is_measured else 0
         errors = ended(process)
         return Left(*read_back(taken, streams.begin(), most), errors, process.returncode, memory)

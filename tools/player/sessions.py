@@ -13,6 +13,7 @@ the answers NOW stands for the time of the clock, and @ for the folder of the ro
     taken FILE, free                      nothing: another program opens books, and closes them
     away FILE, back FILE                  nothing: a file is put elsewhere, and put back
     chargectl WORDS..                     the output of a command, `!` and each line on standard error, its status if not 0
+    user [NAME [NAME]]                    nothing: from here on USER, and LOGNAME behind it, are these; a dash is none of them
     first SIZE chargectl WORDS..          the same, but no more than a number of bytes of each
     count-lines chargectl WORDS..         the same, but how many its output has; or count-bytes
     within KIB LINE                       what such a line is answered, and whether the command had no more memory in use
@@ -21,6 +22,7 @@ the answers NOW stands for the time of the clock, and @ for the folder of the ro
     files                                 the names of the row's files, in order"""
 import fcntl
 import os
+import re
 import shutil
 
 import clients
@@ -29,6 +31,11 @@ from scripts import DATA, Unread, number_of
 
 # The lock of a file of SQLite's, without which nobody has it open: its bytes, and where they are.
 LOCK = 512, 1 << 30
+
+
+def bytes_in(word):
+    """A word with the bytes that it has as two digits behind a backslash and an x, as the system takes it."""
+    return os.fsdecode(re.sub(rb"\\x([0-9A-F]{2})", lambda found: bytes.fromhex(found[1].decode()), word.encode()))
 
 
 class Session:
@@ -44,6 +51,7 @@ class Session:
         self.put("free")
 
     def path(self, word):
+        word = bytes_in(word)
         return str(self.folder / word[1:]) if word.startswith("@") else word
 
     def file(self, word):
@@ -102,7 +110,10 @@ class Session:
     # ---- Streams and commands
 
     def set_streams(self, names, verb, words):
-        """Sets what standard input gives, or what standard output takes, from here on."""
+        """Sets what standard input gives, what standard output takes, or who is there, from here on."""
+        if verb == "user":
+            self.streams.users = {name: bytes_in(word) for name, word in zip(("USER", "LOGNAME"), words) if word != "-"}
+            return
         if verb == "room":
             self.streams.room = number_of(*words)
             return
@@ -154,7 +165,7 @@ class Session:
 
 
 FILES = frozenset("file text-file long-file copy same missing files".split())
-STREAMS = frozenset("input broken-input input-file room".split())
+STREAMS = frozenset("input broken-input input-file room user".split())
 SHOWN = frozenset("chargectl first count-lines count-bytes".split())
 
 # Lines of a session.
