@@ -263,16 +263,19 @@ class Tried(history.History):
         return [answer]
 
     def noted(self, turn, words):
-        """The answer to a call, and the call with its note, if it has one: the journal keeps it where something was done."""
+        """The answer to a call, and the call with its note, if it has one: the journal keeps it where something was done. The last
+        record of an import with a note is kept, or none is: books in memory take one at a time, and count no later one there."""
         books, numbers = self.books, self.numbers
-        if turn % 3 == 0:
-            return words, list(self.answer(words))
         seconds = 1706767200 + 60 * numbers.below(60 * turn + 1)
         note = [texts[numbers.below(len(texts))] for texts in (PERSONS, REMARKS, FILES)]
         before = list(books.rulings()), set(books.held)
         lines = list(self.answer(words))
         verb, *rest = words.split()
         dump = history.dump_of(self.dumps, rest) if verb == "import" else None
+        kept = books.held.keys() - before[1]
+        names = [hashlib.sha256(data).hexdigest() for data in office.joined(dump or b"")]
+        if turn % 3 == 0 or kept and (names[-1] not in kept or names[-1] in names[:-1]):
+            return words, lines
         time = datetime.datetime.fromtimestamp(seconds, datetime.timezone.utc).strftime("%Y-%m-%d %H:%M:%SZ")
         books.journal.after(before, books, lines, (*("" if text == "-" else text for text in note), time), dump)
         return " ".join(["noted", str(seconds), *note, words]), lines

@@ -446,7 +446,7 @@ class Journal:
     def after(self, before, books, lines, note, dump=None):
         """What a command did that found such rulings and records, with its note: a person, a remark, a file and a time."""
         rulings, held = before
-        new = [line for line in books.rulings() if line not in rulings]
+        new = list((collections.Counter(books.rulings()) - collections.Counter(rulings)).elements())
         replaced = [line for line in new if line.startswith("REPLACED")]
         for line in new:
             if line not in replaced:
